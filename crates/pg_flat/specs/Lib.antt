@@ -1,0 +1,5 @@
+pub mod Flat
+pub mod Break
+pub mod Totals
+pub mod Badness
+pub mod Whole

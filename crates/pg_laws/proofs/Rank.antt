@@ -1,0 +1,184 @@
+-- The rank rises with each column.
+use Rattle.std.proofs.Common.{◌≡◌, refl, sym, ap, subst, ◌∙◌, ℕ, suc, ◌+◌, ◌*◌, ◌≤◌, ◌<◌, ◌⊎◌, inl, inr, List, [], ◌∷◌, map, length, Bool, true, false, Option, None, arith}
+use Rattle.std.specs.Prelude.{ℤ, ◌&&◌, ◌||◌, ◌==◌, not, nat_lt, if◌then◌else◌, is_some}
+use Rattle.std.specs.List.{sum_by, AllByRecursion, range_with_len}
+use Rattle.std.proofs.lemmas.List.Sums.{sum_by-cons}
+use Rattle.std.proofs.lemmas.List.FromFn.{length-map-range_with_len}
+use Rattle.pg_list.specs.declared.galley.Place.{Place}
+use Rattle.pg_list.specs.Shapes.{IsBlock}
+use Rattle.pg_plan.specs.declared.pages.PageMove.{PageMove}
+use Rattle.pg_plan.specs.declared.states.State.{State}
+use Rattle.pg_style.specs.declared.style.Style.{Style}
+use Rattle.pg_rules.specs.ColumnRules.{is_idle}
+use Rattle.pg_flat.specs.Flat.{is_same_place}
+use Rattle.pg_rules.specs.Floats.{entry, total_count, float_count, plus_counts, float_numbers}
+use Rattle.pg_rules.specs.Follow.{Follow, context_in, wide_in, next_state}
+use Rattle.pg_rules.specs.History.{placed_after, with_wide, made_wide}
+use Rattle.pg_laws.specs.Past.{Past}
+use Rattle.pg_rules.specs.Room.{Document, is_text, is_top_allowed, is_bottom_allowed}
+use Rattle.pg_laws.proofs.Simulation.{place_refl}
+use Rattle.pg_laws.specs.PageSpace.{IsState, IsPlace, far, rank}
+use Rattle.pg_laws.proofs.Among.{both_of, by_bool}
+use Rattle.pg_laws.proofs.Ages.{eq_true, eq_refl, if_true, if_false, less_true}
+use Rattle.pg_laws.proofs.Beginnings.{same_place}
+use Rattle.pg_laws.proofs.GalleyFacts.{fit_ends}
+use Rattle.pg_laws.proofs.Measures.{far_rises, past_within}
+use Rattle.pg_laws.proofs.PagesLaws.{wide_long}
+
+total_cons : (x : ℕ) (xs : List ℕ) → total_count (x ∷ xs) ≡ x + total_count xs
+total_cons x xs = sum_by-cons (λ (n : ℕ). n) x xs
+
+zip_total : (F : ℕ → ℕ) (f : ℕ) (xs ys : List ℕ) → length xs ≡ length ys → ((i : ℕ) → F (f + i) ≡ entry xs i + entry ys i) → total_count (map F (range_with_len f (length xs))) ≡ total_count xs + total_count ys
+zip_total F f [] [] l h = refl
+zip_total F f [] (y ∷ ys) l h = absurd (omega arith)
+zip_total F f (x ∷ xs) [] l h = absurd (omega arith)
+zip_total F f (x ∷ xs) (y ∷ ys) l h =
+    let z : f + 0 ≡ f = omega arith in
+    let a : F f ≡ x + y = ap F (sym z) ∙ h 0 in
+    let r : total_count (map F (range_with_len (f + 1) (length xs))) ≡ total_count xs + total_count ys = zip_total F (f + 1) xs ys (omega arith) (λ i. (let e : f + 1 + i ≡ f + suc i = omega arith in ap F e ∙ h (suc i))) in
+    let s : total_count (F f ∷ map F (range_with_len (f + 1) (length xs))) ≡ F f + total_count (map F (range_with_len (f + 1) (length xs))) = total_cons (F f) (map F (range_with_len (f + 1) (length xs))) in
+    let t : total_count (x ∷ xs) ≡ x + total_count xs = total_cons x xs in
+    let u : total_count (y ∷ ys) ≡ y + total_count ys = total_cons y ys in
+    omega arith
+
+plus_total : (style : Style) (a b : List ℕ) → length a ≡ length (float_numbers style) → length b ≡ length (float_numbers style) → total_count (plus_counts style a b) ≡ total_count a + total_count b
+plus_total style a b l k = subst (λ (n : ℕ). total_count (map (λ (slot : ℕ). entry a slot + entry b slot) (range_with_len 0 n)) ≡ total_count a + total_count b) l
+    (zip_total (λ (slot : ℕ). entry a slot + entry b slot) 0 a b (l ∙ sym k) (λ i. (let e : 0 + i ≡ i = omega arith in ap (λ (n : ℕ). entry a n + entry b n) e)))
+
+count_total : (F : ℕ → ℕ) (f : ℕ) (xs : List ℕ) → ((i : ℕ) → F (f + i) ≡ entry xs i) → sum_by F (range_with_len f (length xs)) ≡ total_count xs
+count_total F f [] h = refl
+count_total F f (x ∷ xs) h =
+    let z : f + 0 ≡ f = omega arith in
+    let a : F f ≡ x = ap F (sym z) ∙ h 0 in
+    let r : sum_by F (range_with_len (f + 1) (length xs)) ≡ total_count xs = count_total F (f + 1) xs (λ i. (let e : f + 1 + i ≡ f + suc i = omega arith in ap F e ∙ h (suc i))) in
+    let s : sum_by F (f ∷ range_with_len (f + 1) (length xs)) ≡ F f + sum_by F (range_with_len (f + 1) (length xs)) = sum_by-cons F f (range_with_len (f + 1) (length xs)) in
+    let t : total_count (x ∷ xs) ≡ x + total_count xs = total_cons x xs in
+    omega arith
+
+-- a list with an entry for each class deals out all that it counts
+float_total : (style : Style) (counts : List ℕ) → length counts ≡ length (float_numbers style) → float_count style counts ≡ total_count counts
+float_total style counts l = subst (λ (n : ℕ). sum_by (λ (slot : ℕ). entry counts slot) (range_with_len 0 n) ≡ total_count counts) l (count_total (λ (slot : ℕ). entry counts slot) 0 counts (λ i. (let e : 0 + i ≡ i = omega arith in ap (entry counts) e)))
+
+plus_long : (style : Style) (a b : List ℕ) → length (plus_counts style a b) ≡ length (float_numbers style)
+plus_long style a b = length-map-range_with_len (λ (slot : ℕ). entry a slot + entry b slot) 0 (length (float_numbers style))
+
+pub after_total : (style : Style) (placed : List ℕ) (m : PageMove) → length placed ≡ length (float_numbers style) → length m.wide ≡ length (float_numbers style) → length m.column.top ≡ length (float_numbers style) → length m.column.bottom ≡ length (float_numbers style) →
+    total_count (placed_after style placed m) ≡ ((total_count placed + total_count m.wide) + total_count m.column.top) + total_count m.column.bottom
+after_total style placed m p doc t b =
+    let x : total_count (with_wide style placed m) ≡ total_count placed + total_count m.wide = plus_total style placed m.wide p doc in
+    let y : total_count (plus_counts style (with_wide style placed m) m.column.top) ≡ total_count (with_wide style placed m) + total_count m.column.top = plus_total style (with_wide style placed m) m.column.top (plus_long style placed m.wide) t in
+    let z : total_count (placed_after style placed m) ≡ total_count (plus_counts style (with_wide style placed m) m.column.top) + total_count m.column.bottom = plus_total style (plus_counts style (with_wide style placed m) m.column.top) m.column.bottom (plus_long style (with_wide style placed m) m.column.top) b in
+    omega arith
+
+or_cases : (a b : Bool) → (a || b) ≡ true → (a ≡ true) ⊎ (b ≡ true)
+or_cases true b e = inl refl
+or_cases false b e = inr e
+
+rank_step : (b b' : Bool) (x y : ℕ) → x < y → 2 * x + (if b then 1 else 0) < 2 * y + (if b' then 1 else 0)
+rank_step true true x y h = omega arith
+rank_step true false x y h = omega arith
+rank_step false true x y h = omega arith
+rank_step false false x y h = omega arith
+
+full_page : (a b : ℕ) → 1 ≤ a → a ≤ b → b ≤ 2 → (a ≡ 1 → ⊥) → a ≡ b
+full_page a b h k l n = omega arith
+
+last_step : (b b' : Bool) (x y : ℕ) → b ≡ false → b' ≡ true → x ≤ y → 2 * x + (if b then 1 else 0) < 2 * y + (if b' then 1 else 0)
+last_step false true x y p q h = omega arith
+last_step true b' x y p q h = absurd cc
+last_step false false x y p q h = absurd cc
+
+module _ (doc : Document) (blocks : AllByRecursion IsBlock doc.blocks) (few : doc.style.columns ≤ 2) where
+  far_after : (u : State) (m : PageMove) (v : State) (c : ℤ) → IsState doc u → Follow doc u m v c → (far doc.blocks u.place ≤ far doc.blocks m.column.to) × ((is_text (context_in doc u m) ≡ true) → far doc.blocks u.place < far doc.blocks m.column.to)
+  far_after u m v c own f =
+      let from : m.column.from ≡ u.place = same_place m.column.from u.place f.starts in
+      let here : IsPlace doc.blocks m.column.from = subst (IsPlace doc.blocks) (sym from) own.place in
+      let start : far doc.blocks m.column.from ≡ far doc.blocks u.place = ap (far doc.blocks) from in
+      elim (fit_ends doc (context_in doc u m) refl blocks here f.stands.rules.fits) [
+        | inl e ↦ (let s : far doc.blocks m.column.to ≡ far doc.blocks m.column.from = ap (far doc.blocks) e in (omega arith, λ t. absurd (not_text (is_same_place m.column.from m.column.to) t (subst (λ (at : Place). is_same_place m.column.from at ≡ true) (sym e) (place_refl m.column.from)))))
+        | inr q ↦ (let r : far doc.blocks m.column.from < far doc.blocks m.column.to = far_rises doc.blocks m.column.from m.column.to here q (past_within doc.blocks m.column.from m.column.to q) in (omega arith, λ t. omega arith))
+      ]
+    where
+      not_text : (b : Bool) → not b ≡ true → b ≡ true → ⊥
+      not_text true t s = absurd cc
+      not_text false t s = absurd cc
+
+  pub rises : (u : State) (m : PageMove) (v : State) (c : ℤ) → IsState doc u → Follow doc u m v c → rank doc u < rank doc v
+  rises u m v c own f = subst (λ (x : State). rank doc u < rank doc x) (sym f.leads) (by_bool (is_text (context_in doc u m)) with_text without)
+    where
+      counts : (length m.column.top ≡ length (float_numbers doc.style)) × (length m.column.bottom ≡ length (float_numbers doc.style))
+      counts =
+          (let a = both_of ((length m.column.top == length (float_numbers doc.style)) && (length m.column.bottom == length (float_numbers doc.style)) && is_top_allowed (context_in doc u m)) (is_bottom_allowed (context_in doc u m)) f.stands.rules.counts in
+          let b = both_of ((length m.column.top == length (float_numbers doc.style)) && (length m.column.bottom == length (float_numbers doc.style))) (is_top_allowed (context_in doc u m)) a.0 in
+          let c = both_of (length m.column.top == length (float_numbers doc.style)) (length m.column.bottom == length (float_numbers doc.style)) b.0 in
+          (eq_true _ _ c.0, eq_true _ _ c.1))
+
+      sum : total_count (placed_after doc.style u.placed m) ≡ ((total_count u.placed + total_count m.wide) + total_count m.column.top) + total_count m.column.bottom
+      sum = after_total doc.style u.placed m own.placed (wide_long doc u.column m f.stands.wide) counts.0 counts.1
+
+      moved : (far doc.blocks u.place ≤ far doc.blocks m.column.to) × ((is_text (context_in doc u m) ≡ true) → far doc.blocks u.place < far doc.blocks m.column.to)
+      moved = far_after u m v c own f
+
+      le : far doc.blocks u.place ≤ far doc.blocks m.column.to
+      le = moved.0
+
+      up : far doc.blocks u.place + total_count u.placed < far doc.blocks m.column.to + total_count (placed_after doc.style u.placed m) → rank doc u < rank doc (next_state doc u m)
+      up h = rank_step (u.column == 1) ((next_state doc u m).column == 1) (far doc.blocks u.place + total_count u.placed) (far doc.blocks m.column.to + total_count (placed_after doc.style u.placed m)) h
+
+      with_text : is_text (context_in doc u m) ≡ true → rank doc u < rank doc (next_state doc u m)
+      with_text t = let h : far doc.blocks u.place < far doc.blocks m.column.to = moved.1 t in up (omega (arith, sum))
+
+      idle : is_some (wide_in doc u m) ≡ true → rank doc u < rank doc (next_state doc u m)
+      idle i = by_bool (u.column == 1)
+          (λ t. (let made : is_some (made_wide doc u.placed m.wide) ≡ true = subst (λ (o : Option ℤ). is_some o ≡ true) (if_true (u.column == 1) (made_wide doc u.placed m.wide) u.wide t) i in let some : 0 < total_count m.wide = some_wide (nat_lt 0 (float_count doc.style m.wide)) refl made in up (omega (arith, sum, le))))
+          (λ n. second n)
+        where
+          some_wide : (b : Bool) → b ≡ nat_lt 0 (float_count doc.style m.wide) → is_some (made_wide doc u.placed m.wide) ≡ true → 0 < total_count m.wide
+          some_wide true e h = let l : 0 < float_count doc.style m.wide = less_true 0 (float_count doc.style m.wide) (sym e) in let t : float_count doc.style m.wide ≡ total_count m.wide = float_total doc.style m.wide (wide_long doc u.column m f.stands.wide) in omega arith
+          some_wide false e h = let z : made_wide doc u.placed m.wide ≡ None = if_false (nat_lt 0 (float_count doc.style m.wide)) _ None (sym e) in let y : is_some (made_wide doc u.placed m.wide) ≡ false = ap is_some z in absurd cc
+
+          second : (u.column == 1) ≡ false → rank doc u < rank doc (next_state doc u m)
+          second n =
+              let not_one : u.column ≡ 1 → ⊥ = λ e. (let t : (u.column == 1) ≡ true = subst (λ (z : ℕ). (z == 1) ≡ true) (sym e) refl in absurd cc) in
+              let low : 1 ≤ u.column = own.column.0 in
+              let high : u.column ≤ doc.style.columns = own.column.1.0 in
+              let full : u.column ≡ doc.style.columns = full_page u.column doc.style.columns low high few not_one in
+              let t : (u.column == doc.style.columns) ≡ true = subst (λ (z : ℕ). (u.column == z) ≡ true) full (eq_refl u.column) in
+              let first : (next_state doc u m).column ≡ 1 = if_true (u.column == doc.style.columns) 1 (u.column + 1) t in
+              let one : ((next_state doc u m).column == 1) ≡ true = subst (λ (z : ℕ). (z == 1) ≡ true) (sym first) refl in
+              last_step (u.column == 1) ((next_state doc u m).column == 1) (far doc.blocks u.place + total_count u.placed) (far doc.blocks m.column.to + total_count (placed_after doc.style u.placed m)) n one (omega (arith, sum, le))
+
+      without : is_text (context_in doc u m) ≡ false → rank doc u < rank doc (next_state doc u m)
+      without n =
+          let form = both_of (length m.column.picks == 0) _ (sym (if_false (is_text (context_in doc u m)) _ _ n) ∙ f.stands.rules.well_formed) in
+          elim (or_cases (nat_lt 0 (float_count doc.style m.column.top) && (float_count doc.style m.column.bottom == 0)) (is_idle (context_in doc u m)) form.1) [
+            | inl t ↦ (let l : 0 < float_count doc.style m.column.top = less_true 0 (float_count doc.style m.column.top) (both_of (nat_lt 0 (float_count doc.style m.column.top)) _ t).0 in let e : float_count doc.style m.column.top ≡ total_count m.column.top = float_total doc.style m.column.top counts.0 in up (omega (arith, sum, le)))
+            | inr t ↦ idle (both_of ((float_count doc.style m.column.top == 0) && (float_count doc.style m.column.bottom == 0)) (is_some (wide_in doc u m)) t).1
+          ]
+
+  -- a column never leads to a smaller block
+  pub onward : (u : State) (m : PageMove) (v : State) (c : ℤ) → IsState doc u → Follow doc u m v c → u.place.block ≤ v.place.block
+  onward u m v c own f =
+      let from : m.column.from ≡ u.place = same_place m.column.from u.place f.starts in
+      let here : IsPlace doc.blocks m.column.from = subst (IsPlace doc.blocks) (sym from) own.place in
+      let start : m.column.from.block ≡ u.place.block = ap (λ (at : Place). at.block) from in
+      let end : v.place.block ≡ m.column.to.block = ap (λ (x : State). x.place.block) f.leads in
+      elim (fit_ends doc (context_in doc u m) refl blocks here f.stands.rules.fits) [
+        | inl e ↦ (let s : m.column.to.block ≡ m.column.from.block = ap (λ (at : Place). at.block) e in omega arith)
+        | inr q ↦ later u m v start end q.past
+      ]
+    where
+      later : (u : State) (m : PageMove) (v : State) → m.column.from.block ≡ u.place.block → v.place.block ≡ m.column.to.block → Past m.column.from m.column.to → u.place.block ≤ v.place.block
+      later u m v start end (inl l) = omega arith
+      later u m v start end (inr l) = let s : m.column.from.block ≡ m.column.to.block = l.block in omega arith
+
+  -- the place of what follows is one of the galley
+  pub next_place : (u : State) (m : PageMove) (v : State) (c : ℤ) → IsState doc u → Follow doc u m v c → IsPlace doc.blocks v.place
+  next_place u m v c own f =
+      let from : m.column.from ≡ u.place = same_place m.column.from u.place f.starts in
+      let here : IsPlace doc.blocks m.column.from = subst (IsPlace doc.blocks) (sym from) own.place in
+      let end : m.column.to ≡ v.place = ap (λ (x : State). x.place) (sym f.leads) in
+      elim (fit_ends doc (context_in doc u m) refl blocks here f.stands.rules.fits) [
+        | inl e ↦ subst (IsPlace doc.blocks) (sym e ∙ end) here
+        | inr q ↦ subst (IsPlace doc.blocks) end q.place
+      ]

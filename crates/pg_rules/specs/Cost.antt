@@ -1,0 +1,55 @@
+-- The cost of a pagination.
+use Rattle.std.specs.Prelude.{ℕ, ◌+◌, ◌==◌, ◌&&◌, not, Bool, nat_le, if◌then◌else◌, List, [], ◌∷◌, Option, slice_get, slice_index, ℤ, pos, negsuc, ◌+ℤ◌, ◌-ℤ◌, int_lt}
+use Rattle.std.specs.Option.{option_map_or}
+use Rattle.pg_list.specs.declared.variants.Variant.{Variant}
+use Rattle.pg_list.specs.GalleyValue.{GalleyValue}
+use Rattle.pg_plan.specs.declared.pages.PageMove.{PageMove}
+use Rattle.pg_plan.specs.Order.{columns}
+use Rattle.pg_plan.specs.declared.pages.Pagination.{Pagination}
+use Rattle.pg_style.specs.declared.style.Style.{Style}
+use Rattle.pg_style.specs.declared.style.Run.{Run}
+use Rattle.pg_flat.specs.Break.{break_penalty}
+use Rattle.pg_rules.specs.ColumnRules.{text_badness, column_variants}
+use Rattle.pg_rules.specs.History.{next_column, fit_of, column_fitness, placed_of, context}
+use Rattle.pg_rules.specs.Legal.{added, distance, distance_table, document}
+use Rattle.pg_rules.specs.Room.{Document, ColumnContext, is_text, items_of, size_of}
+use Rattle.pg_flat.specs.Whole.{whole_sum_by, square}
+
+-- what a penalty adds: its square, with its sign; nothing where it forces
+abbrev pub penalty_demerits : ℤ → ℤ
+penalty_demerits (pos p) = square (pos p)
+penalty_demerits (negsuc p) = if int_lt (negsuc 9999) (negsuc p) then pos 0 -ℤ square (negsuc p) else pos 0
+
+abbrev pub text_demerits : ColumnContext → ℕ → ℤ
+text_demerits it n = square (pos (it.document.style.line + text_badness it n)) +ℤ option_map_or penalty_demerits (break_penalty (items_of it) n) (pos 0)
+
+abbrev pub column_demerits : ColumnContext → ℤ
+column_demerits it = if is_text it then option_map_or (text_demerits it) (size_of it) (pos 0) else pos it.document.style.float_column.demerits
+
+abbrev pub pick_demerits : ColumnContext → ℤ
+pick_demerits it = whole_sum_by (λ (variant : Variant). pos variant.demerits) (column_variants it)
+
+abbrev pub run_demerits : Style → ℕ → ℤ
+run_demerits style run = option_map_or (λ (it : Run). pos it.demerits) (slice_get style.runs run) (pos 0)
+
+-- each float pays by how long it waited
+abbrev pub float_demerits : Style → (ℕ × ℕ → ℕ) → List (ℕ × ℕ) → ℤ
+float_demerits style wait floats = whole_sum_by (λ (float : ℕ × ℕ). pos (slice_index (distance_table style float.0) (wait float))) floats
+
+abbrev pub differs : ℕ → ℕ → Bool
+differs a b = not (nat_le a (b + 1) && nat_le b (a + 1))
+
+abbrev pub fit_demerits : Option ℕ → ColumnContext → ℤ
+fit_demerits fit it = option_map_or (λ (last : ℕ). if is_text it && differs last (column_fitness it) then pos it.document.style.fitness else pos 0) fit (pos 0)
+
+-- what a column adds, after a column with this fitness, where each float that it adds waited so long
+abbrev pub column_cost : ColumnContext → ℕ → Option ℕ → (ℕ × ℕ → ℕ) → List (ℕ × ℕ) → ℤ
+column_cost it column fit wait floats =
+    (column_demerits it +ℤ pick_demerits it) +ℤ (((if column == 1 then run_demerits it.document.style it.run else pos 0) +ℤ float_demerits it.document.style wait floats) +ℤ fit_demerits fit it)
+
+abbrev pub cost_of : Document → List PageMove → ℤ
+cost_of doc [] = pos 0
+cost_of doc (m ∷ ms) = cost_of doc ms +ℤ column_cost (context doc m ms) (next_column doc.style ms) (fit_of doc ms) (distance doc m ms) (added doc (placed_of doc.style ms) m)
+
+unfoldable pub cost : GalleyValue → Style → Pagination → ℤ
+cost galley style plan = cost_of (document galley style) (columns plan)

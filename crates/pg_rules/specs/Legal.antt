@@ -1,0 +1,128 @@
+-- The rules that a pagination keeps, and the column at which each is broken first.
+use Rattle.std.specs.Prelude.{◌≡◌, ℕ, ◌+◌, ◌-◌, Bool, true, false, ◌==◌, ◌&&◌, nat_lt, nat_le, if◌then◌else◌, List, [], ◌∷◌, length, reverse, Option, Some, None, slice_get, ℤ, is_some}
+use Rattle.std.specs.List.{list_all, enumerate_from}
+use Rattle.std.specs.Option.{option_map_or}
+use Rattle.pg_list.specs.GalleyValue.{GalleyValue}
+use Rattle.pg_plan.specs.declared.pages.PageMove.{PageMove}
+use Rattle.pg_plan.specs.Order.{columns_of, columns}
+use Rattle.pg_plan.specs.declared.pages.Page.{Page}
+use Rattle.pg_plan.specs.declared.pages.Pagination.{Pagination}
+use Rattle.pg_style.specs.declared.style.Style.{Style}
+use Rattle.pg_style.specs.declared.style.Area.{Area}
+use Rattle.pg_flat.specs.Break.{is_spent}
+use Rattle.pg_rules.specs.ColumnRules.{does_fit, is_well_formed, is_tolerable, passes_breaks, has_room, has_counts, has_dealable, keeps_note_limits, keeps_looseness}
+use Rattle.pg_flat.specs.Flat.{FlatItem, is_same_place, flat_items_at}
+use Rattle.pg_rules.specs.Floats.{total_count, float_numbers, floats, has_all, entry, float_class, is_area_allowed, takes_wide, floats_between}
+use Rattle.pg_rules.specs.History.{next_column, next_page, next_run, place_of, placed_of, placed_after, is_called, calling_page, context}
+use Rattle.pg_rules.specs.Room.{Document, ColumnContext}
+use Rattle.pg_list.specs.declared.galley.Place.{Place}
+use Rattle.std.specs.Prelude.{map}
+
+-- ---- rules on a column, after what is placed before it
+
+-- the counts of wide floats are those that a page's column of this number may have
+abbrev pub has_wide_counts : Document → ℕ → PageMove → Bool
+has_wide_counts doc column m =
+    (length m.wide == length (float_numbers doc.style)) && (if column == 1 then is_area_allowed doc.style takes_wide doc.style.wide.count m.wide else total_count m.wide == 0)
+
+-- no class deals out a float that it has not
+abbrev pub deals_floats : Document → List ℕ → PageMove → ColumnContext → Bool
+deals_floats doc placed m it = has_all (floats doc.blocks doc.style) placed m.wide && has_dealable it
+
+-- the floats that a column adds
+abbrev pub added : Document → List ℕ → PageMove → List (ℕ × ℕ)
+added doc placed m = floats_between doc.style placed (placed_after doc.style placed m)
+
+abbrev pub has_callouts : Document → List ℕ → PageMove → Bool
+has_callouts doc placed m = list_all (is_called doc m.column.to) (added doc placed m)
+
+-- the run exists, and is the one that must be
+abbrev pub has_run : Style → Option ℕ → PageMove → Bool
+has_run style must m = is_some (slice_get style.runs m.run) && option_map_or (λ (run : ℕ). m.run == run) must true
+
+-- the demerits of a float by its distance
+abbrev pub distance_table : Style → ℕ → List ℕ
+distance_table style slot = option_map_or (λ (number : ℕ). option_map_or (λ (kind : Area × List ℕ). kind.1) (float_class style number) []) (slice_get (float_numbers style) slot) []
+
+-- how many pages a float that the column adds stands behind its callout
+abbrev pub distance : Document → PageMove → List PageMove → ℕ × ℕ → ℕ
+distance doc m ms float = next_page doc.style ms - calling_page doc (m ∷ ms) float
+
+abbrev pub is_near : Document → PageMove → List PageMove → Bool
+is_near doc m ms = list_all (λ (float : ℕ × ℕ). nat_lt (distance doc m ms float) (length (distance_table doc.style float.0))) (added doc (placed_of doc.style ms) m)
+
+-- ---- rules on the whole
+
+-- a column starts where the one before ends
+abbrev pub is_chained : Document → PageMove → List PageMove → Bool
+is_chained doc m ms = is_same_place m.column.from (place_of ms) && does_fit (context doc m ms)
+
+-- only discardable items stand from a place on
+abbrev pub is_spent_at : Document → Place → Bool
+is_spent_at doc at = is_spent (map (λ (flat_item : FlatItem). flat_item.item) (flat_items_at doc.blocks at [])) 0
+
+abbrev pub ends_spent : Document → List PageMove → Bool
+ends_spent doc ms = is_spent_at doc (place_of ms)
+
+abbrev pub has_dealt_all : Document → List ℕ → Bool
+has_dealt_all doc placed = list_all (λ (it : ℕ × List ℤ). entry placed it.0 == length it.1) (enumerate_from 0 (floats doc.blocks doc.style))
+
+-- ---- the least column at fault
+
+abbrev pub or_else : Option ℕ → Option ℕ → Option ℕ
+or_else (Some n) other = Some n
+or_else None other = other
+
+abbrev pub unless : Bool → ℕ → Option ℕ
+unless true n = None
+unless false n = Some n
+
+-- of the pages from the last to the first: each but the last has all columns, and none has none
+abbrev pub underfilled : ℕ → List Page → Option ℕ
+underfilled full [] = None
+underfilled full (page ∷ pages) = or_else (underfilled full pages) (unless (nat_le 1 (length page.columns) && (length page.columns == full)) (length (columns_of pages) + 1))
+
+abbrev pub misfilled : ℕ → List Page → Option ℕ
+misfilled full [] = None
+misfilled full (page ∷ pages) = or_else (underfilled full pages) (unless (nat_le 1 (length page.columns) && nat_le (length page.columns) full) (length (columns_of pages) + 1))
+
+abbrev pub first_at_fault : (PageMove → List PageMove → Bool) → List PageMove → Option ℕ
+first_at_fault keeps [] = None
+first_at_fault keeps (m ∷ ms) = or_else (first_at_fault keeps ms) (unless (keeps m ms) (length ms + 1))
+
+-- the column at which each rule is broken first, rule by rule; two are wider for a whole pagination than for its beginning
+abbrev pub faults_with : Document → List Page → List PageMove → Option ℕ → Option ℕ → List (Option ℕ)
+faults_with doc pages ms at_end left =
+    misfilled doc.style.columns pages
+    ∷ or_else (first_at_fault (is_chained doc) ms) at_end
+    ∷ first_at_fault (λ m ms. is_well_formed (context doc m ms)) ms
+    ∷ first_at_fault (λ m ms. is_tolerable (context doc m ms)) ms
+    ∷ first_at_fault (λ m ms. passes_breaks (context doc m ms)) ms
+    ∷ first_at_fault (λ m ms. has_room (context doc m ms)) ms
+    ∷ first_at_fault (λ m ms. has_counts (context doc m ms) && has_wide_counts doc (next_column doc.style ms) m) ms
+    ∷ or_else (first_at_fault (λ m ms. deals_floats doc (placed_of doc.style ms) m (context doc m ms)) ms) left
+    ∷ first_at_fault (λ m ms. has_callouts doc (placed_of doc.style ms) m) ms
+    ∷ first_at_fault (is_near doc) ms
+    ∷ first_at_fault (λ m ms. keeps_note_limits (context doc m ms)) ms
+    ∷ first_at_fault (λ m ms. has_run doc.style (next_run doc.style ms) m) ms
+    ∷ first_at_fault (λ m ms. keeps_looseness (context doc m ms)) ms
+    ∷ []
+
+abbrev pub document : GalleyValue → Style → Document
+document galley style = record { blocks = galley.blocks; style = style }
+
+abbrev pub faults : Document → Pagination → List (Option ℕ)
+faults doc plan = faults_with doc (reverse plan.pages) (columns plan) (unless (ends_spent doc (columns plan)) (length (columns plan))) (unless (has_dealt_all doc (placed_of doc.style (columns plan))) (length (columns plan)))
+
+abbrev pub first_breach : ℕ → List (Option ℕ) → Option (ℕ × ℕ)
+first_breach rule [] = None
+first_breach rule (None ∷ rest) = first_breach (rule + 1) rest
+first_breach rule (Some column ∷ rest) = Some (rule, column)
+
+-- the least rule that is broken, and the least column at which it is
+unfoldable pub breach : GalleyValue → Style → Pagination → Option (ℕ × ℕ)
+breach galley style plan = first_breach 1 (faults (document galley style) plan)
+
+-- no rule is broken
+pub record Legal (galley : GalleyValue) (style : Style) (plan : Pagination) : Type 0 where
+  pub unbroken : breach galley style plan ≡ None

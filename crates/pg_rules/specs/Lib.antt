@@ -1,0 +1,11 @@
+pub mod Best
+pub mod ColumnRules
+pub mod Cost
+pub mod Floats
+pub mod Follow
+pub mod Frontier
+pub mod History
+pub mod Legal
+pub mod NoWorse
+pub mod Room
+pub mod States
