@@ -14,8 +14,8 @@ use Rattle.pg_plan.specs.declared.pages.Page.{Page}
 use Rattle.pg_plan.specs.declared.pages.Pagination.{Pagination}
 use Rattle.pg_plan.specs.declared.states.State.{State}
 use Rattle.pg_plan.specs.declared.states.Side.TheVariants.{S}
-use Rattle.pg_style.specs.declared.style.Style.{Style}
-use Rattle.pg_style.specs.declared.style.AreaRule.{AreaRule}
+use Rattle.pg_style.specs.Values.{StyleValue}
+use Rattle.pg_style.specs.Values.{AreaRuleValue}
 use Rattle.pg_style.specs.declared.style.First.{First}
 use Rattle.pg_style.specs.declared.style.First.TheVariants.{Single}
 use Rattle.pg_style.specs.declared.style.Kind.TheVariants.{Note, Float}
@@ -54,11 +54,11 @@ insert class size = Insert class (points size) []
 
 -- ---- styles
 
-abbrev pub area : ℕ → ℕ → ℕ → AreaRule
+abbrev pub area : ℕ → ℕ → ℕ → AreaRuleValue
 area count sep gap = record { count = count; sep = points sep; gap = points gap }
 
 -- one column of so many points, no runs, no classes, any badness
-abbrev pub plain : ℕ → Style
+abbrev pub plain : ℕ → StyleValue
 plain height = record {
   version = 1;
   columns = 1;
@@ -124,14 +124,14 @@ forced = galley (line ∷ eject ∷ line ∷ [])
 abbrev pub one_note : GalleyValue
 one_note = galley (line ∷ soft_gap 1 ∷ line ∷ soft_gap 1 ∷ line ∷ soft_gap 1 ∷ line ∷ soft_gap 1 ∷ line ∷ insert 200 9 ∷ [])
 
-abbrev pub note_style : ℕ → Style
+abbrev pub note_style : ℕ → StyleValue
 note_style limit = record (plain 58) { classes = record { number = 200; kind = Note (points 4) (points limit) } ∷ [] }
 
 -- two lines and two floats, which do not fit beside the text
 abbrev pub two_floats : GalleyValue
 two_floats = galley (line ∷ insert 100 50 ∷ gap ∷ line ∷ insert 100 10 ∷ [])
 
-abbrev pub floats_style : List ℕ → Style
+abbrev pub floats_style : List ℕ → StyleValue
 floats_style distance = record (plain 58) {
   tolerance = 200;
   top = area 1 2 4;
@@ -149,7 +149,7 @@ floats_plan = pages (page (0 ∷ []) (text_column (at 0) (at 5) (0 ∷ []) ∷ [
 abbrev pub top_or_bottom : GalleyValue
 top_or_bottom = galley (line ∷ insert 100 20 ∷ [])
 
-abbrev pub both_style : Style
+abbrev pub both_style : StyleValue
 both_style = record (plain 58) { top = area 1 0 4; bottom = area 1 0 4; classes = record { number = 100; kind = Float Both (0 ∷ []) } ∷ [] }
 
 abbrev pub with_float : ℕ → ℕ → Pagination
@@ -159,7 +159,7 @@ with_float top bottom = pages (page (0 ∷ []) (record { from = at 0; to = at 2;
 abbrev pub four_ways : GalleyValue
 four_ways = galley (line ∷ endless_gap ∷ line ∷ endless_gap ∷ line ∷ insert 100 30 ∷ endless_gap ∷ line ∷ endless_gap ∷ line ∷ eject ∷ line ∷ [])
 
-abbrev pub four_ways_style : Style
+abbrev pub four_ways_style : StyleValue
 four_ways_style = record (plain 34) {
   top = area 1 0 4;
   float_column = record { count = 1; demerits = 1000 };
@@ -181,7 +181,7 @@ four_ways_late = pages (
 abbrev pub wide_float : GalleyValue
 wide_float = galley (line ∷ gap ∷ line ∷ gap ∷ line ∷ insert 101 10 ∷ gap ∷ line ∷ [])
 
-abbrev pub wide_style : Style
+abbrev pub wide_style : StyleValue
 wide_style = record (plain 22) { columns = 2; wide = area 1 0 4; classes = record { number = 101; kind = Float Wide (0 ∷ 50 ∷ []) } ∷ [] }
 
 abbrev pub wide_begun : Pagination
@@ -200,7 +200,7 @@ tie = penalty 10000
 abbrev pub tied_lines : GalleyValue
 tied_lines = galley (line ∷ tie ∷ gap ∷ line ∷ tie ∷ gap ∷ line ∷ gap ∷ line ∷ tie ∷ gap ∷ line ∷ [])
 
-abbrev pub runs_style : First → Style
+abbrev pub runs_style : First → StyleValue
 runs_style first = record (plain 22) { first = first; runs = record { extra = pos 0; demerits = 0 } ∷ record { extra = points 12; demerits = 300 } ∷ [] }
 
 -- the first page long, the second of this run
@@ -216,7 +216,7 @@ paragraph = Choice (
 abbrev pub one_choice : GalleyValue
 one_choice = record { width = points 345; blocks = paragraph ∷ [] }
 
-abbrev pub choice_style : ℕ → Style
+abbrev pub choice_style : ℕ → StyleValue
 choice_style looseness = record (plain 34) { max_looseness = looseness }
 
 abbrev pub choice_plan : Pagination
@@ -226,5 +226,5 @@ choice_plan = pages (page [] (record { from = at 0; to = place 0 1 6; top = []; 
 abbrev pub loose_and_decent : GalleyValue
 loose_and_decent = galley (line ∷ soft_gap 12 ∷ line ∷ gap ∷ line ∷ penalty 150 ∷ gap ∷ line ∷ [])
 
-abbrev pub fitness_style : ℕ → ℕ → Style
+abbrev pub fitness_style : ℕ → ℕ → StyleValue
 fitness_style version fitness = record (plain 34) { version = version; fitness = fitness }

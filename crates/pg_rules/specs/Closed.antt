@@ -4,7 +4,7 @@ use Rattle.pg_list.specs.GalleyValue.{GalleyValue}
 use Rattle.pg_plan.specs.declared.pages.PageMove.{PageMove}
 use Rattle.pg_plan.specs.declared.states.Label.{Label}
 use Rattle.pg_plan.specs.declared.states.State.{State}
-use Rattle.pg_style.specs.declared.style.Style.{Style}
+use Rattle.pg_style.specs.Values.{StyleValue}
 use Rattle.pg_rules.specs.Follow.{Follow}
 use Rattle.pg_rules.specs.IsState.{IsState}
 use Rattle.pg_rules.specs.Legal.{document}
@@ -19,7 +19,7 @@ pub record Covers (labels : List Label) (state : State) (cost : ℤ) : Type 0 wh
   pub no_dearer : label.cost ≤ℤ cost
 
 -- each label is a state; the start is covered, and whatever follows a label
-pub record Closed (galley : GalleyValue) (style : Style) (labels : List Label) : Type 0 where
+pub record Closed (galley : GalleyValue) (style : StyleValue) (labels : List Label) : Type 0 where
   pub states : (label : Label) → Contains labels label → IsState (document galley style) label.state
   pub start : Covers labels (state_at (document galley style) []) (pos 0)
   pub steps : (label : Label) (move : PageMove) (next : State) (cost : ℤ) → Contains labels label

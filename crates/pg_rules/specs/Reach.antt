@@ -6,7 +6,7 @@ use Rattle.pg_list.specs.declared.blocks.Block.{Block}
 use Rattle.pg_list.specs.declared.galley.Place.{Place}
 use Rattle.pg_list.specs.declared.galley.Edit.{Edit}
 use Rattle.pg_list.specs.Places.{tail, spliced}
-use Rattle.pg_style.specs.declared.style.Style.{Style}
+use Rattle.pg_style.specs.Values.{StyleValue}
 use Rattle.pg_style.specs.declared.style.Run.{Run}
 use Rattle.pg_flat.specs.Badness.{is_over}
 use Rattle.pg_flat.specs.Break.{passes_between}
@@ -20,7 +20,7 @@ greatest_extra (run ∷ []) = run.extra
 greatest_extra (run ∷ next ∷ runs) = int_max run.extra (greatest_extra (next ∷ runs))
 
 -- over in the tallest room, without notes
-abbrev pub is_over_at_most : Style → List Item → ℕ → Bool
+abbrev pub is_over_at_most : StyleValue → List Item → ℕ → Bool
 is_over_at_most style items k =
     is_over (total style.topskip style.maxdepth (trimmed (take k items))) (shrink (trimmed (take k items))) (style.height +ℤ greatest_extra style.runs)
 
