@@ -25,7 +25,7 @@ use Rattle.pg_rules.specs.History.{next_column, next_page, next_side, placed_of,
 use Rattle.pg_rules.specs.Legal.{document}
 use Rattle.pg_scaled.specs.Scaled.{scaled_text}
 use Rattle.pg_pages.specs.Words.{line, whole_text, counts_text, place_text, side_text}
-use Rattle.pg_pages.specs.Bodies.{body_text, with_width, plain_text}
+use Rattle.pg_pages.specs.Bodies.{body_text, set_text, plain_text}
 use Rattle.pg_pages.specs.SetGlue.{glue_widths}
 
 -- ---- areas
@@ -69,7 +69,7 @@ notes_text style items =
 abbrev pub set_items : List Item → List ℤ → List ℕ
 set_items [] widths = []
 set_items (Glue width stretch order shrink body ∷ items) [] = body_text body ++ set_items items []
-set_items (Glue width stretch order shrink body ∷ items) (set ∷ widths) = body_text (with_width body set) ++ set_items items widths
+set_items (Glue width stretch order shrink body ∷ items) (set ∷ widths) = set_text body set ++ set_items items widths
 set_items (item ∷ items) widths = plain_text item ++ set_items items widths
 
 abbrev pub top_line : ℤ → List Item → List ℕ
