@@ -2,3 +2,4 @@ pub mod Words
 pub mod Bodies
 pub mod SetGlue
 pub mod PageText
+pub mod PlainText

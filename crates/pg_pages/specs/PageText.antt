@@ -10,6 +10,7 @@ use Rattle.pg_flat.specs.Break.{break_penalty}
 use Rattle.pg_flat.specs.Flat.{flat}
 use Rattle.pg_flat.specs.Totals.{top_glue}
 use Rattle.pg_plan.specs.Order.{columns}
+use Rattle.pg_plan.specs.declared.states.Side.{Side}
 use Rattle.pg_plan.specs.declared.pages.Column.{Column}
 use Rattle.pg_plan.specs.declared.pages.PageMove.{PageMove}
 use Rattle.pg_plan.specs.declared.pages.Pagination.{Pagination}
@@ -48,7 +49,7 @@ abbrev pub float_bodies : Document → List (List (List ℕ))
 float_bodies doc = map (λ (number : ℕ). inserted number (flat doc.blocks [])) (float_numbers doc.style)
 
 -- the floats that counts deal out after others, by class and then by number
-abbrev pub floats_text : Document → List ℕ → List ℕ → List ℕ
+unfoldable pub floats_text : Document → List ℕ → List ℕ → List ℕ
 floats_text doc before counts = flat_map body_text (dealt (float_bodies doc) before counts)
 
 abbrev pub is_note_kind : Kind → Bool
@@ -59,7 +60,7 @@ abbrev pub is_note : StyleValue → ℕ → Bool
 is_note style number = option_map_or (λ (class : Class). is_note_kind class.kind) (class_of style number) false
 
 -- the notes of a segment, by class in increasing number and then in order
-abbrev pub notes_text : StyleValue → List Item → List ℕ
+unfoldable pub notes_text : StyleValue → List Item → List ℕ
 notes_text style items =
     flat_map (λ (number : ℕ). if is_note style number then flat_map body_text (inserted number items) else []) (range_with_len 0 255)
 
@@ -85,12 +86,14 @@ items_text topskip items widths =
 abbrev pub end_penalty : ColumnContext → ℕ → ℤ
 end_penalty it n = option_map_or (λ (penalty : ℤ). penalty) (break_penalty (items_of it) n) (pos 0)
 
-abbrev pub set_line : ColumnContext → ℕ → List ℕ
+-- the line of a text column's numbers
+unfoldable pub set_line : ColumnContext → ℕ → List ℕ
 set_line it n =
-    line (codes "set goal " ++ scaled_text (text_goal it n) ++ codes " total " ++ scaled_text (text_total it n) ++ codes " badness " ++ decimal (text_badness it n)
-    ++ codes " penalty " ++ whole_text (end_penalty it n) ++ codes " demerits " ++ whole_text (text_demerits it n))
+    (codes "set goal " ++ scaled_text (text_goal it n) ++ codes " total " ++ scaled_text (text_total it n))
+    ++ (codes " badness " ++ decimal (text_badness it n) ++ codes " penalty " ++ whole_text (end_penalty it n))
+    ++ line (codes " demerits " ++ whole_text (text_demerits it n))
 
-abbrev pub text_area : ColumnContext → ℕ → List ℕ
+unfoldable pub text_area : ColumnContext → ℕ → List ℕ
 text_area it n = line (codes "area text") ++ items_text it.document.style.topskip (segment it n) (glue_widths it n)
 
 abbrev pub top_area : ColumnContext → List ℕ
@@ -106,21 +109,26 @@ text_column it n = set_line it n ++ top_area it ++ text_area it n ++ bottom_area
 abbrev pub float_column : ColumnContext → List ℕ
 float_column it = line (codes "without text demerits " ++ decimal it.document.style.float_column.demerits) ++ top_area it ++ bottom_area it
 
+unfoldable pub column_ends : ℕ → Column → List ℕ
+column_ends number column = codes "column " ++ decimal number ++ codes " from " ++ place_text column.from ++ codes " to " ++ place_text column.to
+
+unfoldable pub column_counts : Column → List ℕ
+column_counts column = codes " top " ++ counts_text column.top ++ codes " bottom " ++ counts_text column.bottom ++ codes " picks " ++ counts_text column.picks
+
 abbrev pub column_line : ℕ → Column → List ℕ
-column_line number column =
-    line (codes "column " ++ decimal number ++ codes " from " ++ place_text column.from ++ codes " to " ++ place_text column.to
-    ++ codes " top " ++ counts_text column.top ++ codes " bottom " ++ counts_text column.bottom ++ codes " picks " ++ counts_text column.picks)
+column_line number column = column_ends number column ++ line (column_counts column)
 
 abbrev pub column_body : ColumnContext → List ℕ
 column_body it = if is_text it then option_map_or (text_column it) (size_of it) [] else float_column it
 
 -- ---- pages
 
+unfoldable pub page_line : ℕ → Side → ℕ → List ℕ → List ℕ
+page_line number side run wide = line (codes "page " ++ decimal number ++ codes " side " ++ side_text side ++ codes " run " ++ decimal run ++ codes " wide " ++ counts_text wide)
+
 -- the first line of the page that a column begins, and its wide area
 abbrev pub page_head : Document → PageMove → List PageMove → List ℕ
-page_head doc m ms =
-    line (codes "page " ++ decimal (next_page doc.style ms) ++ codes " side " ++ side_text (next_side doc.style ms) ++ codes " run " ++ decimal m.run
-    ++ codes " wide " ++ counts_text m.wide) ++ area (codes "wide") (floats_text doc (placed_of doc.style ms) m.wide)
+page_head doc m ms = page_line (next_page doc.style ms) (next_side doc.style ms) m.run m.wide ++ area (codes "wide") (floats_text doc (placed_of doc.style ms) m.wide)
 
 abbrev pub column_text : Document → PageMove → List PageMove → List ℕ
 column_text doc m ms =
@@ -131,11 +139,13 @@ abbrev pub columns_text : Document → List PageMove → List ℕ
 columns_text doc [] = []
 columns_text doc (m ∷ ms) = columns_text doc ms ++ column_text doc m ms
 
+unfoldable pub head_line : ℕ → ℤ → ℤ → List ℕ
+head_line pages cost width = line (codes "pages " ++ decimal pages ++ codes " cost " ++ whole_text cost ++ codes " width " ++ scaled_text width)
+
 -- the text of a legal pagination with its cost
 unfoldable pub page_text : GalleyValue → StyleValue → Pagination → ℤ → List ℕ
 page_text galley style plan cost =
-    line (codes "pages " ++ decimal (length plan.pages) ++ codes " cost " ++ whole_text cost ++ codes " width " ++ scaled_text galley.width)
-    ++ columns_text (document galley style) (columns plan)
+    head_line (length plan.pages) cost galley.width ++ columns_text (document galley style) (columns plan)
 
 -- the text where no pagination is legal
 abbrev pub none_text : List ℕ

@@ -6,6 +6,7 @@
 #![tactic(auto)]
 
 mod bodies;
+mod columns;
 
 
 mod words;
