@@ -1,5 +1,7 @@
 -- The items of blocks, one block more, and texts that grow.
 use Rattle.std.proofs.Common.{◌≡◌, ◌∙◌, sym, refl, ap, ◌+◌, ◌<◌, ◌≤◌, ℕ, zero, suc, arith, subst, List, [], ◌∷◌, ◌++◌, take, length}
+use Rattle.std.proofs.Common.{append_assoc}
+use Rattle.std.specs.Prelude.{OnOk, Result, Ok, Err}
 use Rattle.std.proofs.Math.Seq.{take-suc}
 use Rattle.std.proofs.Math.ListN.{get_or}
 use Rattle.std.proofs.lemmas.List.{take-take}
@@ -28,3 +30,10 @@ one_more xs i x less is =
 pub grows_on : (a b c : List ℕ) → Grows a b → Grows b c → Grows a c
 grows_on a b c one two =
     (omega (arith, one.0, two.0), sym (take-take (length a) (length b) c one.0) ∙ ap (λ (xs : List ℕ). take (length a) xs) two.1 ∙ one.1)
+
+pub on_ok : {T E : Type 0} (r : Result T E) (P Q : Type 0) → (P → Q) → OnOk r P → OnOk r Q
+on_ok (Ok x) P Q f p = f p
+on_ok (Err e) P Q f p = tt
+
+pub two_parts : (old mid new front end : List ℕ) → mid ≡ old ++ front → new ≡ mid ++ end → new ≡ old ++ (front ++ end)
+two_parts old mid new front end e f = f ∙ ap (λ (text : List ℕ). text ++ end) e ∙ append_assoc old front end

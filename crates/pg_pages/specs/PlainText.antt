@@ -54,10 +54,15 @@ numbers_between doc from to =
     let badness = page_badness (is_spent (single_items doc.blocks) to) (plain_room doc.style) size items in
     record { goal = plain_room doc.style; total = size; badness = badness; penalty = pos 0; demerits = square (pos (doc.style.line + badness)) }
 
-unfoldable pub text_between : Document → ℕ → ℕ → List ℕ
-text_between doc from to =
-    let items = trimmed (items_between doc.blocks from to) in
-    line (codes "area text") ++ top_line doc.style.topskip items ++ own_items items
+unfoldable pub text_head : ℤ → List Item → List ℕ
+text_head topskip items = line (codes "area text") ++ top_line topskip items
+
+-- the text area of a column of these items
+unfoldable pub text_of_items : ℤ → List Item → List ℕ
+text_of_items topskip items = text_head topskip items ++ own_items items
+
+abbrev pub text_between : Document → ℕ → ℕ → List ℕ
+text_between doc from to = text_of_items doc.style.topskip (trimmed (items_between doc.blocks from to))
 
 -- a page of one column
 abbrev pub plain_page_text : Document → ℕ → ℕ → ℕ → List ℕ

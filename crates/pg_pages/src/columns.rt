@@ -1,5 +1,5 @@
 //! A column of text: its numbers and its items.
-ghost use Rattle.std.specs.Prelude.{◌≡◌, ◌≤◌, ◌^◌, ◌<◌, ◌++◌, ◌∷◌, [], OnOk, length, List, ℤ, pos, ◌≤ℤ◌, ◌-ℤ◌};
+ghost use Rattle.std.specs.Prelude.{◌≡◌, ◌≤◌, ◌^◌, ◌<◌, ◌+◌, ◌++◌, ◌∷◌, [], OnOk, length, List, ℤ, pos, ◌≤ℤ◌, ◌-ℤ◌};
 ghost use Rattle.std.specs.Int.{int_max};
 ghost use Rattle.std.specs.List.{AllByRecursion};
 ghost use Rattle.pg_list.specs.Shapes.{IsBlock};
@@ -7,6 +7,7 @@ ghost use Rattle.pg_list.specs.Ranges.{IsScaled};
 ghost use Rattle.pg_list.specs.declared.item.Item.{Item as AnItem};
 ghost use Rattle.pg_flat.specs.Rigid.{AreRigid};
 ghost use Rattle.pg_flat.specs.Totals.{top_glue, trimmed};
+ghost use Rattle.pg_flat.specs.Whole.{square};
 ghost use Rattle.pg_scaled.specs.Scaled.{Grows, scaled_text};
 ghost use Rattle.pg_sums.specs.AreSums.{AreSums};
 ghost use Rattle.pg_plain.specs.Plain.{single_items};
@@ -33,7 +34,7 @@ pub struct TextNumbers {
 }
 
 // A name, and a scaled number behind it.
-fn print_length(name: &[u8], length: i64, out: &mut Vec<u8>) -> Result<(), AllocError>
+pub fn print_length(name: &[u8], length: i64, out: &mut Vec<u8>) -> Result<(), AllocError>
     ensures ok { OnOk result (out.new.items ≡ out.old.items ++ name.now ++ scaled_text length) }
     ensures grows { Grows out.old.items out.new.items }
 {
@@ -132,6 +133,7 @@ fn begins_with_box(blocks: &[Block]) -> bool
 pub fn without_front(blocks: &[Block]) -> &[Block]
     requires { AreRigid blocks.now }
     ensures items { single_items result.now ≡ trimmed (single_items blocks.now) }
+    ensures rigid { AreRigid result.now }
 {
     let mut rest = blocks;
     'rest: while !begins_with_box(rest) {
@@ -190,4 +192,14 @@ pub fn sums_of(topskip: i32, maxdepth: i32, blocks: &[Block]) -> Sums
         add_block(&mut sums, block);
     }
     sums
+}
+
+// The demerits of a text column without a penalty at its end.
+fn demerits(line: u16, badness: u16) -> i64
+    requires line { line ≤ 10000 }
+    requires badness { badness ≤ 10000 }
+    ensures { result ≡ square (pos (line + badness)) }
+{
+    let sum = i64::from(line) + i64::from(badness);
+    sum * sum
 }
