@@ -2,3 +2,4 @@ pub mod WorkedTexts
 pub mod Singles
 pub mod Plain
 pub mod PlainColumn
+pub mod Numbers

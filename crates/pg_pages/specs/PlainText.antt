@@ -1,21 +1,21 @@
 -- The page text of columns of text alone, in galleys of boxes and rigid glue.
-use Rattle.std.specs.Prelude.{◌≡◌, ℕ, ◌+◌, ◌<◌, ◌≤◌, Bool, false, List, [], ◌∷◌, ◌++◌, drop, length, codes, decimal, ℤ, pos, ◌+ℤ◌}
+use Rattle.std.specs.Prelude.{◌≡◌, ℕ, ◌+◌, ◌<◌, ◌≤◌, Bool, true, false, not, List, [], ◌∷◌, ◌++◌, drop, length, codes, decimal, ℤ, pos, ◌+ℤ◌}
 use Rattle.std.specs.List.{flat_map, AllByRecursion}
 use Rattle.pg_list.specs.declared.item.Item.{Item}
 use Rattle.pg_list.specs.declared.item.Item.TheVariants.{Glue}
 use Rattle.pg_list.specs.declared.blocks.Block.{Block}
 use Rattle.pg_list.specs.Shapes.{is_box}
-use Rattle.pg_flat.specs.Badness.{page_badness}
+use Rattle.pg_flat.specs.Badness.{page_badness, is_over}
 use Rattle.pg_flat.specs.Break.{is_spent}
-use Rattle.pg_flat.specs.Totals.{total, trimmed}
+use Rattle.pg_flat.specs.Totals.{total, trimmed, shrink}
 use Rattle.pg_flat.specs.Whole.{square}
 use Rattle.pg_plan.specs.declared.pages.Column.{Column}
 use Rattle.pg_plan.specs.declared.pages.Page.{Page}
 use Rattle.pg_plan.specs.declared.states.Side.TheVariants.{S}
+use Rattle.pg_style.specs.Values.{StyleValue}
 use Rattle.pg_rules.specs.Room.{Document}
-use Rattle.pg_rules.specs.ColumnRules.{text_is_over}
 use Rattle.pg_scaled.specs.Scaled.{scaled_text}
-use Rattle.pg_plain.specs.Plain.{single_items, items_between, plain_move, plain_context, plain_room}
+use Rattle.pg_plain.specs.Plain.{single_items, items_between, plain_move, plain_room}
 use Rattle.pg_pages.specs.declared.columns.TextNumbers.{TextNumbers}
 use Rattle.pg_pages.specs.Words.{line, whole_text, counts_text}
 use Rattle.pg_pages.specs.Bodies.{plain_text, set_text}
@@ -46,13 +46,15 @@ abbrev pub front_is_box : List Item → Bool
 front_is_box [] = false
 front_is_box (item ∷ items) = is_box item
 
--- the numbers of a column
+-- the numbers of a column of these items
+abbrev pub numbers_from : StyleValue → Bool → List Item → TextNumbers
+numbers_from style is_last items =
+    let size = total style.topskip style.maxdepth (trimmed items) in
+    let badness = page_badness is_last (plain_room style) size (trimmed items) in
+    record { goal = plain_room style; total = size; badness = badness; penalty = pos 0; demerits = square (pos (style.line + badness)) }
+
 abbrev pub numbers_between : Document → ℕ → ℕ → TextNumbers
-numbers_between doc from to =
-    let items = trimmed (items_between doc.blocks from to) in
-    let size = total doc.style.topskip doc.style.maxdepth items in
-    let badness = page_badness (is_spent (single_items doc.blocks) to) (plain_room doc.style) size items in
-    record { goal = plain_room doc.style; total = size; badness = badness; penalty = pos 0; demerits = square (pos (doc.style.line + badness)) }
+numbers_between doc from to = numbers_from doc.style (is_spent (single_items doc.blocks) to) (items_between doc.blocks from to)
 
 unfoldable pub text_head : ℤ → List Item → List ℕ
 text_head topskip items = line (codes "area text") ++ top_line topskip items
@@ -69,6 +71,13 @@ abbrev pub plain_page_text : Document → ℕ → ℕ → ℕ → List ℕ
 plain_page_text doc number from to =
     page_line number S 0 [] ++ (column_line 1 (plain_move from to).column ++ (numbers_text (numbers_between doc from to) ++ text_between doc from to))
 
+-- a column of these items is not over
+abbrev pub not_over : StyleValue → List Item → Bool
+not_over style items = not (is_over (total style.topskip style.maxdepth (trimmed items)) (shrink (trimmed items)) (plain_room style))
+
+abbrev pub fits_between : Document → ℕ → ℕ → Bool
+fits_between doc from to = not_over doc.style (items_between doc.blocks from to)
+
 -- the page is one column of text from one block to a later one, and is not over
 pub record IsPlainPage (doc : Document) (page : Page) : Type 0 where
   pub from : ℕ
@@ -76,7 +85,7 @@ pub record IsPlainPage (doc : Document) (page : Page) : Type 0 where
   pub onward : from < to
   pub within : to ≤ length doc.blocks
   pub is : page ≡ record { run = 0; wide = []; columns = (plain_move from to).column ∷ [] }
-  pub fits : text_is_over (plain_context doc from to) (length (items_between doc.blocks from to)) ≡ false
+  pub fits : fits_between doc from to ≡ true
 
 abbrev pub ArePlainPages : Document → List Page → Type 0
 ArePlainPages doc pages = AllByRecursion (IsPlainPage doc) pages

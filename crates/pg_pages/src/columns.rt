@@ -1,6 +1,7 @@
 //! A column of text: its numbers and its items.
-ghost use Rattle.std.specs.Prelude.{◌≡◌, ◌≤◌, ◌^◌, ◌<◌, ◌+◌, ◌++◌, ◌∷◌, [], OnOk, length, List, ℤ, pos, ◌≤ℤ◌, ◌-ℤ◌};
+ghost use Rattle.std.specs.Prelude.{◌≡◌, ◌≤◌, ◌^◌, ◌<◌, ◌+◌, ◌++◌, ◌∷◌, [], OnOk, length, slice_get, List, ℤ, true, nat_abs, pos, ◌≤ℤ◌, ◌-ℤ◌};
 ghost use Rattle.std.specs.Int.{int_max};
+ghost use Rattle.std.specs.Option.{option_map_or};
 ghost use Rattle.std.specs.List.{AllByRecursion};
 ghost use Rattle.pg_list.specs.Shapes.{IsBlock};
 ghost use Rattle.pg_list.specs.Ranges.{IsScaled};
@@ -10,16 +11,18 @@ ghost use Rattle.pg_flat.specs.Totals.{top_glue, trimmed};
 ghost use Rattle.pg_flat.specs.Whole.{square};
 ghost use Rattle.pg_scaled.specs.Scaled.{Grows, scaled_text};
 ghost use Rattle.pg_sums.specs.AreSums.{AreSums};
-ghost use Rattle.pg_plain.specs.Plain.{single_items};
+ghost use Rattle.pg_rules.specs.Legal.{document};
+ghost use Rattle.pg_plain.specs.Plain.{IsPlainStyle, plain_room, single_items};
 ghost use Rattle.pg_pages.specs.Words.{whole_text};
-ghost use Rattle.pg_pages.specs.PlainText.{numbers_text, sizes_text, costs_text, demerits_line, own_items, own_text, front_is_box};
+ghost use Rattle.pg_pages.specs.PlainText.{numbers_text, sizes_text, costs_text, demerits_line, own_items, own_text, front_is_box, not_over, numbers_from, fits_between, numbers_between as numbers_of_column};
 
 use crate::bodies::{print_body, print_set};
 use crate::words::print_whole;
-use pg_list::{Block, Item, item_is_box};
+use pg_list::{Block, Galley, Item, item_is_box};
 use pg_scaled::print_scaled;
+use pg_style::{Run, Style};
 use pg_sums::Sums;
-use pg_whole::{minus, wide};
+use pg_whole::{minus, plus, wide};
 use std::alloc::AllocError;
 
 /// The numbers of a text column, lengths in scaled points: what its text is set to, its natural size, TeX's badness of the
@@ -196,10 +199,60 @@ pub fn sums_of(topskip: i32, maxdepth: i32, blocks: &[Block]) -> Sums
 
 // The demerits of a text column without a penalty at its end.
 fn demerits(line: u16, badness: u16) -> i64
-    requires line { line ≤ 10000 }
-    requires badness { badness ≤ 10000 }
     ensures { result ≡ square (pos (line + badness)) }
 {
     let sum = i64::from(line) + i64::from(badness);
     sum * sum
+}
+
+// What a run adds to the height; a run that is not there adds nothing.
+fn extra(runs: &[Run], run: usize) -> i64
+    ensures value { result ≡ option_map_or (λ it. it.extra) (slice_get runs.now run) (pos 0) }
+    ensures size { nat_abs result ≤ 2 ^ 31 }
+{
+    match runs.get(run) {
+        Some(run) => wide(run.extra),
+        None => 0,
+    }
+}
+
+// The room of each column.
+pub fn room(style: &Style) -> i64
+    ensures value { result ≡ plain_room style.now }
+    ensures size { nat_abs result < 2 ^ 52 }
+{
+    plus(wide(style.height), extra(style.runs.as_slice(), 0))
+}
+
+// The numbers of a column of these blocks that is not over.
+fn numbers_of(style: &Style, blocks: &[Block], is_last: bool) -> TextNumbers
+    requires plain { IsPlainStyle style.now }
+    requires few { length blocks.now ≤ 2 ^ 20 }
+    requires ranges { AllByRecursion IsBlock blocks.now }
+    requires fits { not_over style.now (single_items blocks.now) ≡ true }
+    ensures { result ≡ numbers_from style.now is_last (single_items blocks.now) }
+{
+    let sums = sums_of(style.topskip, style.maxdepth, blocks);
+    let goal = room(style);
+    let badness = sums.page_badness(goal, is_last);
+    TextNumbers {
+        goal,
+        total: sums.total(),
+        badness,
+        penalty: 0,
+        demerits: demerits(style.line, badness),
+    }
+}
+
+/// The numbers of the column from one block to another, which is not over.
+pub fn numbers_between(galley: &Galley, style: &Style, from: usize, to: usize) -> TextNumbers
+    requires plain { IsPlainStyle style.now }
+    requires rigid { AreRigid galley.now.blocks }
+    requires onward { from ≤ to }
+    requires within { to ≤ length galley.now.blocks }
+    requires fits { fits_between (document galley.now style.now) from to ≡ true }
+    ensures { result ≡ numbers_of_column (document galley.now style.now) from to }
+{
+    let blocks = &galley.blocks().as_slice()[from..to];
+    numbers_of(style, blocks, to >= galley.solid() as usize)
 }
