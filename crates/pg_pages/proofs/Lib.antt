@@ -3,3 +3,4 @@ pub mod Singles
 pub mod Plain
 pub mod PlainColumn
 pub mod Numbers
+pub mod PlainPages

@@ -1,6 +1,7 @@
 -- The page text of columns of text alone, in galleys of boxes and rigid glue.
-use Rattle.std.specs.Prelude.{◌≡◌, ℕ, ◌+◌, ◌<◌, ◌≤◌, Bool, true, false, not, List, [], ◌∷◌, ◌++◌, drop, length, codes, decimal, ℤ, pos, ◌+ℤ◌}
+use Rattle.std.specs.Prelude.{◌≡◌, ℕ, ◌+◌, ◌<◌, ◌≤◌, Bool, true, false, not, List, [], ◌∷◌, ◌++◌, drop, length, slice_get, codes, decimal, ℤ, pos, ◌+ℤ◌}
 use Rattle.std.specs.List.{flat_map, AllByRecursion}
+use Rattle.std.specs.Option.{option_map_or}
 use Rattle.pg_list.specs.declared.item.Item.{Item}
 use Rattle.pg_list.specs.declared.item.Item.TheVariants.{Glue}
 use Rattle.pg_list.specs.declared.blocks.Block.{Block}
@@ -66,10 +67,20 @@ text_of_items topskip items = text_head topskip items ++ own_items items
 abbrev pub text_between : Document → ℕ → ℕ → List ℕ
 text_between doc from to = text_of_items doc.style.topskip (trimmed (items_between doc.blocks from to))
 
--- a page of one column
+abbrev pub plain_page : ℕ → ℕ → Page
+plain_page from to = record { run = 0; wide = []; columns = (plain_move from to).column ∷ [] }
+
+-- a page with its one column of text
+abbrev pub text_with : Document → ℕ → Page → Column → List ℕ
+text_with doc number page column =
+    page_line number S page.run page.wide
+    ++ (column_line 1 column ++ (numbers_text (numbers_between doc column.from.block column.to.block) ++ text_between doc column.from.block column.to.block))
+
 abbrev pub plain_page_text : Document → ℕ → ℕ → ℕ → List ℕ
-plain_page_text doc number from to =
-    page_line number S 0 [] ++ (column_line 1 (plain_move from to).column ++ (numbers_text (numbers_between doc from to) ++ text_between doc from to))
+plain_page_text doc number from to = text_with doc number (plain_page from to) (plain_move from to).column
+
+abbrev pub text_of_page : Document → ℕ → Page → List ℕ
+text_of_page doc number page = option_map_or (text_with doc number page) (slice_get page.columns 0) []
 
 -- a column of these items is not over
 abbrev pub not_over : StyleValue → List Item → Bool
@@ -84,7 +95,7 @@ pub record IsPlainPage (doc : Document) (page : Page) : Type 0 where
   pub to : ℕ
   pub onward : from < to
   pub within : to ≤ length doc.blocks
-  pub is : page ≡ record { run = 0; wide = []; columns = (plain_move from to).column ∷ [] }
+  pub is : page ≡ plain_page from to
   pub fits : fits_between doc from to ≡ true
 
 abbrev pub ArePlainPages : Document → List Page → Type 0

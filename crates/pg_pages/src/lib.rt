@@ -12,6 +12,6 @@ mod pages;
 
 mod words;
 
-pub use pages::print_none;
+pub use pages::{print_none, print_pages};
 
 

@@ -1,5 +1,5 @@
 //! The pages of a pagination.
-ghost use Rattle.std.specs.Prelude.{◌≡◌, ◌≤◌, ◌^◌, ◌++◌, ◌∷◌, [], OnOk, OnErr, length, decimal, codes, pos, nat_abs, ◌<◌};
+ghost use Rattle.std.specs.Prelude.{◌≡◌, ◌≤◌, ◌^◌, ◌++◌, ◌∷◌, [], OnOk, OnErr, length, decimal, codes, true};
 ghost use Rattle.std.specs.List.{AllByRecursion};
 ghost use Rattle.pg_list.specs.Ranges.{IsScaled};
 ghost use Rattle.pg_list.specs.Shapes.{IsBlock};
@@ -12,12 +12,13 @@ ghost use Rattle.pg_pages.specs.Words.{line, counts_text, place_text};
 ghost use Rattle.pg_pages.specs.PageText.{page_text, none_text, head_counts, head_line, page_side, page_run, page_line, column_line, column_ends as ends_of, column_counts as counts_of};
 ghost use Rattle.pg_flat.specs.Totals.{trimmed};
 ghost use Rattle.pg_plain.specs.Plain.{single_items};
-ghost use Rattle.pg_pages.specs.PlainText.{ArePlainPages, IsPlainPage, text_head, text_of_items};
+ghost use Rattle.pg_pages.specs.PlainText.{ArePlainPages, IsPlainPage, fits_between, numbers_between as numbers_of, numbers_text, text_between, text_of_page, text_head, text_of_items};
 
-use crate::columns::{print_items, print_length, space_above, without_front};
+use crate::columns::{numbers_between, print_items, print_length, print_numbers, space_above, without_front};
 use crate::words::{print_counts, print_decimal, print_place, print_whole};
-use pg_list::{Block, Place};
-use pg_plan::{Column, Page};
+use pg_list::{Block, Galley, Place};
+use pg_plan::{Column, Page, Pagination};
+use pg_style::Style;
 use std::alloc::AllocError;
 
 // A name, and counts behind it.
@@ -162,6 +163,74 @@ fn print_text(topskip: i32, blocks: &[Block], out: &mut Vec<u8>) -> Result<(), A
     let text = without_front(blocks);
     print_text_head(topskip, text, out)?;
     print_items(text, out)
+}
+
+// The numbers of a column and its text.
+fn print_column_body(galley: &Galley, style: &Style, from: usize, to: usize, out: &mut Vec<u8>) -> Result<(), AllocError>
+    requires plain { IsPlainStyle style.now }
+    requires rigid { AreRigid galley.now.blocks }
+    requires onward { from ≤ to }
+    requires within { to ≤ length galley.now.blocks }
+    requires fits { fits_between (document galley.now style.now) from to ≡ true }
+    ensures ok { OnOk result (out.new.items ≡ out.old.items
+        ++ (numbers_text (numbers_of (document galley.now style.now) from to) ++ text_between (document galley.now style.now) from to)) }
+    ensures grows { Grows out.old.items out.new.items }
+{
+    print_numbers(&numbers_between(galley, style, from, to), out)?;
+    print_text(style.topskip, &galley.blocks().as_slice()[from..to], out)
+}
+
+// A page with its one column.
+fn print_page(galley: &Galley, style: &Style, number: u128, page: &Page, out: &mut Vec<u8>) -> Result<(), AllocError>
+    requires plain { IsPlainStyle style.now }
+    requires rigid { AreRigid galley.now.blocks }
+    requires page { IsPlainPage (document galley.now style.now) page.now }
+    ensures ok { OnOk result (out.new.items ≡ out.old.items ++ text_of_page (document galley.now style.now) number page.now) }
+    ensures grows { Grows out.old.items out.new.items }
+{
+    let Some(column) = page.columns.as_slice().first() else {
+        return Ok(());
+    };
+    print_page_line(number, page, out)?;
+    print_column_line(1, column, out)?;
+    print_column_body(galley, style, column.from.block as usize, column.to.block as usize, out)
+}
+
+// The text of a pagination, without giving back what a refusal left.
+fn print_all(galley: &Galley, style: &Style, plan: &Pagination, cost: i128, out: &mut Vec<u8>) -> Result<(), AllocError>
+    requires plain { IsPlainStyle style.now }
+    requires rigid { AreRigid galley.now.blocks }
+    requires pages { ArePlainPages (document galley.now style.now) plan.now.pages }
+    ensures ok { OnOk result (out.new.items ≡ out.old.items ++ page_text galley.now style.now plan.now cost) }
+    ensures grows { Grows out.old.items out.new.items }
+{
+    let pages = plan.pages.as_slice();
+    print_head(pages.len() as u128, cost, i64::from(galley.width()), out)?;
+    let mut number: u128 = 0;
+    for page in pages {
+        number += 1;
+        print_page(galley, style, number, page, out)?;
+    }
+    Ok(())
+}
+
+/// Appends the text of a pagination with its cost.
+///
+/// The galley is one of boxes and glue that neither stretches nor shrinks, the style has one column, single sides, one
+/// run and no classes, and each page is one column of text that is not over its room. After a refusal `out` is as before.
+pub fn print_pages(galley: &Galley, style: &Style, plan: &Pagination, cost: i128, out: &mut Vec<u8>) -> Result<(), AllocError>
+    requires plain { IsPlainStyle style.now }
+    requires rigid { AreRigid galley.now.blocks }
+    requires pages { ArePlainPages (document galley.now style.now) plan.now.pages }
+    ensures ok { OnOk result (out.new.items ≡ out.old.items ++ page_text galley.now style.now plan.now cost) }
+    ensures err { OnErr result (out.new.items ≡ out.old.items) }
+{
+    let start = out.len();
+    if let Err(refused) = print_all(galley, style, plan, cost, out) {
+        out.truncate(start);
+        return Err(refused);
+    }
+    Ok(())
 }
 
 /// Appends the line for a galley that has no legal pagination.
