@@ -19,7 +19,8 @@ use Rattle.pg_style.specs.Values.{StyleValue}
 use Rattle.pg_plain.specs.Plain.{AreSingle, single_items, items_between, plain_room}
 use Rattle.pg_plain.proofs.Singles.{drop-items, drop-single}
 use Rattle.pg_pages.specs.declared.columns.TextNumbers.{TextNumbers}
-use Rattle.pg_pages.specs.PlainText.{numbers_from, not_over}
+use Rattle.pg_pages.specs.PlainText.{numbers_from}
+use Rattle.pg_plain.specs.Plain.{not_over}
 
 not-true : (b : Bool) → not b ≡ true → b ≡ false
 not-true true e = absurd (cc)

@@ -12,7 +12,8 @@ ghost use Rattle.pg_pages.specs.Words.{line, counts_text, place_text};
 ghost use Rattle.pg_pages.specs.PageText.{page_text, none_text, head_counts, head_line, page_side, page_run, page_line, column_line, column_ends as ends_of, column_counts as counts_of};
 ghost use Rattle.pg_flat.specs.Totals.{trimmed};
 ghost use Rattle.pg_plain.specs.Plain.{single_items};
-ghost use Rattle.pg_pages.specs.PlainText.{ArePlainPages, IsPlainPage, fits_between, numbers_between as numbers_of, numbers_text, text_between, text_of_page, text_head, text_of_items};
+ghost use Rattle.pg_pages.specs.PlainText.{ArePlainPages, IsPlainPage, numbers_between as numbers_of, numbers_text, text_between, text_of_page, text_head, text_of_items};
+ghost use Rattle.pg_plain.specs.Plain.{fits_between};
 
 use crate::columns::{numbers_between, print_items, print_length, print_numbers, space_above, without_front};
 use crate::words::{print_counts, print_decimal, print_place, print_whole};

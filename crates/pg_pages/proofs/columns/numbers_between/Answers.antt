@@ -6,7 +6,8 @@ use Rattle.pg_list.specs.Counts.{item_count}
 use Rattle.pg_list.proofs.Sizes.{blocks_le}
 use Rattle.pg_flat.specs.Break.{is_spent}
 use Rattle.pg_plain.specs.Plain.{single_items, items_between}
-use Rattle.pg_pages.specs.PlainText.{not_over, numbers_from}
+use Rattle.pg_pages.specs.PlainText.{numbers_from}
+use Rattle.pg_plain.specs.Plain.{not_over}
 use Rattle.pg_pages.proofs.Plain.{blocks-single}
 use Rattle.pg_pages.proofs.Numbers.{between-items, spent-from}
 use Rattle.pg_pages.proofs.columns.numbers_between.Goals as goal
