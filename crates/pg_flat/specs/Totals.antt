@@ -1,6 +1,6 @@
 -- The natural size of a segment, its depth, its stretch and its shrink.
-use Rattle.std.specs.Prelude.{Bool, true, false, not, if◌then◌else◌, List, ◌++◌, length, drop, ℤ, pos, ◌+ℤ◌, ◌-ℤ◌}
-use Rattle.std.specs.List.{filter, take_while, find}
+use Rattle.std.specs.Prelude.{Bool, true, false, if◌then◌else◌, List, [], ◌∷◌, ℤ, pos, ◌+ℤ◌, ◌-ℤ◌}
+use Rattle.std.specs.List.{find}
 use Rattle.std.specs.Int.{int_min, int_max}
 use Rattle.std.specs.Option.{option_map_or}
 use Rattle.std.specs.Prelude.{reverse}
@@ -11,12 +11,10 @@ use Rattle.pg_list.specs.declared.item.Order.TheVariants.{Finite, Fil, Fill, Fil
 use Rattle.pg_list.specs.Shapes.{is_box, is_discardable}
 use Rattle.pg_flat.specs.Whole.{whole_sum_by}
 
-abbrev pub front_part : List Item → List Item
-front_part items = take_while (λ item. not (is_box item)) items
-
--- the items from i up to j, without the discardable ones before the first box or rule
+-- the items, without the discardable ones before the first box or rule
 abbrev pub trimmed : List Item → List Item
-trimmed items = filter (λ item. not (is_discardable item)) (front_part items) ++ drop (length (front_part items)) items
+trimmed [] = []
+trimmed (item ∷ items) = if is_box item then item ∷ items else (if is_discardable item then trimmed items else item ∷ trimmed items)
 
 -- what an item adds to the size, its depth included
 abbrev pub full_size : Item → ℤ

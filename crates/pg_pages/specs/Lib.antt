@@ -1,0 +1,4 @@
+pub mod Words
+pub mod Bodies
+pub mod SetGlue
+pub mod PageText
