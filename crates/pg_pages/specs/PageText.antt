@@ -13,7 +13,7 @@ use Rattle.pg_plan.specs.Order.{columns}
 use Rattle.pg_plan.specs.declared.pages.Column.{Column}
 use Rattle.pg_plan.specs.declared.pages.PageMove.{PageMove}
 use Rattle.pg_plan.specs.declared.pages.Pagination.{Pagination}
-use Rattle.pg_style.specs.declared.style.Style.{Style}
+use Rattle.pg_style.specs.Values.{StyleValue}
 use Rattle.pg_style.specs.declared.style.Class.{Class}
 use Rattle.pg_style.specs.declared.style.Kind.{Kind}
 use Rattle.pg_style.specs.declared.style.Kind.TheVariants.{Note, Float}
@@ -25,7 +25,7 @@ use Rattle.pg_rules.specs.History.{next_column, next_page, next_side, placed_of,
 use Rattle.pg_rules.specs.Legal.{document}
 use Rattle.pg_scaled.specs.Scaled.{scaled_text}
 use Rattle.pg_pages.specs.Words.{line, whole_text, counts_text, place_text, side_text}
-use Rattle.pg_pages.specs.Bodies.{body_text, with_width, plain_text}
+use Rattle.pg_pages.specs.Bodies.{body_text, set_text, plain_text}
 use Rattle.pg_pages.specs.SetGlue.{glue_widths}
 
 -- ---- areas
@@ -55,11 +55,11 @@ abbrev pub is_note_kind : Kind → Bool
 is_note_kind (Note skip limit) = true
 is_note_kind (Float area distance) = false
 
-abbrev pub is_note : Style → ℕ → Bool
+abbrev pub is_note : StyleValue → ℕ → Bool
 is_note style number = option_map_or (λ (class : Class). is_note_kind class.kind) (class_of style number) false
 
 -- the notes of a segment, by class in increasing number and then in order
-abbrev pub notes_text : Style → List Item → List ℕ
+abbrev pub notes_text : StyleValue → List Item → List ℕ
 notes_text style items =
     flat_map (λ (number : ℕ). if is_note style number then flat_map body_text (inserted number items) else []) (range_with_len 0 255)
 
@@ -69,7 +69,7 @@ notes_text style items =
 abbrev pub set_items : List Item → List ℤ → List ℕ
 set_items [] widths = []
 set_items (Glue width stretch order shrink body ∷ items) [] = body_text body ++ set_items items []
-set_items (Glue width stretch order shrink body ∷ items) (set ∷ widths) = body_text (with_width body set) ++ set_items items widths
+set_items (Glue width stretch order shrink body ∷ items) (set ∷ widths) = set_text body set ++ set_items items widths
 set_items (item ∷ items) widths = plain_text item ++ set_items items widths
 
 abbrev pub top_line : ℤ → List Item → List ℕ
@@ -132,7 +132,7 @@ columns_text doc [] = []
 columns_text doc (m ∷ ms) = columns_text doc ms ++ column_text doc m ms
 
 -- the text of a legal pagination with its cost
-unfoldable pub page_text : GalleyValue → Style → Pagination → ℤ → List ℕ
+unfoldable pub page_text : GalleyValue → StyleValue → Pagination → ℤ → List ℕ
 page_text galley style plan cost =
     line (codes "pages " ++ decimal (length plan.pages) ++ codes " cost " ++ whole_text cost ++ codes " width " ++ scaled_text galley.width)
     ++ columns_text (document galley style) (columns plan)

@@ -13,10 +13,13 @@ abbrev pub whole_text : ℤ → List ℕ
 whole_text (pos n) = decimal n
 whole_text (negsuc n) = 45 ∷ decimal (suc n)
 
+abbrev pub further_text : List ℕ → List ℕ
+further_text counts = flat_map (λ (count : ℕ). 44 ∷ decimal count) counts
+
 -- the entries joined by commas, and `-` where there is none
 abbrev pub counts_text : List ℕ → List ℕ
 counts_text [] = codes "-"
-counts_text (n ∷ counts) = decimal n ++ flat_map (λ (count : ℕ). 44 ∷ decimal count) counts
+counts_text (n ∷ counts) = decimal n ++ further_text counts
 
 -- block, variant and index
 abbrev pub place_text : Place → List ℕ
