@@ -1,8 +1,7 @@
 -- What a sink holds after a piece of the bytes, and then one more.
-use Rattle.std.proofs.Common.{◌≡◌, ◌∙◌, ◌≤◌, ◌<◌, ◌+◌, ◌-◌, ℕ, zero, suc, refl, ap, sym, subst, arith, List, [], ◌∷◌, ◌++◌, length, append_assoc, append-nil, take, drop}
+use Rattle.std.proofs.Common.{◌≡◌, ◌∙◌, ◌≤◌, ◌+◌, ◌-◌, ℕ, zero, suc, ap, sym, subst, arith, List, [], ◌∷◌, ◌++◌, length, append_assoc, take, drop}
 use Rattle.std.specs.Prelude.{Option, Some, None}
 use Rattle.std.specs.Io.KnownBytes.{Appends, Keeps}
-use Rattle.pg_outside.specs.Outside.{AppendsFront}
 use Rattle.std.proofs.lemmas.List.{take_all, length-drop}
 
 -- the first n + m are the first n, and then m of the rest

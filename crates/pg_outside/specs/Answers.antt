@@ -1,5 +1,5 @@
 -- The answers of a fetch.
-use Rattle.std.specs.Prelude.{◌≡◌, ⊤, Bool, true, false, Result, Ok, Err}
+use Rattle.std.specs.Prelude.{◌≡◌, ⊤, Bool, true, false, Result, Err}
 use Rattle.pg_outside.specs.declared.shelf.Fetch.{Fetch}
 use Rattle.pg_outside.specs.declared.shelf.Fetch.TheVariants.{Failed, Missing, TooLong, Memory}
 

@@ -1,5 +1,7 @@
 //! What is written for a galley.
 ghost use Rattle.std.specs.Prelude.{IfOk};
+ghost use Rattle.pg_flat.specs.Rigid.{AreRigid};
+ghost use Rattle.pg_plain.specs.Plain.{IsPlainStyle};
 ghost use Rattle.pg_top.specs.Out.{Out, end_of};
 
 use pg_list::Galley;
@@ -21,9 +23,13 @@ pub struct Shown {
 }
 
 // STAND-IN: the paginator and the page text come in its place.
-pub fn show(alloc: Global, _galley: &Galley, _style: &Style) -> Result<Shown, AllocError>
-    ensures { IfOk result (λ shown. Out _galley.now _style.now shown.text.items (end_of shown.found)) }
+pub fn show(alloc: Global, galley: &Galley, style: &Style) -> Result<Shown, AllocError>
+    requires rigid { AreRigid galley.now.blocks }
+    requires plain { IsPlainStyle style.now }
+    ensures { IfOk result (λ shown. Out galley.now style.now shown.text.items (end_of shown.found)) }
 {
+    let _ = galley;
+    let _ = style;
     Ok(Shown {
         text: b"no legal pagination\n".to_vec(alloc)?,
         found: Found::NoLegal,

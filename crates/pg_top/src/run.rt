@@ -1,6 +1,8 @@
 //! The command `run`.
 ghost use Rattle.std.specs.Prelude.{◌≡◌, ◌≢◌, [], Some, IfSome};
 ghost use Rattle.std.specs.Io.KnownBytes.{Keeps};
+ghost use Rattle.pg_flat.specs.Rigid.{AreRigid};
+ghost use Rattle.pg_plain.specs.Plain.{IsPlainStyle};
 ghost use Rattle.pg_outside.specs.Outside.{Rose};
 ghost use Rattle.pg_top.specs.Words.{run as run_command, style_name, IsStyle};
 ghost use Rattle.pg_top.specs.declared.status.Status.TheVariants.{Usage};
@@ -31,6 +33,8 @@ fn style_of(alloc: Global, word: StyleWord) -> Style
 
 // Writes the text for a galley, and answers how that ends the run.
 fn write_shown<'a, O: Sink>(alloc: Global, galley: &Galley, style: &Style, out: &mut O) -> Event<'a>
+    requires rigid { AreRigid galley.now.blocks }
+    requires plain { IsPlainStyle style.now }
     ensures settled { OnSettled (status_of result) (Shows galley.now style.now (O.written out.old) (O.written out.new) (status_of result)) }
     ensures quiet { OnSettled (status_of result) (line_of result ≡ []) }
     ensures write { OnWriteFault (status_of result) (Rose (O.faults out.old) (O.faults out.new)) }

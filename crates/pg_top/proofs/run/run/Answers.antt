@@ -13,7 +13,7 @@ returns-clause-settled g c =
     settled_shown (g.H.Shelf.held c.args.shelf.now) (style_name c.args.style) c.args.name.now c.fetch.new.into.items c.deref.result.now
     c.in-Ok-read_galley.galley c.style_of.result (g.O.Sink.written c.args.out.now) (g.O.Sink.written c.write_shown-2.new.out)
     (status_of c.write_shown-2.result) (line_of c.write_shown-2.result)
-    c.in-Ok.ensures.found c.in-Ok.ensures.short c.deref.ensures.value c.in-Ok-read_galley.ensures c.style_of.ensures
+    c.in-Ok.ensures.found c.in-Ok.ensures.short c.deref.ensures.value c.in-Ok-read_galley.ensures.said c.style_of.ensures
     c.write_shown-2.ensures.settled c.write_shown-2.ensures.quiet
 
 pub returns-clause-front : goal.returns-clause-front
@@ -21,5 +21,5 @@ returns-clause-front g c =
     failed_shown (g.H.Shelf.held c.args.shelf.now) (style_name c.args.style) c.args.name.now c.fetch.new.into.items c.deref.result.now
     c.in-Ok-read_galley.galley c.style_of.result (g.O.Sink.written c.args.out.now) (g.O.Sink.written c.write_shown-2.new.out)
     (status_of c.write_shown-2.result)
-    c.in-Ok.ensures.found c.in-Ok.ensures.short c.deref.ensures.value c.in-Ok-read_galley.ensures c.style_of.ensures
+    c.in-Ok.ensures.found c.in-Ok.ensures.short c.deref.ensures.value c.in-Ok-read_galley.ensures.said c.style_of.ensures
     c.write_shown-2.ensures.front

@@ -1,4 +1,4 @@
-use Rattle.std.proofs.Common.{arith, length}
+use Rattle.std.proofs.Common.{arith}
 use Rattle.std.proofs.lemmas.Grind.{common_steps}
 use Rattle.pg_outside.proofs.Pieces.{appends_next}
 use Rattle.pg_outside.proofs.stream.StreamSink.put.Goals as goal
