@@ -22,17 +22,21 @@ appends_more (Some ys) (Some zs) (Some ws) n m xs first second =
 
 -- the slice from n on
 pub appends_next : (old mid new : Option (List ℕ)) (n m : ℕ) (xs : List ℕ)
-    → Appends old mid (take n xs) → Appends mid new (take m (take (length xs - n) (drop n xs))) → Appends old new (take (n + m) xs)
+    → Appends old mid (take n xs) → Appends mid new (take m (take (length xs - n) (drop n xs)))
+    → Appends old new (take (n + m) xs)
 appends_next old mid new n m xs first second =
-    let whole : take (length xs - n) (drop n xs) ≡ drop n xs = take_all (length xs - n) (drop n xs) (omega (arith, length-drop n xs)) in
+    let whole : take (length xs - n) (drop n xs) ≡ drop n xs = take_all (length xs - n) (drop n xs)
+    (omega (arith, length-drop n xs)) in
     appends_more old mid new n m xs first (subst (λ (ys : List ℕ). Appends mid new (take m ys)) whole second)
 
 -- all of the bytes are written, once none is left
-pub appends_all : (old new : Option (List ℕ)) (n : ℕ) (xs : List ℕ) → length xs ≤ n → Appends old new (take n xs) → Appends old new xs
+pub appends_all : (old new : Option (List ℕ)) (n : ℕ) (xs : List ℕ) → length xs ≤ n
+    → Appends old new (take n xs) → Appends old new xs
 appends_all old new n xs all appends = subst (Appends old new) (take_all n xs all) appends
 
 -- nothing more was written
-pub appends_no_more : (old mid new : Option (List ℕ)) (xs : List ℕ) → Appends old mid xs → Keeps mid new → Appends old new xs
+pub appends_no_more : (old mid new : Option (List ℕ)) (xs : List ℕ) → Appends old mid xs → Keeps mid new
+    → Appends old new xs
 appends_no_more None mid new xs first keeps = tt
 appends_no_more (Some ys) None new xs first keeps = absurd first
 appends_no_more (Some ys) (Some zs) None xs first keeps = absurd keeps

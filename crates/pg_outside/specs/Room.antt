@@ -3,7 +3,8 @@ use Rattle.std.specs.Option.{option_map}
 use Rattle.std.specs.Prelude.{find, ℕ, ◌==◌, min, List, Option, Bool, ◌&&◌, is_none, nat_le, unwrap_or}
 use Rattle.pg_outside.specs.Outside.{next_number}
 
--- a sink's bytes, the room that is left, the numbers of the writes that fail with the bytes that each takes, how many writes came and how many failed
+-- a sink's bytes, the room that is left, the numbers of the writes that fail with the bytes that each takes,
+-- how many writes came and how many failed
 pub record SinkState : Type 0 where
   pub bytes : List ℕ
   pub room : ℕ

@@ -47,11 +47,13 @@ WroteWhole (Some (run style galley)) out = Keeps out.old out.new
 -- the course ends with this status, where the bytes are told; memory may run out instead
 abbrev pub EndsAsCourse : Option Command → Option Held → Status → Type 0
 EndsAsCourse command told Memory = ⊤
-EndsAsCourse command told status = IfSome told (λ held. (texts : List (List ℕ)) × (line : List ℕ) × Course command held texts status line)
+EndsAsCourse command told status =
+    IfSome told (λ held. (texts : List (List ℕ)) × (line : List ℕ) × Course command held texts status line)
 
 -- the line of the course, where the bytes are told
 abbrev pub CourseLine : Option Command → Option Held → Status → List ℕ → Type 0
-CourseLine command told status line = IfSome told (λ held. (texts : List (List ℕ)) × Course command held texts status line)
+CourseLine command told status line =
+    IfSome told (λ held. (texts : List (List ℕ)) × Course command held texts status line)
 
 -- the line that goes with a status
 abbrev pub IsLineOf : Option Command → OverShelf → Status → List ℕ → Type 0
@@ -65,16 +67,20 @@ IsLineOf command shelf WriteFault line = line ≡ output_line
 IsLineOf command shelf Memory line = line ≡ memory_line
 
 -- the program's promise for these words, by how it ended
-pub record Headline (words : List (List ℕ)) (shelf : OverShelf) (out say : OverSink) (status : Status) : Type 0 where
+pub record Headline (words : List (List ℕ)) (shelf : OverShelf) (out say : OverSink)
+    (status : Status) : Type 0 where
   -- where it ended by itself, it wrote exactly the texts of the course, and ended as the course does
-  pub texts : OnSettled status (IfSome shelf.told (λ held. (line : List ℕ) × Ended (command_of words) held out.old out.new status line))
+  pub texts : OnSettled status (IfSome shelf.told (λ held.
+      (line : List ℕ) × Ended (command_of words) held out.old out.new status line))
   pub read_fault : OnReadFault status (ReadFailed (command_of words) shelf out)
   pub write_fault : OnWriteFault status (WriteFailed (command_of words) shelf out)
   pub memory : OnMemory status (WroteWhole (command_of words) out)
   -- where neither count rose, it ended as the course does, or memory ran out
-  pub no_fault : (Rose shelf.before shelf.after → ⊥) → (Rose out.before out.after → ⊥) → EndsAsCourse (command_of words) shelf.told status
+  pub no_fault : (Rose shelf.before shelf.after → ⊥) → (Rose out.before out.after → ⊥)
+      → EndsAsCourse (command_of words) shelf.told status
   -- one line was said, or a front of it where that failed; at Done and NoLegal nothing
-  pub said : (line : List ℕ) × Says say.old say.new say.before say.after line × IsLineOf (command_of words) shelf status line
+  pub said : (line : List ℕ) × Says say.old say.new say.before say.after line
+      × IsLineOf (command_of words) shelf status line
   -- words that are no command are answered so, whatever the shelf tells
   pub usage : (status ≡ Usage) ↔ (command_of words ≡ None)
   pub usage_keeps : command_of words ≡ None → Keeps out.old out.new

@@ -35,10 +35,12 @@ fn style_of(alloc: Global, word: StyleWord) -> Style
 fn write_shown<'a, O: Sink>(alloc: Global, galley: &Galley, style: &Style, out: &mut O) -> Event<'a>
     requires rigid { AreRigid galley.now.blocks }
     requires plain { IsPlainStyle style.now }
-    ensures settled { OnSettled (status_of result) (Shows galley.now style.now (O.written out.old) (O.written out.new) (status_of result)) }
+    ensures settled { OnSettled (status_of result)
+        (Shows galley.now style.now (O.written out.old) (O.written out.new) (status_of result)) }
     ensures quiet { OnSettled (status_of result) (line_of result ≡ []) }
     ensures write { OnWriteFault (status_of result) (Rose (O.faults out.old) (O.faults out.new)) }
-    ensures front { OnWriteFault (status_of result) (ShowsBefore galley.now style.now (O.written out.old) (O.written out.new)) }
+    ensures front { OnWriteFault (status_of result)
+        (ShowsBefore galley.now style.now (O.written out.old) (O.written out.new)) }
     ensures memory { OnMemory (status_of result) (Keeps (O.written out.old) (O.written out.new)) }
     ensures no_read { OnReadFault (status_of result) ⊥ }
 {
@@ -64,7 +66,8 @@ pub fn run<'a, H: Shelf, O: Sink>(
 ) -> Event<'a>
     requires { IsStyle style }
     ensures settled { OnSettled (status_of result) (IfSome (H.held shelf.old) (λ held.
-        Ended (Some (run_command (style_name style) name.now)) held (O.written out.old) (O.written out.new) (status_of result) (line_of result))) }
+        Ended (Some (run_command (style_name style) name.now)) held
+            (O.written out.old) (O.written out.new) (status_of result) (line_of result))) }
     ensures read { OnReadFault (status_of result) (ReadLine (Some (run_command (style_name style) name.now))
         (H.held shelf.old) (H.faults shelf.old) (H.faults shelf.new) (H.last_failed shelf.new) (line_of result)) }
     ensures read_keeps { OnReadFault (status_of result) (Keeps (O.written out.old) (O.written out.new)) }

@@ -15,8 +15,10 @@ fn write_parts<E: Sink>(
     name: &str,
     after: &str,
 ) -> Result<(), WriteFailed>
-    ensures all { OnOk result (Appends (E.written say.old) (E.written say.new) (before.now ++ (name.now ++ after.now))) }
-    ensures front { OnErr result (AppendsFront (E.written say.old) (E.written say.new) (before.now ++ (name.now ++ after.now))) }
+    ensures all { OnOk result
+        (Appends (E.written say.old) (E.written say.new) (before.now ++ (name.now ++ after.now))) }
+    ensures front { OnErr result
+        (AppendsFront (E.written say.old) (E.written say.new) (before.now ++ (name.now ++ after.now))) }
     ensures cause { OnErr result (Rose (E.faults say.old) (E.faults say.new)) }
     ensures later { E.faults say.old ≤ E.faults say.new }
 {
@@ -27,7 +29,8 @@ fn write_parts<E: Sink>(
 
 /// Writes the event's line, in parts and without memory. A fault ends the writing.
 pub fn say_line<E: Sink>(event: Event<'_>, say: &mut E)
-    ensures line { Says (E.written say.old) (E.written say.new) (E.faults say.old) (E.faults say.new) (line_of event.entry) }
+    ensures line { Says (E.written say.old) (E.written say.new) (E.faults say.old) (E.faults say.new)
+        (line_of event.entry) }
     ensures later { E.faults say.old ≤ E.faults say.new }
 {
     let (before, name, after) = event.parts();

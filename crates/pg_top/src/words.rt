@@ -41,8 +41,8 @@ fn is_file_name(word: &str) -> bool
 
 /// What the words after the program's name ask for, or None where they are no command.
 ///
-/// A command is `run --height H GALLEY`, of exactly four words in this order: H is wholly a scaled number above 0 and below
-/// 16384, and the name is not empty and does not begin with a minus. No memory is taken.
+/// A command is `run --height H GALLEY`, of exactly four words in this order: H is wholly a scaled number above
+/// 0 and below 16384, and the name is not empty and does not begin with a minus. No memory is taken.
 pub fn command(words: &Vec<String>) -> Option<Job<'_>>
     ensures command { option_map command_in result ≡ command_of (texts_of words.now) }
     ensures in_range { IfSome result HasHeight }
