@@ -67,7 +67,7 @@ pub fn run<'a, H: Shelf, O: Sink>(
     requires { IsStyle style }
     ensures settled { OnSettled (status_of result) (IfSome (H.held shelf.old) (λ held.
         Ended (Some (run_command (style_name style) name.now)) held
-            (O.written out.old) (O.written out.new) (status_of result) (line_of result))) }
+        (O.written out.old) (O.written out.new) (status_of result) (line_of result))) }
     ensures read { OnReadFault (status_of result) (ReadLine (Some (run_command (style_name style) name.now))
         (H.held shelf.old) (H.faults shelf.old) (H.faults shelf.new) (H.last_failed shelf.new) (line_of result)) }
     ensures read_keeps { OnReadFault (status_of result) (Keeps (O.written out.old) (O.written out.new)) }
