@@ -1,5 +1,5 @@
 -- Known numbers and their texts.
-use Rattle.std.proofs.Common.{◌≡◌, refl, pos, negsuc, [], ◌∷◌, length}
+use Rattle.std.proofs.Common.{◌≡◌, refl, pos, negsuc, [], ◌∷◌}
 use Rattle.pg_scaled.specs.declared.read.Front.TheVariants.{Value, NotNumber, TooLarge}
 use Rattle.std.specs.Fmt.{digits}
 use Rattle.pg_scaled.specs.Scaled.{scaled_text, scaled_value, fraction_digits}
