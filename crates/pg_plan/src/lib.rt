@@ -10,6 +10,8 @@ mod laws;
 mod lists;
 mod pages;
 mod states;
+#[cfg(test)]
+mod tests;
 
 pub use comparing::{compare, compare_moves};
 pub use laws::{equal_moves_are_same, moves_are_ordered, paginations_are_ordered};
