@@ -4,7 +4,8 @@
 #![tactic(auto)]
 
 ghost use Rattle.std.specs.Prelude.{◌≡◌, ◌≤◌, ◌^◌, OnOk};
-ghost use Rattle.pg_numbers_space.specs.Numbers.{with_step};
+ghost use Rattle.pg_table.specs.Label.{AreLabels};
+ghost use Rattle.pg_numbers_space.specs.Numbers.{numbers, with_step};
 
 use pg_steps::Steps;
 use pg_table::{Opened, Space, Step, StepList};
@@ -63,7 +64,6 @@ impl Space for Numbers {
 
     type Key = u32;
 
-    ghost use Rattle.pg_numbers_space.specs.Numbers.{numbers};
     ghost use Rattle.pg_numbers_space.specs.NumbersLaws.{numbers_lawful};
 
     ghost meaning = { λ s. numbers s.last };
@@ -118,7 +118,7 @@ impl Space for Numbers {
 #[cfg(test)]
 mod tests {
     use super::*;
-    use pg_table::Table;
+    use pg_table::{Table, laws};
     use std::marker::Brand;
     use std::sync::ledger::Blank;
     use std::test::Fail;
@@ -133,7 +133,7 @@ mod tests {
         reach: u32,
     }
 
-    fn found(space: &Numbers, table: &Table<u32, u32, u32>) -> Found
+    fn look_at(space: &Numbers, table: &Table<u32, u32, u32>) -> Found
         requires { AreLabels (numbers space.now.last) table.now }
     {
         let labels = table.labels();
@@ -160,12 +160,18 @@ mod tests {
         let mut table = Table::<u32, u32, u32>::new(alloc);
         let first = {
             let space = Numbers::new(alloc, 100);
+            laws::empty_table_is_right_below_0(&space, &table);
             table.fill(&space, &mut steps)?;
-            found(&space, &table)
+            laws::table_begins_with_start(&space, &table);
+            laws::best_undercuts_done_runs(&space, &table);
+            laws::table_is_right_below(&space, &table);
+            look_at(&space, &table)
         };
         let space = Numbers::new(alloc, 100);
+        laws::right_below_goes_down(&space, &table);
+        laws::right_below_for_agreeing(&space, &space, &table);
         table.refill(&space, 50, &mut steps)?;
-        Ok((first, found(&space, &table)))
+        Ok((first, look_at(&space, &table)))
     }
 
     #[test]
