@@ -118,7 +118,7 @@ impl Space for Numbers {
 #[cfg(test)]
 mod tests {
     use super::*;
-    use pg_table::{Table, laws};
+    use pg_table::Table;
     use std::marker::Brand;
     use std::sync::ledger::Blank;
     use std::test::Fail;
@@ -160,16 +160,16 @@ mod tests {
         let mut table = Table::<u32, u32, u32>::new(alloc);
         let first = {
             let space = Numbers::new(alloc, 100);
-            laws::empty_table_is_right_below_0(&space, &table);
+            pg_table::empty_table_is_right_below_0(&space, &table);
             table.fill(&space, &mut steps)?;
-            laws::table_begins_with_start(&space, &table);
-            laws::best_undercuts_done_runs(&space, &table);
-            laws::table_is_right_below(&space, &table);
+            pg_table::table_begins_with_start(&space, &table);
+            pg_table::best_undercuts_done_runs(&space, &table);
+            pg_table::table_is_right_below(&space, &table);
             look_at(&space, &table)
         };
         let space = Numbers::new(alloc, 100);
-        laws::right_below_goes_down(&space, &table);
-        laws::right_below_for_agreeing(&space, &space, &table);
+        pg_table::right_below_goes_down(&space, &table);
+        pg_table::right_below_for_agreeing(&space, &space, &table);
         table.refill(&space, 50, &mut steps)?;
         Ok((first, look_at(&space, &table)))
     }
