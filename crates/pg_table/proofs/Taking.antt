@@ -1,5 +1,5 @@
 -- What taking a label from the bucket whose turn is first keeps.
-use Rattle.std.proofs.Common.{◌⊎◌, inl, inr, ◌≡◌, ℕ, ◌+◌, ◌≤◌, ◌<◌, Bool, true, false, List, [], ◌∷◌, ◌++◌, length, set, refl, sym, ◌∙◌, ap, subst, arith, Option, Some, None, eq-eqb}
+use Rattle.std.proofs.Common.{inl, inr, ◌≡◌, ℕ, ◌+◌, ◌≤◌, ◌<◌, Bool, true, false, List, [], ◌∷◌, ◌++◌, length, set, refl, sym, ◌∙◌, ap, subst, arith, Some, eq-eqb}
 use Rattle.std.proofs.lemmas.Bool.{eqb-true}
 use Rattle.std.specs.Prelude.{◌==◌, ◌≢◌, Contains, slice_get}
 use Rattle.std.specs.Cmp.{IsEquivalence}
@@ -18,7 +18,7 @@ use Rattle.pg_table.specs.declared.table.Entry.{Entry}
 use Rattle.pg_table.specs.declared.pending.Turn.{Turn}
 use Rattle.pg_table.proofs.Lists.{some_same, set_same, set_other}
 use Rattle.pg_table.proofs.Store.{stored_done, load_done, stored_taken, taken_held, load_taken, held_open, held_closed, stored_closed, load_closed}
-use Rattle.pg_table.proofs.Turns.{exact_set, exact_done}
+use Rattle.pg_table.proofs.Turns.{exact_done}
 
 -- the bucket of a turn has a label
 pub filled_bucket : {S M : Type 0} (bs : List (Vec (Entry S M) Global)) (ts : List (Reverse Turn)) → Exact bs ts → (t : Reverse Turn) → Contains ts t → (b : Vec (Entry S M) Global) → slice_get bs t.0.place ≡ Some b → 0 < length b.items

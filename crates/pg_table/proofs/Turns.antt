@@ -1,5 +1,5 @@
 -- Each bucket with a label has one turn, and the others have none.
-use Rattle.std.proofs.Common.{◌≡◌, ℕ, ◌+◌, ◌≤◌, ◌<◌, ◌⊎◌, inl, inr, Bool, true, false, if◌then◌else◌, List, [], ◌∷◌, ◌++◌, length, get_or, set, refl, sym, ◌∙◌, ap, subst, arith, Some, eq-eqb}
+use Rattle.std.proofs.Common.{◌≡◌, ℕ, ◌+◌, ◌≤◌, ◌<◌, inl, inr, Bool, true, false, if◌then◌else◌, List, [], ◌∷◌, length, get_or, set, refl, sym, ◌∙◌, ap, subst, arith, Some, eq-eqb}
 use Rattle.std.proofs.lemmas.Bool.{eqb-true}
 use Rattle.std.specs.Prelude.{◌==◌, ◌≢◌, Contains, slice_get, sum_by}
 use Rattle.std.specs.Ordering.{nat_cmp}
@@ -74,10 +74,16 @@ module _ {S M : Type 0} (bs : List (Vec (Entry S M) Global)) (ts : List (Reverse
     exact_placed {K} eq ks key ks' bs' i pl = record { filled = λ t c. grown t (x.filled t c); single = x.single }
       where
         grown : (t : Reverse Turn) → (b : Vec (Entry S M) Global) × ((slice_get bs t.0.place ≡ Some b) × (0 < length b.items)) → (b : Vec (Entry S M) Global) × ((slice_get bs' t.0.place ≡ Some b) × (0 < length b.items))
-        grown t (b, (is, l)) = (b, (elim pl.either [
-          | inl o ↦ subst (λ z. slice_get z t.0.place ≡ Some b) (sym o.0) is
-          | inr n ↦ subst (λ z. slice_get z t.0.place ≡ Some b) (sym n.2.1.1) (slice_get_grow bs (n.2.0 ∷ []) t.0.place b is)
-        ], l))
+        grown t (b, (is, l)) = (
+          b,
+          (
+            elim pl.either [
+              | inl o ↦ subst (λ z. slice_get z t.0.place ≡ Some b) (sym o.0) is
+              | inr n ↦ subst (λ z. slice_get z t.0.place ≡ Some b) (sym n.2.1.1) (slice_get_grow bs (n.2.0 ∷ []) t.0.place b is)
+            ],
+            l,
+          ),
+        )
 
     -- a bucket is written that has a label then
     filled_set : (i : ℕ) (c : Vec (Entry S M) Global) → i < length bs → 0 < length c.items → (t : Reverse Turn) → Contains ts t → (b : Vec (Entry S M) Global) × ((slice_get (set bs i c) t.0.place ≡ Some b) × (0 < length b.items))
