@@ -16,7 +16,8 @@ itself : (u : ℕ) → (u == u) ≡ true
 itself u = eq-eqb u u refl
 
 order_equal : (m n : ℕ) → nat_cmp m n ≡ Equal → m ≡ n
-order_equal m n h = by_ranked (m < n) (m ≡ n) (n < m) (nat_cmp m n) (ranked m n (nat_cmp m n) refl) (λ e _. cc (e, h)) (λ _ e. e) (λ e _. cc (e, h))
+order_equal m n h = by_ranked (m < n) (m ≡ n) (n < m) (nat_cmp m n) (ranked m n (nat_cmp m n) refl)
+    (λ e _. cc (e, h)) (λ _ e. e) (λ e _. cc (e, h))
 
 -- a run costs its length, which is at most its end
 record Counts (last : ℕ) (ms : List ℕ) (u : ℕ) (c : ℤ) : Type 0 where
@@ -31,12 +32,21 @@ counts last (m ∷ ms) v c (u, (n, k, (run, step, sum))) = more (counts last ms 
     more : Counts last ms u n → Counts last (m ∷ ms) v c
     more r = record {
       cost = let a : n ≡ pos (length ms) = r.cost in let b : k ≡ pos 1 = step.cost in omega (arith, ints);
-      short = let a : length ms ≤ u = r.short in let b : v ≡ u + m = step.sum in let d : 0 < m = step.some in omega arith;
+      short = let a : length ms ≤ u = r.short in let b : v ≡ u + m = step.sum in let d : 0 < m = step.some in
+          omega arith;
       within = step.within;
     }
 
-simulates : (last u v m w : ℕ) (c : ℤ) → (u == v) ≡ true → Adds last v m w c → Simulates (numbers last) u m w c
-simulates last u v m w c h a = record { to = w; cost = c; follow = subst (λ z. Adds last z m w c) (sym (same u v h)) a; cheap = omega (arith, ints); no_worse = itself w }
+simulates : (last u v m w : ℕ) (c : ℤ) → (u == v) ≡ true → Adds last v m w c →
+    Simulates (numbers last) u m w c
+simulates last u v m w c h a = record {
+  to = w;
+  cost = c;
+  follow = subst (λ z. Adds last z m w c)
+      (sym (same u v h)) a;
+  cheap = omega (arith, ints);
+  no_worse = itself w;
+}
 
 pub numbers_lawful : (last : ℕ) → last ≤ 2 ^ 30 → Lawful nat_eq (numbers last)
 numbers_lawful last limit = record {
@@ -46,7 +56,8 @@ numbers_lawful last limit = record {
   rises = λ u m v c o f. let a : v ≡ u + m = f.sum in let b : 0 < m = f.some in omega arith;
   rank_fits = λ u o. omega arith;
   reflexive = λ u o. itself u;
-  transitive = λ u v w a b c h k. let p : u ≡ v = same u v h in let q : v ≡ w = same v w k in eq-eqb u w (p ∙ q);
+  transitive = λ u v w a b c h k. let p : u ≡ v = same u v h in let q : v ≡ w = same v w k in
+      eq-eqb u w (p ∙ q);
   one_key = λ u v a b h. h;
   one_rank = λ u v a b h. same u v h;
   one_block = λ u v a b h. same u v h;
@@ -57,8 +68,16 @@ numbers_lawful last limit = record {
   onward = λ u m v c o f. let a : v ≡ u + m = f.sum in omega arith;
   reach_own = λ u o. omega arith;
   reach_next = λ u m v c o f. let a : v ≡ u + m = f.sum in let b : m ≤ 2 = f.few in omega arith;
-  small_move = λ u m v c o f. let a : c ≡ pos 1 = f.cost in record { above = omega (arith, ints); below = omega (arith, ints) };
-  small_run = λ ms u c r. let k : Counts last ms u c = counts last ms u c r in let a : c ≡ pos (length ms) = k.cost in let b : length ms ≤ 2 ^ 30 = omega (arith, k.short, k.within) in
+  small_move = λ u m v c o f. let a : c ≡ pos 1 = f.cost in record {
+    above = omega (arith, ints);
+    below = omega (arith, ints);
+  };
+  small_run = λ ms u c r. let k : Counts last ms u c = counts last ms u c r in let a : c ≡ pos (length ms) =
+      k.cost in let b : length ms ≤ 2 ^ 30 = omega (arith, k.short, k.within) in
       record { above = omega (arith, ints); below = omega (arith, ints) };
-  few_moves = λ ms u c r. let k : Counts last ms u c = counts last ms u c r in omega (arith, k.short, k.within);
+  few_moves = λ ms u c r. let k : Counts last ms u c = counts last ms u c r in omega (
+    arith,
+    k.short,
+    k.within,
+  );
 }

@@ -1,5 +1,5 @@
-//! A small space for the table: the numbers from 0 to a last one, where a move adds 1 or 2 at the cost 1 and only the
-//! last number is done. It counts the calls of `expand`. That it is lawful is proved; its meaning is
+//! A small space for the table: the numbers from 0 to a last one, where a move adds 1 or 2 at the cost 1 and
+//! only the last number is done. It counts the calls of `expand`. That it is lawful is proved; its meaning is
 //! `numbers` of specs/Numbers.antt.
 #![tactic(auto)]
 
@@ -185,7 +185,13 @@ mod tests {
             reach: 103,
         };
         assert_eq!(rt; filled, expected);
-        assert_eq!(rt; refilled, Found { calls: 54, ..expected });
+        assert_eq!(rt;
+            refilled,
+            Found {
+                calls: 54,
+                ..expected
+            }
+        );
         Ok(())
     }
 }

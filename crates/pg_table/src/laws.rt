@@ -18,7 +18,8 @@ pub fn table_begins_with_start<S: Space>(space: &S, table: &Table<S::State, S::M
 /// The run of a best label undercuts each run that ends done.
 pub fn best_undercuts_done_runs<S: Space>(space: &S, table: &Table<S::State, S::Move, S::Key>)
     requires { IsTable (S.meaning space.now) table.now }
-    ensures { (i : ℕ) → IsBestOf (S.meaning space.now) table.now table.now i → UndercutsDone (S.meaning space.now) table.now i }
+    ensures { (i : ℕ) → IsBestOf (S.meaning space.now) table.now table.now i → UndercutsDone
+        (S.meaning space.now) table.now i }
 {}
 
 /// Where no label is done, no run ends done.
@@ -36,7 +37,8 @@ pub fn table_is_right_below<S: Space>(space: &S, table: &Table<S::State, S::Move
 
 /// What is right below a block is right below each smaller one.
 pub fn right_below_goes_down<S: Space>(space: &S, table: &Table<S::State, S::Move, S::Key>)
-    ensures { (t u : ℕ) → u ≤ t → IsRightBelow (S.meaning space.now) t table.now → IsRightBelow (S.meaning space.now) u table.now }
+    ensures { (t u : ℕ) → u ≤ t → IsRightBelow (S.meaning space.now) t table.now → IsRightBelow
+        (S.meaning space.now) u table.now }
 {}
 
 /// A table without labels is right below 0.
@@ -51,7 +53,8 @@ pub fn right_below_for_agreeing<S: Space, R: Space<State = S::State, Move = S::M
     other: &R,
     table: &Table<S::State, S::Move, S::Key>,
 )
-    ensures { (t : ℕ) → AgreeBelow (S.meaning space.now) (R.meaning other.now) t → IsRightBelow (S.meaning space.now) t table.now → IsRightBelow (R.meaning other.now) t table.now }
+    ensures { (t : ℕ) → AgreeBelow (S.meaning space.now) (R.meaning other.now) t → IsRightBelow
+        (S.meaning space.now) t table.now → IsRightBelow (R.meaning other.now) t table.now }
 {}
 
 /// A narrower space has the laws of the wide one, and betters each of its runs.
@@ -59,7 +62,8 @@ pub fn narrower_is_lawful<N: Narrowing>(space: &N)
     requires lawful { Lawful N.Key.eq (N.wide space.now) }
     requires narrower { IsNarrower (N.wide space.now) (N.Narrow space.now) }
     ensures laws { Lawful N.Key.eq (narrowed (N.wide space.now) (N.Narrow space.now)) }
-    ensures betters { (r : Reached N.State N.Move) → IsRun (N.wide space.now) r → BetteredBy (N.wide space.now) (N.Narrow space.now) r }
+    ensures betters { (r : Reached N.State N.Move) → IsRun (N.wide space.now) r →
+        BetteredBy (N.wide space.now) (N.Narrow space.now) r }
 {}
 
 /// A filled table of a narrower space holds the labels of the wide one.
@@ -68,6 +72,8 @@ pub fn narrower_table_is_wide<N: Narrowing>(space: &N, table: &Table<N::State, N
     requires narrower { IsNarrower (N.wide space.now) (N.Narrow space.now) }
     requires table { IsTable (narrowed (N.wide space.now) (N.Narrow space.now)) table.now }
     ensures labels { AreUnbettered (N.wide space.now) table.now }
-    ensures best { (i : ℕ) → IsBestOf (narrowed (N.wide space.now) (N.Narrow space.now)) table.now table.now i → UndercutsDone (N.wide space.now) table.now i }
-    ensures none { NoneDone (narrowed (N.wide space.now) (N.Narrow space.now)) table.now → NoRunDone (N.wide space.now) }
+    ensures best { (i : ℕ) → IsBestOf (narrowed (N.wide space.now)
+        (N.Narrow space.now)) table.now table.now i → UndercutsDone (N.wide space.now) table.now i }
+    ensures none { NoneDone (narrowed (N.wide space.now) (N.Narrow space.now)) table.now →
+        NoRunDone (N.wide space.now) }
 {}
