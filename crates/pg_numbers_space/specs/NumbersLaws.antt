@@ -1,12 +1,13 @@
 -- The laws of the space of numbers.
-use Rattle.std.proofs.Common.{◌≡◌, ℕ, ◌+◌, ◌≤◌, ◌<◌, ◌^◌, nat_eq, true, List, [], ◌∷◌, length, refl, sym, ◌∙◌, subst, arith, eq-eqb}
+use Rattle.std.proofs.Common.{inr, ap, ◌≡◌, ℕ, ◌+◌, ◌≤◌, ◌<◌, ◌^◌, nat_eq, true, List, [], ◌∷◌, length, refl, sym, ◌∙◌, subst, arith, eq-eqb}
 use Rattle.std.proofs.lemmas.Bool.{eqb-true}
 use Rattle.std.specs.Prelude.{ℤ, pos, ◌+ℤ◌, ◌==◌}
-use Rattle.std.specs.Ordering.{nat_cmp}
+use Rattle.std.specs.Ordering.{nat_cmp, is_gt}
 use Rattle.std.specs.declared.cmp.Ordering.TheVariants.{Less, Equal, Greater}
-use Rattle.std.proofs.lemmas.Cmp.{nat_cmp_total, by_ranked, ranked}
+use Rattle.std.proofs.lemmas.Cmp.{nat_cmp_total, by_ranked, ranked, tied_itself}
 use Rattle.std.proofs.lemmas.Int.{ints}
 use Rattle.pg_table.specs.Space.{Meaning, Lawful, Run, Small, Simulates}
+use Rattle.pg_table.specs.Narrower.{IsNarrower}
 use Rattle.pg_numbers_space.specs.Numbers.{Adds, numbers}
 
 same : (u v : ℕ) → (u == v) ≡ true → u ≡ v
@@ -80,4 +81,17 @@ numbers_lawful last limit = record {
     k.short,
     k.within,
   );
+}
+
+-- all moves are some of them that suffice
+pub numbers_narrower : (last : ℕ) → IsNarrower (numbers last) (Adds last)
+numbers_narrower last = record {
+  inside = λ u m v c a. a;
+  instead = λ u m v c o a. record {
+    move = m;
+    cost = c;
+    follow = a;
+    undercuts = inr (refl, ap is_gt (tied_itself nat_cmp_total m));
+  };
+  same = λ u v m x y c d ou ov p f g. g;
 }

@@ -8,7 +8,7 @@ ghost use Rattle.pg_table.specs.Label.{AreLabels};
 ghost use Rattle.pg_numbers_space.specs.Numbers.{numbers, with_step};
 
 use pg_steps::Steps;
-use pg_table::{Opened, Space, Step, StepList};
+use pg_table::{Narrowing, Opened, Space, Step, StepList};
 use std::alloc::{AllocError, Global};
 use std::cell::Cell;
 use std::cmp::Ordering;
@@ -115,6 +115,21 @@ impl Space for Numbers {
     }
 }
 
+/// All moves suffice.
+impl Narrowing for Numbers {
+    type State = u32;
+
+    type Move = u32;
+
+    type Key = u32;
+
+    ghost use Rattle.pg_numbers_space.specs.Numbers.{Adds, numbers};
+
+    ghost wide = { λ s. numbers s.last };
+
+    ghost Narrow = { λ s. Adds s.last };
+}
+
 #[cfg(test)]
 mod tests {
     use super::*;
@@ -165,6 +180,8 @@ mod tests {
             pg_table::table_begins_with_start(&space, &table);
             pg_table::best_undercuts_done_runs(&space, &table);
             pg_table::table_is_right_below(&space, &table);
+            pg_table::narrower_is_lawful(&space);
+            pg_table::narrower_table_is_wide(&space, &table);
             look_at(&space, &table)
         };
         let space = Numbers::new(alloc, 100);
