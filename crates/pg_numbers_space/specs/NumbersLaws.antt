@@ -1,12 +1,12 @@
 -- The laws of the space of numbers.
 use Rattle.std.proofs.Common.{inr, ap, ◌≡◌, ℕ, ◌+◌, ◌≤◌, ◌<◌, ◌^◌, nat_eq, true, List, [], ◌∷◌, length, refl, sym, ◌∙◌, subst, arith, eq-eqb}
 use Rattle.std.proofs.lemmas.Bool.{eqb-true}
-use Rattle.std.specs.Prelude.{ℤ, pos, ◌+ℤ◌, ◌==◌}
+use Rattle.std.specs.Prelude.{ℤ, pos, ◌==◌}
 use Rattle.std.specs.Ordering.{nat_cmp, is_gt}
-use Rattle.std.specs.declared.cmp.Ordering.TheVariants.{Less, Equal, Greater}
+use Rattle.std.specs.declared.cmp.Ordering.TheVariants.{Equal}
 use Rattle.std.proofs.lemmas.Cmp.{nat_cmp_total, by_ranked, ranked, tied_itself}
 use Rattle.std.proofs.lemmas.Int.{ints}
-use Rattle.pg_table.specs.Space.{Meaning, Lawful, Run, Small, Simulates}
+use Rattle.pg_table.specs.Space.{Lawful, Run, Simulates}
 use Rattle.pg_table.specs.Narrower.{IsNarrower}
 use Rattle.pg_numbers_space.specs.Numbers.{Adds, numbers}
 
