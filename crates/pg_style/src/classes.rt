@@ -1,0 +1,109 @@
+ghost use Rattle.std.specs.Prelude.{◌==◌, ℕ, ◌≡◌, ◌<◌, ◌≤◌, None, [], length, nat_lt};
+ghost use Rattle.std.specs.List.{position_from, prefix_len};
+ghost use Rattle.std.specs.Option.{option_copied};
+ghost use Rattle.pg_style.specs.Classes.{class_in, inserted, is_float_class, float_numbers_of};
+ghost use Rattle.pg_style.specs.Ranges.{IsClass, AreClasses};
+
+use crate::style::{Class, Kind};
+use smallvec::SmallVec;
+use std::alloc::Global;
+use std::marker::Model;
+
+/// The classes of inserts, at most 8, in increasing number.
+#[derive(Drop)]
+pub struct Classes {
+    classes: SmallVec<Class, 8>,
+}
+
+impl Model for Classes {
+    ghost use Rattle.std.specs.Prelude.{List, ◌≤◌};
+    ghost use Rattle.pg_style.specs.declared.style.Class.{Class};
+
+    ghost Value = { List Class };
+
+    ghost use Rattle.pg_style.specs.Ranges.{AreClasses};
+
+    ghost view = { λ a. a.classes.items };
+
+    ghost invariant = { λ a. AreClasses a.classes.items × (8 ≤ a.classes.capacity) };
+}
+
+fn is_float(class: &Class) -> bool
+    ensures { result ≡ is_float_class class.now }
+{
+    matches!(class.kind, Kind::Float { .. })
+}
+
+// How many classes at the front have a lesser number.
+fn count_below(classes: &[Class], number: u8) -> usize
+    ensures count { result ≡ prefix_len (λ (class : Class). nat_lt class.number number) classes.now }
+    ensures within { result ≤ length classes.now }
+{
+    classes
+        .iter()
+        .take_while(|class| class.number < number)
+        .count()
+}
+
+fn slot_in(classes: &[Class], number: u8) -> Option<usize>
+    ensures { result ≡ position_from (λ (n : ℕ). n == number) 0 (float_numbers_of classes.now) }
+{
+    let mut slot = 0;
+    let mut rest = classes;
+    'classes: while let [class, after @ ..] = rest {
+        if is_float(class) {
+            if class.number == number {
+                return Some(slot);
+            }
+            slot += 1;
+        }
+        rest = after;
+    }
+    None
+}
+
+impl Classes {
+    /// No classes. No memory is taken.
+    pub fn new(alloc: Global) -> Classes
+        ensures { result ≡ [] }
+    {
+        Classes {
+            classes: SmallVec::new(alloc),
+        }
+    }
+
+    /// Puts a class between those of lesser and of greater number. No memory is taken.
+    pub fn insert(&mut self, class: Class)
+        requires few { length self.old < 8 }
+        requires range { IsClass class }
+        requires new_number { class_in self.old class.number ≡ None }
+        ensures { self.new ≡ inserted class self.old }
+    {
+        let index = count_below(self.classes.as_slice(), class.number);
+        if self.classes.insert(index, class).is_err() {
+            unreachable!()
+        }
+    }
+
+    pub fn as_slice(&self) -> &[Class]
+        ensures classes { result.now ≡ self.now }
+        ensures range { AreClasses self.now }
+    {
+        self.classes.as_slice()
+    }
+
+    /// The class of a number. None exactly where there is none.
+    pub fn class_of(&self, number: u8) -> Option<&Class>
+        ensures { option_copied result ≡ class_in self.now number }
+    {
+        self.classes.iter().find(|class| class.number == number)
+    }
+
+    /// The position of a class among the float classes. None exactly where no float class has this
+    /// number.
+    pub fn float_slot(&self, number: u8) -> Option<usize>
+        ensures { result ≡ position_from (λ (n : ℕ). n == number) 0 (float_numbers_of self.now) }
+    {
+        slot_in(self.classes.as_slice(), number)
+    }
+}
