@@ -11,8 +11,8 @@ use Rattle.pg_list.specs.Places.{place}
 use Rattle.pg_plan.specs.declared.pages.Column.{Column}
 use Rattle.pg_plan.specs.declared.pages.Page.{Page}
 use Rattle.pg_plan.specs.declared.pages.Pagination.{Pagination}
-use Rattle.pg_style.specs.declared.style.Style.{Style}
-use Rattle.pg_style.specs.declared.style.AreaRule.{AreaRule}
+use Rattle.pg_style.specs.Values.{StyleValue}
+use Rattle.pg_style.specs.Values.{AreaRuleValue}
 use Rattle.pg_style.specs.declared.style.First.{First}
 use Rattle.pg_style.specs.declared.style.First.TheVariants.{Left, Single}
 use Rattle.pg_style.specs.declared.style.Kind.TheVariants.{Note, Float}
@@ -54,10 +54,10 @@ break-row = refl
 
 -- ---- whole paginations
 
-abbrev pub area : ℕ → ℕ → ℕ → AreaRule
+abbrev pub area : ℕ → ℕ → ℕ → AreaRuleValue
 area count sep gap = record { count = count; sep = points sep; gap = points gap }
 
-abbrev pub plain : ℕ → Style
+abbrev pub plain : ℕ → StyleValue
 plain height = record {
   version = 1;
   columns = 1;
@@ -137,7 +137,7 @@ insert class size = Insert class (points size) []
 abbrev pub row10 : GalleyValue
 row10 = galley (b ∷ s ∷ b ∷ s ∷ b ∷ s ∷ b ∷ s ∷ b ∷ insert 200 9 ∷ [])
 
-abbrev pub row10_style : Style
+abbrev pub row10_style : StyleValue
 row10_style = record (plain 58) { classes = record { number = 200; kind = Note (points 4) (points 100) } ∷ [] }
 
 abbrev pub row10_plan : Pagination
@@ -155,7 +155,7 @@ row10-cost = refl
 abbrev pub row11 : GalleyValue
 row11 = galley (b ∷ insert 100 50 ∷ g ∷ b ∷ insert 100 10 ∷ [])
 
-abbrev pub row11_style : Style
+abbrev pub row11_style : StyleValue
 row11_style = record (plain 58) {
   tolerance = 200;
   top = area 1 2 4;
@@ -188,7 +188,7 @@ row12-breach = refl
 abbrev pub row15 : GalleyValue
 row15 = galley (b ∷ g ∷ b ∷ g ∷ b ∷ insert 101 10 ∷ g ∷ b ∷ [])
 
-abbrev pub row15_style : Style
+abbrev pub row15_style : StyleValue
 row15_style = record (plain 22) {
   columns = 2;
   wide = area 1 0 4;
@@ -220,7 +220,7 @@ row19 = record {
       ∷ record { looseness = pos 1; demerits = 400; items = b ∷ p ∷ g ∷ b ∷ g ∷ b ∷ g ∷ b ∷ p ∷ g ∷ b ∷ [] } ∷ []) ∷ [];
 }
 
-abbrev pub row19_style : Style
+abbrev pub row19_style : StyleValue
 row19_style = record (plain 34) { max_looseness = 1 }
 
 abbrev pub row19_plan : Pagination
@@ -305,7 +305,7 @@ q = penalty 10000
 abbrev pub row16 : GalleyValue
 row16 = galley (b ∷ q ∷ g ∷ b ∷ q ∷ g ∷ b ∷ g ∷ b ∷ q ∷ g ∷ b ∷ [])
 
-abbrev pub row16_style : First → Style
+abbrev pub row16_style : First → StyleValue
 row16_style first = record (plain 22) { first = first; runs = record { extra = pos 0; demerits = 0 } ∷ record { extra = points 12; demerits = 300 } ∷ [] }
 
 abbrev pub run_page : ℕ → Place → Place → Page
@@ -341,7 +341,7 @@ f = Glue (points 3) (points 1) Fil (pos 0) []
 abbrev pub row14 : GalleyValue
 row14 = galley (b ∷ f ∷ b ∷ f ∷ b ∷ insert 100 30 ∷ f ∷ b ∷ f ∷ b ∷ Penalty (negsuc 9999) [] ∷ b ∷ [])
 
-abbrev pub row14_style : Style
+abbrev pub row14_style : StyleValue
 row14_style = record (plain 34) { top = area 1 0 4; float_column = record { count = 1; demerits = 1000 }; classes = record { number = 100; kind = Float Top (0 ∷ 0 ∷ 0 ∷ 500 ∷ []) } ∷ [] }
 
 abbrev pub row14_plan : Pagination
@@ -372,7 +372,7 @@ row3-mark = refl
 abbrev pub row_fit : GalleyValue
 row_fit = galley (b ∷ Glue (points 3) (points 12) Finite (pos 0) [] ∷ b ∷ g ∷ b ∷ penalty 150 ∷ g ∷ b ∷ [])
 
-abbrev pub fit_style : ℕ → ℕ → Style
+abbrev pub fit_style : ℕ → ℕ → StyleValue
 fit_style version fitness = record (plain 34) { version = version; fitness = fitness }
 
 abbrev pub fit_plan : ℕ → Pagination

@@ -6,7 +6,7 @@ use Rattle.pg_list.specs.GalleyValue.{GalleyValue}
 use Rattle.pg_plan.specs.declared.pages.PageMove.{PageMove}
 use Rattle.pg_plan.specs.Order.{columns}
 use Rattle.pg_plan.specs.declared.pages.Pagination.{Pagination}
-use Rattle.pg_style.specs.declared.style.Style.{Style}
+use Rattle.pg_style.specs.Values.{StyleValue}
 use Rattle.pg_style.specs.declared.style.Run.{Run}
 use Rattle.pg_flat.specs.Break.{break_penalty}
 use Rattle.pg_rules.specs.ColumnRules.{text_badness, column_variants}
@@ -29,11 +29,11 @@ column_demerits it = if is_text it then option_map_or (text_demerits it) (size_o
 abbrev pub pick_demerits : ColumnContext → ℤ
 pick_demerits it = whole_sum_by (λ (variant : Variant). pos variant.demerits) (column_variants it)
 
-abbrev pub run_demerits : Style → ℕ → ℤ
+abbrev pub run_demerits : StyleValue → ℕ → ℤ
 run_demerits style run = option_map_or (λ (it : Run). pos it.demerits) (slice_get style.runs run) (pos 0)
 
 -- each float pays by how long it waited
-abbrev pub float_demerits : Style → (ℕ × ℕ → ℕ) → List (ℕ × ℕ) → ℤ
+abbrev pub float_demerits : StyleValue → (ℕ × ℕ → ℕ) → List (ℕ × ℕ) → ℤ
 float_demerits style wait floats = whole_sum_by (λ (float : ℕ × ℕ). pos (slice_index (distance_table style float.0) (wait float))) floats
 
 abbrev pub differs : ℕ → ℕ → Bool
@@ -51,5 +51,5 @@ abbrev pub cost_of : Document → List PageMove → ℤ
 cost_of doc [] = pos 0
 cost_of doc (m ∷ ms) = cost_of doc ms +ℤ column_cost (context doc m ms) (next_column doc.style ms) (fit_of doc ms) (distance doc m ms) (added doc (placed_of doc.style ms) m)
 
-unfoldable pub cost : GalleyValue → Style → Pagination → ℤ
+unfoldable pub cost : GalleyValue → StyleValue → Pagination → ℤ
 cost galley style plan = cost_of (document galley style) (columns plan)

@@ -5,18 +5,18 @@ use Rattle.std.specs.Option.{option_map_or}
 use Rattle.pg_list.specs.declared.blocks.Block.{Block}
 use Rattle.pg_list.specs.declared.item.Item.{Item}
 use Rattle.pg_list.specs.declared.item.Item.TheVariants.{Insert}
-use Rattle.pg_style.specs.declared.style.Style.{Style}
+use Rattle.pg_style.specs.Values.{StyleValue}
 use Rattle.pg_style.specs.declared.style.Class.{Class}
 use Rattle.pg_style.specs.declared.style.Kind.{Kind}
 use Rattle.pg_style.specs.declared.style.Kind.TheVariants.{Note, Float}
 use Rattle.pg_style.specs.declared.style.Area.{Area}
 use Rattle.pg_style.specs.declared.style.Area.TheVariants.{Top, Bottom, Both, Wide}
-use Rattle.pg_style.specs.declared.style.AreaRule.{AreaRule}
+use Rattle.pg_style.specs.Values.{AreaRuleValue}
 use Rattle.pg_flat.specs.Flat.{flat, items_before}
 use Rattle.pg_list.specs.declared.galley.Place.{Place}
 use Rattle.pg_flat.specs.Whole.{whole_sum_by}
 
-abbrev pub class_of : Style → ℕ → Option Class
+abbrev pub class_of : StyleValue → ℕ → Option Class
 class_of style number = find (λ (class : Class). class.number == number) style.classes
 
 -- the area and the distance table of a float class
@@ -24,11 +24,11 @@ abbrev pub float_kind : Kind → Option (Area × List ℕ)
 float_kind (Note skip limit) = None
 float_kind (Float area distance) = Some (area, distance)
 
-abbrev pub float_class : Style → ℕ → Option (Area × List ℕ)
+abbrev pub float_class : StyleValue → ℕ → Option (Area × List ℕ)
 float_class style number = option_map_or (λ (class : Class). float_kind class.kind) (class_of style number) None
 
 -- the numbers of the float classes, in increasing order
-abbrev pub float_numbers : Style → List ℕ
+abbrev pub float_numbers : StyleValue → List ℕ
 float_numbers style = filter (λ number. option_map_or (λ (kind : Area × List ℕ). true) (float_class style number) false) (range_with_len 0 255)
 
 -- the size of an insert of a class
@@ -40,15 +40,15 @@ abbrev pub sizes_of : ℕ → List Item → List ℤ
 sizes_of number items = filter_map (insert_size number) items
 
 -- for each float class, the sizes of its floats in order
-abbrev pub floats : List Block → Style → List (List ℤ)
+abbrev pub floats : List Block → StyleValue → List (List ℤ)
 floats blocks style = map (λ number. sizes_of number (flat blocks [])) (float_numbers style)
 
 -- for each float class, how many of its floats are called before a place
-abbrev pub called : List Block → Style → Place → List ℕ
+abbrev pub called : List Block → StyleValue → Place → List ℕ
 called blocks style at = map (λ number. length (sizes_of number (items_before blocks at))) (float_numbers style)
 
 -- the slots of the float classes
-abbrev pub slots : Style → List ℕ
+abbrev pub slots : StyleValue → List ℕ
 slots style = range_with_len 0 (length (float_numbers style))
 
 -- an entry that a count list lacks is 0
@@ -56,7 +56,7 @@ abbrev pub entry : List ℕ → ℕ → ℕ
 entry counts slot = slice_index counts slot
 
 -- counts added, class by class
-abbrev pub plus_counts : Style → List ℕ → List ℕ → List ℕ
+abbrev pub plus_counts : StyleValue → List ℕ → List ℕ → List ℕ
 plus_counts style a b = map (λ slot. entry a slot + entry b slot) (slots style)
 
 -- the floats of a slot from one number on, as slots and numbers
@@ -65,7 +65,7 @@ numbered slot n zero = []
 numbered slot n (suc k) = (slot, n) ∷ numbered slot (n + 1) k
 
 -- the floats that the one counts leave and the others take
-abbrev pub floats_between : Style → List ℕ → List ℕ → List (ℕ × ℕ)
+abbrev pub floats_between : StyleValue → List ℕ → List ℕ → List (ℕ × ℕ)
 floats_between style a b = flat_map (λ (slot : ℕ). numbered slot (entry a slot) (entry b slot - entry a slot)) (slots style)
 
 -- the counts deal out the next floats, class by class
@@ -85,7 +85,7 @@ has_all_from slot (sizes ∷ floats) before counts =
 abbrev pub has_all : List (List ℤ) → List ℕ → List ℕ → Bool
 has_all floats before counts = has_all_from 0 floats before counts
 
-abbrev pub area_height : AreaRule → List ℤ → ℤ
+abbrev pub area_height : AreaRuleValue → List ℤ → ℤ
 area_height rule [] = pos 0
 area_height rule (size ∷ sizes) = (whole_sum_by (λ (z : ℤ). z) (size ∷ sizes) +ℤ (rule.sep *ℤ pos (length sizes))) +ℤ rule.gap
 
@@ -93,11 +93,11 @@ abbrev pub total_count : List ℕ → ℕ
 total_count counts = sum_by (λ (n : ℕ). n) counts
 
 -- how many floats counts deal out; an entry beyond the classes deals out none
-abbrev pub float_count : Style → List ℕ → ℕ
+abbrev pub float_count : StyleValue → List ℕ → ℕ
 float_count style counts = sum_by (λ (slot : ℕ). entry counts slot) (slots style)
 
 -- a count for each class, and at most so many floats, each of a class that the area takes
-abbrev pub is_area_allowed : Style → (Area → Bool) → ℕ → List ℕ → Bool
+abbrev pub is_area_allowed : StyleValue → (Area → Bool) → ℕ → List ℕ → Bool
 is_area_allowed style takes limit counts =
     (length counts == length (float_numbers style)) && nat_le (total_count counts) limit && list_all (λ (slot : ℕ). (entry counts slot == 0) || option_map_or (λ number. option_map_or (λ (kind : Area × List ℕ). takes kind.0) (float_class style number) false) (slice_get (float_numbers style) slot) true) (range_with_len 0 (length counts))
 

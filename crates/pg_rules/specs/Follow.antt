@@ -5,7 +5,7 @@ use Rattle.pg_plan.specs.declared.pages.PageMove.{PageMove}
 use Rattle.pg_plan.specs.declared.states.Side.{Side}
 use Rattle.pg_plan.specs.declared.states.Side.TheVariants.{L, R, S}
 use Rattle.pg_plan.specs.declared.states.State.{State}
-use Rattle.pg_style.specs.declared.style.Style.{Style}
+use Rattle.pg_style.specs.Values.{StyleValue}
 use Rattle.pg_rules.specs.ColumnRules.{does_fit, is_well_formed, is_tolerable, passes_breaks, has_room, has_counts, keeps_note_limits, keeps_looseness}
 use Rattle.pg_rules.specs.Cost.{column_cost}
 use Rattle.pg_flat.specs.Flat.{is_same_place}
@@ -39,7 +39,7 @@ abbrev pub age_in : Document → State → ℕ × ℕ → ℕ
 age_in doc u float = if is_called doc u.place float then age_among (waiting_in doc u) u.ages float else 0
 
 -- the column is the last that its page may have
-abbrev pub fills_page : Style → State → Bool
+abbrev pub fills_page : StyleValue → State → Bool
 fills_page style u = u.column == style.columns
 
 abbrev pub other_side : Side → Side
@@ -56,7 +56,7 @@ abbrev pub waiting_behind : Document → State → PageMove → List (ℕ × ℕ
 waiting_behind doc u m = floats_between doc.style (placed_after doc.style u.placed m) (called doc.blocks doc.style m.column.to)
 
 -- how many pages end with the column
-abbrev pub turns : Style → State → ℕ
+abbrev pub turns : StyleValue → State → ℕ
 turns style u = if fills_page style u then 1 else 0
 
 abbrev pub next_state : Document → State → PageMove → State

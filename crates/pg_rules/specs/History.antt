@@ -5,7 +5,7 @@ use Rattle.pg_list.specs.Places.{place}
 use Rattle.pg_plan.specs.declared.pages.PageMove.{PageMove}
 use Rattle.pg_plan.specs.declared.states.Side.{Side}
 use Rattle.pg_plan.specs.declared.states.Side.TheVariants.{L, R, S}
-use Rattle.pg_style.specs.declared.style.Style.{Style}
+use Rattle.pg_style.specs.Values.{StyleValue}
 use Rattle.pg_style.specs.declared.style.First.{First}
 use Rattle.pg_style.specs.declared.style.First.TheVariants.{Left, Right, Single}
 use Rattle.pg_rules.specs.ColumnRules.{text_fitness}
@@ -16,12 +16,12 @@ use Rattle.std.specs.Option.{option_map_or}
 -- ---- pages: a page goes on until it has all its columns
 
 -- the number of the next column in its page
-abbrev pub next_column : Style → List PageMove → ℕ
+abbrev pub next_column : StyleValue → List PageMove → ℕ
 next_column style [] = 1
 next_column style (m ∷ ms) = if next_column style ms == style.columns then 1 else next_column style ms + 1
 
 -- the number of the next column's page
-abbrev pub next_page : Style → List PageMove → ℕ
+abbrev pub next_page : StyleValue → List PageMove → ℕ
 next_page style [] = 1
 next_page style (m ∷ ms) = if next_column style ms == style.columns then next_page style ms + 1 else next_page style ms
 
@@ -34,7 +34,7 @@ abbrev pub is_right : Side → Bool
 is_right R = true
 is_right _ = false
 
-abbrev pub next_side : Style → List PageMove → Side
+abbrev pub next_side : StyleValue → List PageMove → Side
 next_side style ms = side_of style.first (next_page style ms)
 
 abbrev pub last_run : List PageMove → Option ℕ
@@ -42,7 +42,7 @@ last_run [] = None
 last_run (m ∷ ms) = Some m.run
 
 -- the run that the next column's page must have: that of its first column, or of the other page of its spread
-abbrev pub next_run : Style → List PageMove → Option ℕ
+abbrev pub next_run : StyleValue → List PageMove → Option ℕ
 next_run style ms = if (next_column style ms == 1) && not (is_right (next_side style ms)) then None else last_run ms
 
 -- ---- places
@@ -55,14 +55,14 @@ place_of (m ∷ ms) = m.column.to
 -- ---- floats
 
 -- the counts with those of a column added, its page's wide floats first
-abbrev pub with_wide : Style → List ℕ → PageMove → List ℕ
+abbrev pub with_wide : StyleValue → List ℕ → PageMove → List ℕ
 with_wide style placed m = plus_counts style placed m.wide
 
-abbrev pub placed_after : Style → List ℕ → PageMove → List ℕ
+abbrev pub placed_after : StyleValue → List ℕ → PageMove → List ℕ
 placed_after style placed m = plus_counts style (plus_counts style (with_wide style placed m) m.column.top) m.column.bottom
 
 -- how many floats of each class are placed
-abbrev pub placed_of : Style → List PageMove → List ℕ
+abbrev pub placed_of : StyleValue → List PageMove → List ℕ
 placed_of style [] = map (λ (slot : ℕ). 0) (slots style)
 placed_of style (m ∷ ms) = placed_after style (placed_of style ms) m
 

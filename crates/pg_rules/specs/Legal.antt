@@ -7,7 +7,7 @@ use Rattle.pg_plan.specs.declared.pages.PageMove.{PageMove}
 use Rattle.pg_plan.specs.Order.{columns_of, columns}
 use Rattle.pg_plan.specs.declared.pages.Page.{Page}
 use Rattle.pg_plan.specs.declared.pages.Pagination.{Pagination}
-use Rattle.pg_style.specs.declared.style.Style.{Style}
+use Rattle.pg_style.specs.Values.{StyleValue}
 use Rattle.pg_style.specs.declared.style.Area.{Area}
 use Rattle.pg_flat.specs.Break.{is_spent}
 use Rattle.pg_rules.specs.ColumnRules.{does_fit, is_well_formed, is_tolerable, passes_breaks, has_room, has_counts, has_dealable, keeps_note_limits, keeps_looseness}
@@ -37,11 +37,11 @@ abbrev pub has_callouts : Document → List ℕ → PageMove → Bool
 has_callouts doc placed m = list_all (is_called doc m.column.to) (added doc placed m)
 
 -- the run exists, and is the one that must be
-abbrev pub has_run : Style → Option ℕ → PageMove → Bool
+abbrev pub has_run : StyleValue → Option ℕ → PageMove → Bool
 has_run style must m = is_some (slice_get style.runs m.run) && option_map_or (λ (run : ℕ). m.run == run) must true
 
 -- the demerits of a float by its distance
-abbrev pub distance_table : Style → ℕ → List ℕ
+abbrev pub distance_table : StyleValue → ℕ → List ℕ
 distance_table style slot = option_map_or (λ (number : ℕ). option_map_or (λ (kind : Area × List ℕ). kind.1) (float_class style number) []) (slice_get (float_numbers style) slot) []
 
 -- how many pages a float that the column adds stands behind its callout
@@ -108,7 +108,7 @@ faults_with doc pages ms at_end left =
     ∷ first_at_fault (λ m ms. keeps_looseness (context doc m ms)) ms
     ∷ []
 
-abbrev pub document : GalleyValue → Style → Document
+abbrev pub document : GalleyValue → StyleValue → Document
 document galley style = record { blocks = galley.blocks; style = style }
 
 abbrev pub faults : Document → Pagination → List (Option ℕ)
@@ -120,9 +120,9 @@ first_breach rule (None ∷ rest) = first_breach (rule + 1) rest
 first_breach rule (Some column ∷ rest) = Some (rule, column)
 
 -- the least rule that is broken, and the least column at which it is
-unfoldable pub breach : GalleyValue → Style → Pagination → Option (ℕ × ℕ)
+unfoldable pub breach : GalleyValue → StyleValue → Pagination → Option (ℕ × ℕ)
 breach galley style plan = first_breach 1 (faults (document galley style) plan)
 
 -- no rule is broken
-pub record Legal (galley : GalleyValue) (style : Style) (plan : Pagination) : Type 0 where
+pub record Legal (galley : GalleyValue) (style : StyleValue) (plan : Pagination) : Type 0 where
   pub unbroken : breach galley style plan ≡ None

@@ -6,22 +6,22 @@ use Rattle.pg_list.specs.declared.blocks.Block.{Block}
 use Rattle.pg_list.specs.declared.item.Item.{Item}
 use Rattle.pg_plan.specs.declared.pages.Column.{Column}
 use Rattle.pg_flat.specs.Flat.{FlatItem, flat_items_at, steps_to, is_same_place}
-use Rattle.pg_style.specs.declared.style.Style.{Style}
+use Rattle.pg_style.specs.Values.{StyleValue}
 use Rattle.pg_style.specs.declared.style.Run.{Run}
 use Rattle.pg_style.specs.declared.style.Class.{Class}
 use Rattle.pg_style.specs.declared.style.Kind.{Kind}
 use Rattle.pg_style.specs.declared.style.Kind.TheVariants.{Note, Float}
-use Rattle.pg_style.specs.declared.style.AreaRule.{AreaRule}
+use Rattle.pg_style.specs.Values.{AreaRuleValue}
 use Rattle.pg_flat.specs.Whole.{whole_sum_by, whole_sum}
 use Rattle.pg_rules.specs.Floats.{dealt, has_all, floats, area_height, is_area_allowed, takes_top, takes_bottom, takes_in_column, sizes_of, plus_counts}
 
 -- the galley's blocks and the style
 pub record Document : Type 0 where
   pub blocks : List Block
-  pub style : Style
+  pub style : StyleValue
 
 -- a run that does not exist adds nothing
-abbrev pub extra : Style → ℕ → ℤ
+abbrev pub extra : StyleValue → ℕ → ℤ
 extra style run = option_map_or (λ (it : Run). it.extra) (slice_get style.runs run) (pos 0)
 
 -- a column, its page's run and the height of its page's wide area, and the floats placed before its top area
@@ -64,7 +64,7 @@ is_bottom_allowed it =
     else is_area_allowed it.document.style takes_in_column it.document.style.float_column.count it.column.bottom
 
 -- an area with counts that are not allowed, or with a float that is not there, has height 0
-abbrev pub checked_height : List (List ℤ) → Bool → AreaRule → List ℕ → List ℕ → ℤ
+abbrev pub checked_height : List (List ℤ) → Bool → AreaRuleValue → List ℕ → List ℕ → ℤ
 checked_height floats allowed rule before counts = if allowed && has_all floats before counts then area_height rule (dealt floats before counts) else pos 0
 
 abbrev pub top_height : ColumnContext → ℤ
@@ -87,12 +87,12 @@ abbrev pub class_notes : List Item → ℕ → Kind → ℤ
 class_notes items number (Note skip limit) = if length (sizes_of number items) == 0 then pos 0 else (skip +ℤ whole_sum (sizes_of number items))
 class_notes items number (Float area distance) = pos 0
 
-abbrev pub notes : Style → List Item → ℤ
+abbrev pub notes : StyleValue → List Item → ℤ
 notes style items = whole_sum_by (λ (class : Class). class_notes items class.number class.kind) style.classes
 
 abbrev pub is_within_limit : List Item → ℕ → Kind → Bool
 is_within_limit items number (Note skip limit) = int_le (whole_sum (sizes_of number items)) limit
 is_within_limit items number (Float area distance) = true
 
-abbrev pub are_notes_within_limits : Style → List Item → Bool
+abbrev pub are_notes_within_limits : StyleValue → List Item → Bool
 are_notes_within_limits style items = list_all (λ (class : Class). is_within_limit items class.number class.kind) style.classes

@@ -6,7 +6,7 @@ use Rattle.pg_plan.specs.declared.pages.PageMove.{PageMove}
 use Rattle.pg_plan.specs.Order.{columns}
 use Rattle.pg_plan.specs.declared.pages.Pagination.{Pagination}
 use Rattle.pg_plan.specs.declared.states.State.{State}
-use Rattle.pg_style.specs.declared.style.Style.{Style}
+use Rattle.pg_style.specs.Values.{StyleValue}
 use Rattle.pg_rules.specs.Floats.{called, floats_between}
 use Rattle.pg_rules.specs.History.{next_column, next_page, next_side, next_run, place_of, placed_of, wide_of, fit_of, calling_page}
 use Rattle.pg_rules.specs.Legal.{faults_with, first_breach, distance_table, document, is_spent_at, has_dealt_all}
@@ -32,18 +32,18 @@ state_at doc ms = record {
   ages = map (age doc ms) (waiting doc ms);
 }
 
-unfoldable pub state_of : GalleyValue → Style → Pagination → State
+unfoldable pub state_of : GalleyValue → StyleValue → Pagination → State
 state_of galley style plan = state_at (document galley style) (columns plan)
 
 -- no float has waited too long
 abbrev pub can_wait : Document → List PageMove → Bool
 can_wait doc ms = list_all (λ (float : ℕ × ℕ). nat_lt (age doc ms float) (length (distance_table doc.style float.0))) (waiting doc ms)
 
-unfoldable pub prefix_breach : GalleyValue → Style → Pagination → Option (ℕ × ℕ)
+unfoldable pub prefix_breach : GalleyValue → StyleValue → Pagination → Option (ℕ × ℕ)
 prefix_breach galley style plan = first_breach 1 (faults_with (document galley style) (reverse plan.pages) (columns plan) None None)
 
 -- a beginning of a pagination: it need not be at the galley's end, nor have placed all floats, but none has waited too long
-pub record Prefix (galley : GalleyValue) (style : Style) (plan : Pagination) : Type 0 where
+pub record Prefix (galley : GalleyValue) (style : StyleValue) (plan : Pagination) : Type 0 where
   pub unbroken : prefix_breach galley style plan ≡ None
   pub can_wait : IsTrue (can_wait (document galley style) (columns plan))
 
