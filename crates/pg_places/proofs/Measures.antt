@@ -13,18 +13,16 @@ use Rattle.pg_list.specs.Places.{place, picked_items, items_around}
 use Rattle.pg_list.specs.Shapes.{IsBlock, HaveInserts, inserts}
 use Rattle.pg_flat.specs.Flat.{FlatItem, is_same_place, end_of, items_before, flat, flat_items_from}
 use Rattle.pg_rules.specs.Floats.{sizes_of, insert_size}
-use Rattle.pg_laws.specs.PageSpace.{IsPlace, far}
-use Rattle.pg_laws.specs.Past.{Past, LaterIn, IsPast}
-use Rattle.pg_laws.proofs.Beginnings.{same_place}
-use Rattle.pg_laws.proofs.Places.{around_block, around_is}
+use Rattle.pg_places.specs.Past.{IsPast, IsPlace, LaterIn, Past, far}
+use Rattle.pg_places.proofs.Among.{by_bool}
+use Rattle.pg_places.proofs.Places.{around_block, around_is}
+use Rattle.pg_places.proofs.Tests.{if_false, if_true, same_place}
 use Rattle.std.proofs.lemmas.Option.{slice_get_within}
 use Rattle.pg_flat.specs.Flat.{later_flat_items, variant_flat_items}
 use Rattle.std.proofs.lemmas.List.{take-append-drop, map-append}
 use Rattle.std.proofs.lemmas.List.Elements.{filter_map-append}
 use Rattle.std.specs.List.{cons_option}
 use Rattle.pg_list.specs.declared.item.Item.TheVariants.{BoxItem, Rule, Glue, Kern, Penalty, Insert, Carry}
-use Rattle.pg_laws.proofs.Ages.{if_true, if_false}
-use Rattle.pg_laws.proofs.Among.{by_bool}
 use Rattle.std.proofs.lemmas.Bool.Decides.{nat_tests}
 
 count_more : (blocks : List Block) (n m : ℕ) (b : Block) → n < m → slice_get blocks n ≡ Some b → item_count (take n blocks) + block_size b ≤ item_count (take m blocks)

@@ -8,22 +8,21 @@ use Rattle.pg_list.specs.declared.galley.Place.{Place}
 use Rattle.pg_list.specs.Shapes.{IsBlock}
 use Rattle.pg_plan.specs.declared.pages.PageMove.{PageMove}
 use Rattle.pg_plan.specs.declared.states.State.{State}
-use Rattle.pg_style.specs.declared.style.Style.{Style}
+use Rattle.pg_style.specs.Values.{StyleValue}
 use Rattle.pg_rules.specs.ColumnRules.{is_idle}
 use Rattle.pg_flat.specs.Flat.{is_same_place}
 use Rattle.pg_rules.specs.Floats.{entry, total_count, float_count, plus_counts, float_numbers}
 use Rattle.pg_rules.specs.Follow.{Follow, context_in, wide_in, next_state}
 use Rattle.pg_rules.specs.History.{placed_after, with_wide, made_wide}
-use Rattle.pg_laws.specs.Past.{Past}
-use Rattle.pg_rules.specs.Room.{Document, is_text, is_top_allowed, is_bottom_allowed}
-use Rattle.pg_laws.proofs.Simulation.{place_refl}
-use Rattle.pg_laws.specs.PageSpace.{IsState, IsPlace, far, rank}
-use Rattle.pg_laws.proofs.Among.{both_of, by_bool}
-use Rattle.pg_laws.proofs.Ages.{eq_true, eq_refl, if_true, if_false, less_true}
-use Rattle.pg_laws.proofs.Beginnings.{same_place}
-use Rattle.pg_laws.proofs.GalleyFacts.{fit_ends}
-use Rattle.pg_laws.proofs.Measures.{far_rises, past_within}
+use Rattle.pg_places.specs.Past.{IsPlace, Past, far}
+use Rattle.pg_places.proofs.Among.{both_of, by_bool}
+use Rattle.pg_places.proofs.Callouts.{fit_ends}
+use Rattle.pg_places.proofs.Measures.{far_rises, past_within}
+use Rattle.pg_places.proofs.Tests.{eq_refl, eq_true, if_false, if_true, less_true, place_refl, same_place}
+use Rattle.pg_laws.specs.OwnStates.{IsState}
 use Rattle.pg_laws.proofs.PagesLaws.{wide_long}
+use Rattle.pg_space.specs.PageSpace.{rank}
+use Rattle.pg_rules.specs.Room.{Document, is_text, is_top_allowed, is_bottom_allowed}
 
 total_cons : (x : ℕ) (xs : List ℕ) → total_count (x ∷ xs) ≡ x + total_count xs
 total_cons x xs = sum_by-cons (λ (n : ℕ). n) x xs
@@ -41,7 +40,7 @@ zip_total F f (x ∷ xs) (y ∷ ys) l h =
     let u : total_count (y ∷ ys) ≡ y + total_count ys = total_cons y ys in
     omega arith
 
-plus_total : (style : Style) (a b : List ℕ) → length a ≡ length (float_numbers style) → length b ≡ length (float_numbers style) → total_count (plus_counts style a b) ≡ total_count a + total_count b
+plus_total : (style : StyleValue) (a b : List ℕ) → length a ≡ length (float_numbers style) → length b ≡ length (float_numbers style) → total_count (plus_counts style a b) ≡ total_count a + total_count b
 plus_total style a b l k = subst (λ (n : ℕ). total_count (map (λ (slot : ℕ). entry a slot + entry b slot) (range_with_len 0 n)) ≡ total_count a + total_count b) l
     (zip_total (λ (slot : ℕ). entry a slot + entry b slot) 0 a b (l ∙ sym k) (λ i. (let e : 0 + i ≡ i = omega arith in ap (λ (n : ℕ). entry a n + entry b n) e)))
 
@@ -56,13 +55,13 @@ count_total F f (x ∷ xs) h =
     omega arith
 
 -- a list with an entry for each class deals out all that it counts
-float_total : (style : Style) (counts : List ℕ) → length counts ≡ length (float_numbers style) → float_count style counts ≡ total_count counts
+float_total : (style : StyleValue) (counts : List ℕ) → length counts ≡ length (float_numbers style) → float_count style counts ≡ total_count counts
 float_total style counts l = subst (λ (n : ℕ). sum_by (λ (slot : ℕ). entry counts slot) (range_with_len 0 n) ≡ total_count counts) l (count_total (λ (slot : ℕ). entry counts slot) 0 counts (λ i. (let e : 0 + i ≡ i = omega arith in ap (entry counts) e)))
 
-plus_long : (style : Style) (a b : List ℕ) → length (plus_counts style a b) ≡ length (float_numbers style)
+plus_long : (style : StyleValue) (a b : List ℕ) → length (plus_counts style a b) ≡ length (float_numbers style)
 plus_long style a b = length-map-range_with_len (λ (slot : ℕ). entry a slot + entry b slot) 0 (length (float_numbers style))
 
-pub after_total : (style : Style) (placed : List ℕ) (m : PageMove) → length placed ≡ length (float_numbers style) → length m.wide ≡ length (float_numbers style) → length m.column.top ≡ length (float_numbers style) → length m.column.bottom ≡ length (float_numbers style) →
+pub after_total : (style : StyleValue) (placed : List ℕ) (m : PageMove) → length placed ≡ length (float_numbers style) → length m.wide ≡ length (float_numbers style) → length m.column.top ≡ length (float_numbers style) → length m.column.bottom ≡ length (float_numbers style) →
     total_count (placed_after style placed m) ≡ ((total_count placed + total_count m.wide) + total_count m.column.top) + total_count m.column.bottom
 after_total style placed m p doc t b =
     let x : total_count (with_wide style placed m) ≡ total_count placed + total_count m.wide = plus_total style placed m.wide p doc in

@@ -13,8 +13,8 @@ use Rattle.pg_list.specs.declared.galley.Place.{Place}
 use Rattle.pg_list.specs.Places.{place, picked_items, items_around}
 use Rattle.pg_list.specs.Shapes.{IsBlock}
 use Rattle.pg_flat.specs.Flat.{FlatItem, later_flat_items, variant_flat_items, flat_items_from, flat_items_at, fronts, picked_variants}
-use Rattle.pg_laws.proofs.Ages.{if_false}
-use Rattle.pg_laws.proofs.Places.{drop_head, begins, begins_with, pick_named, around_is}
+use Rattle.pg_places.proofs.Places.{around_is, begins, begins_with, drop_head, pick_named}
+use Rattle.pg_places.proofs.Tests.{if_false}
 
 fronts_cons : (x : FlatItem) (xs : List FlatItem) (k : ℕ) → fronts (x ∷ xs) (suc k) ≡ cond x.is_front 1 0 + fronts xs k
 fronts_cons x xs k = sum_by-cons (λ (flat_item : FlatItem). cond flat_item.is_front 1 0) x (take k xs)

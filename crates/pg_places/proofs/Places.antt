@@ -1,5 +1,5 @@
 -- Where the items from a place on stand.
-use Rattle.std.proofs.Common.{◌≡◌, refl, sym, ap, subst, ◌∙◌, ℕ, zero, suc, ◌+◌, ◌-◌, ◌≤◌, ◌<◌, ◌⊎◌, inl, inr, List, [], ◌∷◌, ◌++◌, length, drop, Bool, true, false, Option, Some, None, arith}
+use Rattle.std.proofs.Common.{◌≡◌, refl, sym, ap, subst, ◌∙◌, ℕ, zero, suc, ◌+◌, ◌-◌, ◌≤◌, ◌<◌, ◌⊎◌, inl, inr, List, [], ◌∷◌, ◌++◌, length, length-append, drop, Bool, true, false, Option, Some, None, arith}
 use Rattle.std.specs.Prelude.{◌==◌, cond, not, slice_get, nat_lt, unwrap_or, option_map}
 use Rattle.std.specs.List.{position, position_or_len, AllByRecursion}
 use Rattle.std.proofs.lemmas.Bool.Decides.{nat_tests}
@@ -14,12 +14,22 @@ use Rattle.pg_flat.specs.Flat.{FlatItem, later_flat_items, variant_flat_items, f
 use Rattle.std.specs.Option.{option_map_or}
 use Rattle.std.proofs.Common.{length-drop}
 use Rattle.std.proofs.lemmas.Option.{slice_get_within}
-use Rattle.pg_laws.proofs.Least.{picked_few}
-use Rattle.pg_laws.specs.PageSpace.{IsPlace}
-use Rattle.pg_laws.specs.Past.{IsPast}
-use Rattle.pg_laws.proofs.Among.{by_bool}
-use Rattle.pg_laws.proofs.Ages.{if_true, if_false, less_true}
-use Rattle.pg_laws.proofs.Beginnings.{same_place}
+use Rattle.pg_places.specs.Past.{IsPast, IsPlace}
+use Rattle.pg_places.proofs.Among.{by_bool}
+use Rattle.pg_places.proofs.Tests.{if_false, if_true, less_true, same_place}
+
+pub picked_few : (blocks : List Block) (picks : List ℕ) → length (picked_variants blocks picks) ≤ length picks
+picked_few [] picks = omega arith
+picked_few (One item ∷ blocks) picks = picked_few blocks picks
+picked_few (Choice variants ∷ blocks) [] = omega arith
+picked_few (Choice variants ∷ blocks) (pick ∷ picks) =
+    let one : length (option_map_or (λ (variant : Variant). variant ∷ []) (slice_get variants pick) []) ≤ 1 = at_most (slice_get variants pick) in
+    let rest : length (picked_variants blocks picks) ≤ length picks = picked_few blocks picks in
+    omega (arith, length-append (option_map_or (λ (variant : Variant). variant ∷ []) (slice_get variants pick) []) (picked_variants blocks picks))
+  where
+    at_most : (o : Option Variant) → length (option_map_or (λ (variant : Variant). variant ∷ []) o []) ≤ 1
+    at_most None = omega arith
+    at_most (Some v) = omega arith
 
 -- ---- the first place that passes
 

@@ -9,10 +9,11 @@ use Rattle.pg_rules.specs.NoWorse.{PageKey, key, is_same_key, is_no_worse, are_n
 use Rattle.pg_rules.specs.Room.{Document}
 use Rattle.pg_rules.specs.States.{state_at, is_done}
 use Rattle.pg_table.specs.Space.{Lawful, Run, Small}
-use Rattle.pg_laws.specs.PageSpace.{IsState, rank, wide_meaning}
-use Rattle.pg_laws.proofs.Among.{both, both_of}
-use Rattle.pg_laws.proofs.Order.{columns_total, column_equal}
-use Rattle.pg_laws.proofs.Simulation.{Tables, key_refl, key_same, with_ages, no_older_refl, no_older_chain, simulates}
+use Rattle.pg_places.proofs.Among.{both, both_of}
+use Rattle.pg_laws.specs.OwnStates.{FollowsToo, IsState}
+use Rattle.pg_laws.proofs.Order.{column_equal, columns_total}
+use Rattle.pg_laws.proofs.Simulation.{Tables, key_refl, key_same, no_older_chain, no_older_refl, simulates, with_ages}
+use Rattle.pg_space.specs.PageSpace.{rank, wide_meaning}
 
 -- what is left to show of places and columns
 pub record Moves (doc : Document) : Type 0 where
@@ -72,7 +73,7 @@ module _ (doc : Document) (tables : Tables doc) (moves : Moves doc) where
     one_key = λ u v ou ov p. (both_of (is_same_key (key u) (key v)) (are_no_older u.ages v.ages) p).0;
     one_rank = λ u v ou ov p. rank_key u v (key_same (key u) (key v) p);
     one_block = λ u v ou ov p. ap (λ (k : PageKey). k.place.block) (key_same (key u) (key v) p);
-    simulates = λ u v m x c ou ov p f. simulates doc tables u v m x c ov p f;
+    simulates = λ u v m x c ou ov p f. (let s : FollowsToo doc u m x c = simulates doc tables u v m x c ov p f in record { to = s.to; cost = s.cost; follow = s.follow; cheap = s.cheap; no_worse = s.no_worse });
     done = λ u v ou ov p d. subst (λ (k : PageKey). is_done doc (with_ages k []) ≡ true) (sym (keys_same u v p)) d;
     order_equal = column_equal;
     order_total = columns_total;

@@ -1,5 +1,5 @@
 -- The best picks of a column exist.
-use Rattle.std.proofs.Common.{◌≡◌, refl, sym, ap, subst, ◌∙◌, ℕ, zero, suc, ◌+◌, ◌≤◌, ◌<◌, ◌⊎◌, inl, inr, List, [], ◌∷◌, ◌++◌, map, length, length-append, Bool, true, false, Option, Some, None, arith}
+use Rattle.std.proofs.Common.{◌≡◌, refl, sym, ap, subst, ◌∙◌, ℕ, zero, suc, ◌+◌, ◌≤◌, ◌<◌, ◌⊎◌, inl, inr, List, [], ◌∷◌, ◌++◌, map, length, Bool, true, false, Option, Some, None, arith}
 use Rattle.std.specs.Prelude.{◌&&◌, ◌==◌, if◌then◌else◌, reverse, ℤ, pos, ◌+ℤ◌, ◌<ℤ◌, slice_get}
 use Rattle.std.specs.List.{flat_map, range_with_len}
 use Rattle.std.specs.Option.{option_map_or}
@@ -27,12 +27,13 @@ use Rattle.pg_rules.specs.NoWorse.{is_no_worse, is_same_key, key, are_no_older, 
 use Rattle.pg_rules.specs.Room.{Document, ColumnContext, is_text, flat_items_of, size_of}
 use Rattle.pg_table.specs.Space.{Undercuts}
 use Rattle.pg_table.proofs.Runs.{undercuts_chain}
-use Rattle.pg_laws.specs.Narrower.{IsNarrower, Instead}
-use Rattle.pg_laws.specs.PageSpace.{with_picks, keeps_text, text_cost, IsLeast, FollowBest, wide_meaning}
-use Rattle.pg_laws.proofs.Among.{Among, among_left, among_right, by_bool, both, both_of}
-use Rattle.pg_laws.proofs.Ages.{eq_true, eq_refl}
+use Rattle.pg_table.specs.Narrower.{Instead, IsNarrower}
+use Rattle.pg_places.proofs.Among.{Among, among_left, among_right, both, both_of, by_bool}
+use Rattle.pg_places.proofs.Places.{picked_few}
+use Rattle.pg_places.proofs.Tests.{eq_refl, eq_true}
 use Rattle.pg_laws.proofs.Order.{columns_total, place_total}
 use Rattle.pg_laws.proofs.Simulation.{key_same, with_ages}
+use Rattle.pg_space.specs.PageSpace.{FollowBest, IsLeast, keeps_text, text_cost, wide_meaning, with_picks}
 
 -- ---- every list of picks that names variants
 
@@ -40,19 +41,6 @@ abbrev pub pick_lists : List Block → List (List ℕ)
 pick_lists [] = [] ∷ []
 pick_lists (One item ∷ blocks) = pick_lists blocks
 pick_lists (Choice variants ∷ blocks) = [] ∷ flat_map (λ (pick : ℕ). map (λ (picks : List ℕ). pick ∷ picks) (pick_lists blocks)) (range_with_len 0 (length variants))
-
-pub picked_few : (blocks : List Block) (picks : List ℕ) → length (picked_variants blocks picks) ≤ length picks
-picked_few [] picks = omega arith
-picked_few (One item ∷ blocks) picks = picked_few blocks picks
-picked_few (Choice variants ∷ blocks) [] = omega arith
-picked_few (Choice variants ∷ blocks) (pick ∷ picks) =
-    let one : length (option_map_or (λ (variant : Variant). variant ∷ []) (slice_get variants pick) []) ≤ 1 = at_most (slice_get variants pick) in
-    let rest : length (picked_variants blocks picks) ≤ length picks = picked_few blocks picks in
-    omega (arith, length-append (option_map_or (λ (variant : Variant). variant ∷ []) (slice_get variants pick) []) (picked_variants blocks picks))
-  where
-    at_most : (o : Option Variant) → length (option_map_or (λ (variant : Variant). variant ∷ []) o []) ≤ 1
-    at_most None = omega arith
-    at_most (Some v) = omega arith
 
 among_map : {X Y : Type 0} (f : X → Y) (x : X) (xs : List X) → Among x xs → Among (f x) (map f xs)
 among_map f x [] a = absurd a

@@ -1,6 +1,6 @@
 -- The best pagination, none, and the frontier, from a table of pages.
-use Rattle.std.proofs.Common.{◌≡◌, refl, sym, ap, subst, ◌∙◌, ℕ, ◌≤◌, ◌<◌, inl, inr, List, length, true, false, None, arith}
-use Rattle.std.specs.Prelude.{◌≢◌, reverse, ℤ, ◌≤ℤ◌, Contains, nat_lt}
+use Rattle.std.proofs.Common.{◌≡◌, sym, ap, subst, ◌∙◌, ℕ, ◌≤◌, inl, inr, List, true, false, arith}
+use Rattle.std.specs.Prelude.{◌≢◌, ℤ, ◌≤ℤ◌, Contains}
 use Rattle.std.specs.Ordering.{is_gt, ordering_reverse}
 use Rattle.std.specs.declared.cmp.Ordering.{Ordering}
 use Rattle.std.specs.declared.cmp.Ordering.TheVariants.{Less, Equal, Greater}
@@ -13,75 +13,37 @@ use Rattle.pg_plan.specs.Order.{columns, column_cmp, plan_cmp}
 use Rattle.pg_plan.specs.declared.pages.Pagination.{Pagination}
 use Rattle.pg_plan.specs.declared.states.State.{State}
 use Rattle.pg_plan.specs.declared.states.Label.{Label}
-use Rattle.pg_style.specs.declared.style.Style.{Style}
+use Rattle.pg_style.specs.Values.{StyleValue}
 use Rattle.pg_rules.specs.Best.{Best}
-use Rattle.pg_rules.specs.Cost.{cost, cost_of}
-use Rattle.pg_rules.specs.Floats.{entry, called}
+use Rattle.pg_rules.specs.Cost.{cost}
 use Rattle.pg_rules.specs.Frontier.{Better, IsLabel}
-use Rattle.pg_rules.specs.History.{place_of, placed_of}
-use Rattle.pg_rules.specs.Legal.{Legal, breach, document, ends_spent, has_dealt_all, unless, is_spent_at, distance_table}
+use Rattle.pg_rules.specs.Legal.{Legal, document}
 use Rattle.pg_rules.specs.NoWorse.{is_same_key}
-use Rattle.pg_rules.specs.States.{Prefix, prefix_breach, state_of, state_at, can_wait, waiting, age, is_done}
+use Rattle.pg_rules.specs.States.{Prefix, state_of, is_done}
 use Rattle.pg_table.specs.Space.{Lawful, Reached, Run, IsRun, Undercuts}
 use Rattle.pg_table.specs.Space.{Better as BetterRun}
 use Rattle.pg_table.specs.Label.{RunOf, reached, IsTable, IsBestOf, NoneDone}
 use Rattle.pg_table.specs.Label.{IsLabel as IsTableLabel}
 use Rattle.pg_table.specs.declared.table.Entry.{Entry}
 use Rattle.pg_table.proofs.Labels.{label_run}
-use Rattle.pg_laws.specs.Narrower.{IsNarrower}
+use Rattle.pg_table.specs.Narrower.{IsNarrower}
+use Rattle.pg_table.proofs.Narrow.{run_inside}
+use Rattle.pg_table.proofs.Top.{best_wide, label_unbettered, labels_differ, none_wide, unbettered_label}
 use Rattle.pg_laws.specs.Pages.{plan_of}
-use Rattle.pg_laws.specs.PageSpace.{FollowBest, wide_meaning, page_meaning}
-use Rattle.pg_laws.specs.Stands.{Stand}
-use Rattle.pg_laws.proofs.Among.{both, both_of, all_of}
-use Rattle.pg_laws.proofs.Waiting.{IsBetween, between_at}
-use Rattle.pg_laws.proofs.Beginnings.{Facts, IsRunOf, run_of_beginning, beginning_of_run}
-use Rattle.pg_laws.proofs.Faults.{Sound, sound_of, of_sound, unless_none, none_unless}
-use Rattle.pg_laws.proofs.PagesLaws.{plan_back, plan_there, IsPlanOf}
-use Rattle.pg_laws.proofs.Narrow.{run_inside}
-use Rattle.pg_laws.proofs.Top.{best_wide, none_wide, label_unbettered, unbettered_label, labels_differ}
+use Rattle.pg_laws.proofs.Beginnings.{Facts}
+use Rattle.pg_laws.proofs.Prefixes.{IsPlanOfColumns, columns_begin, columns_plan, done_is_legal, legal_done, legal_prefix, plan_is}
+use Rattle.pg_space.specs.PageSpace.{FollowBest, page_meaning, wide_meaning}
+use Rattle.pg_space.proofs.Runs.{IsRunOf, beginning_of_run, run_of_beginning}
 
 -- ---- paginations and runs
 
-module _ (g : GalleyValue) (s : Style) (facts : Facts (document g s)) (some : 1 ≤ s.columns) where
+module _ (g : GalleyValue) (s : StyleValue) (facts : Facts (document g s)) (some : 1 ≤ s.columns) where
   abbrev reached_by : Pagination → Reached State PageMove
   reached_by plan = record { moves = columns plan; state = state_of g s plan; cost = cost g s plan }
 
-  all_placed : (ms : List PageMove) → has_dealt_all (document g s) (placed_of s ms) ≡ true → can_wait (document g s) ms ≡ true
-  all_placed ms h = all_of (λ (x : ℕ × ℕ). nat_lt (age (document g s) ms x) (length (distance_table s x.0))) (waiting (document g s) ms)
-      (λ x a.
-      let r : IsBetween s (placed_of s ms) (called g.blocks s (place_of ms)) x = between_at s (placed_of s ms) (called g.blocks s (place_of ms)) x a in
-      let t : entry (called g.blocks s (place_of ms)) x.0 ≤ entry (placed_of s ms) x.0 = facts.total (place_of ms) (placed_of s ms) x.0 r.slot h in
-      let p : entry (placed_of s ms) x.0 ≤ x.1 = r.from in
-      let q : x.1 < entry (called g.blocks s (place_of ms)) x.0 = r.to in
-      absurd (omega arith))
-
-  pub prefix_sound : (plan : Pagination) → Prefix g s plan → Sound (document g s) (reverse plan.pages) (columns plan) None None
-  unfolding prefix_breach
-  prefix_sound plan p = sound_of (document g s) (reverse plan.pages) (columns plan) None None p.unbroken
-
   pub prefix_run : (plan : Pagination) → Prefix g s plan → IsRun (wide_meaning (document g s)) (reached_by plan)
   unfolding state_of cost
-  prefix_run plan p = run_of_beginning (document g s) facts (columns plan) (record { stand = (prefix_sound plan p).stand; waits = p.can_wait })
-
-  legal_sound : (plan : Pagination) → Legal g s plan → Sound (document g s) (reverse plan.pages) (columns plan) (unless (ends_spent (document g s) (columns plan)) (length (columns plan))) (unless (has_dealt_all (document g s) (placed_of s (columns plan))) (length (columns plan)))
-  unfolding breach
-  legal_sound plan l = sound_of (document g s) (reverse plan.pages) (columns plan) _ _ l.unbroken
-
-  -- a legal pagination is a beginning
-  pub legal_prefix : (plan : Pagination) → Legal g s plan → Prefix g s plan
-  unfolding prefix_breach
-  legal_prefix plan l =
-      let a : Sound (document g s) (reverse plan.pages) (columns plan) (unless (ends_spent (document g s) (columns plan)) (length (columns plan))) (unless (has_dealt_all (document g s) (placed_of s (columns plan))) (length (columns plan))) = legal_sound plan l in
-      record {
-        unbroken = of_sound (document g s) (reverse plan.pages) (columns plan) None None (record { filled = a.filled; stand = a.stand; ended = refl; dealt = refl });
-        can_wait = all_placed (columns plan) (unless_none _ _ a.dealt);
-      }
-
-  pub legal_done : (plan : Pagination) → Legal g s plan → is_done (document g s) (state_of g s plan) ≡ true
-  unfolding state_of
-  legal_done plan l =
-      let a : Sound (document g s) (reverse plan.pages) (columns plan) (unless (ends_spent (document g s) (columns plan)) (length (columns plan))) (unless (has_dealt_all (document g s) (placed_of s (columns plan))) (length (columns plan))) = legal_sound plan l in
-      both (is_spent_at (document g s) (place_of (columns plan))) (has_dealt_all (document g s) (placed_of s (columns plan))) (unless_none _ _ a.ended) (unless_none _ _ a.dealt)
+  prefix_run plan p = run_of_beginning (document g s) facts (columns plan) (columns_begin g s facts some plan p)
 
   -- the pagination of a run
   pub record IsPlanOfRun (ms : List PageMove) (v : State) (c : ℤ) : Type 0 where
@@ -91,31 +53,16 @@ module _ (g : GalleyValue) (s : Style) (facts : Facts (document g s)) (some : 1 
     pub price : cost g s (plan_of s ms) ≡ c
 
   pub run_plan : (ms : List PageMove) (v : State) (c : ℤ) → Run (wide_meaning (document g s)) ms v c → IsPlanOfRun ms v c
-  unfolding prefix_breach state_of cost
   run_plan ms v c run =
       let b : IsRunOf (document g s) ms v c = beginning_of_run (document g s) facts ms v c run in
-      let p : IsPlanOf s ms = plan_there (document g s) some ms b.beginning.stand in
-      record {
-        columns_are = p.columns;
-        prefix = record {
-          unbroken = of_sound (document g s) (reverse (plan_of s ms).pages) (columns (plan_of s ms)) None None (record { filled = p.filled; stand = subst (Stand (document g s)) (sym p.columns) b.beginning.stand; ended = refl; dealt = refl });
-          can_wait = subst (λ (ns : List PageMove). can_wait (document g s) ns ≡ true) (sym p.columns) b.beginning.waits;
-        };
-        state = ap (state_at (document g s)) p.columns ∙ sym b.state;
-        price = ap (cost_of (document g s)) p.columns ∙ sym b.cost;
-      }
+      let p : IsPlanOfColumns g s facts some ms = columns_plan g s facts some ms b.beginning in
+      record { columns_are = p.columns_are; prefix = p.prefix; state = p.state ∙ sym b.state; price = p.price ∙ sym b.cost }
 
   -- a run that ends done is a legal pagination
   pub done_legal : (ms : List PageMove) (v : State) (c : ℤ) → Run (wide_meaning (document g s)) ms v c → is_done (document g s) v ≡ true → Legal g s (plan_of s ms)
-  unfolding breach state_of
   done_legal ms v c run done =
       let r : IsPlanOfRun ms v c = run_plan ms v c run in
-      let a : Sound (document g s) (reverse (plan_of s ms).pages) (columns (plan_of s ms)) None None = prefix_sound (plan_of s ms) r.prefix in
-      let d = both_of (is_spent_at (document g s) (place_of (columns (plan_of s ms)))) (has_dealt_all (document g s) (placed_of s (columns (plan_of s ms)))) (subst (λ (u : State). is_done (document g s) u ≡ true) (sym r.state) done) in
-      record { unbroken = of_sound (document g s) (reverse (plan_of s ms).pages) (columns (plan_of s ms)) _ _ (record { filled = a.filled; stand = a.stand; ended = none_unless _ _ d.0; dealt = none_unless _ _ d.1 }) }
-
-  pub plan_is : (plan : Pagination) → Prefix g s plan → plan_of s (columns plan) ≡ plan
-  plan_is plan p = plan_back s plan (prefix_sound plan p).filled
+      done_is_legal g s facts some (plan_of s ms) r.prefix (subst (λ (u : State). is_done (document g s) u ≡ true) (sym r.state) done)
 
   -- ---- from a table
 
@@ -141,7 +88,7 @@ module _ (g : GalleyValue) (s : Style) (facts : Facts (document g s)) (some : 1 
     solve_best i b among ms of =
         let run : Run (wide_meaning (document g s)) ms b.entry.state b.entry.cost = entry_run b.entry ms among of in
         let r : IsPlanOfRun ms b.entry.state b.entry.cost = run_plan ms b.entry.state b.entry.cost run in
-        let under : (other : Pagination) → Legal g s other → Undercuts column_cmp b.entry.cost ms (cost g s other) (columns other) = (λ (other : Pagination) (l : Legal g s other). best_wide is_same_key (wide_meaning (document g s)) law (FollowBest (document g s)) narrow es table i b (reached_by other) (prefix_run other (legal_prefix other l)) (legal_done other l) ms of) in (
+        let under : (other : Pagination) → Legal g s other → Undercuts column_cmp b.entry.cost ms (cost g s other) (columns other) = (λ (other : Pagination) (l : Legal g s other). best_wide is_same_key (wide_meaning (document g s)) law (FollowBest (document g s)) narrow es table i b (reached_by other) (prefix_run other (legal_prefix g s facts some other l)) (legal_done g s facts some other l) ms of) in (
           record {
             legal = done_legal ms b.entry.state b.entry.cost run b.done;
             least = λ other l. (let k : b.entry.cost ≤ℤ cost g s other = cheap b.entry.cost (cost g s other) ms (columns other) (under other l) in subst (λ (z : ℤ). z ≤ℤ cost g s other) (sym r.price) k);
@@ -153,7 +100,7 @@ module _ (g : GalleyValue) (s : Style) (facts : Facts (document g s)) (some : 1 
 
     -- with no done label no pagination is legal
     pub solve_none : NoneDone (page_meaning (document g s)) es → (plan : Pagination) → Legal g s plan → ⊥
-    solve_none n plan l = none_wide is_same_key (wide_meaning (document g s)) law (FollowBest (document g s)) narrow es table n (reached_by plan) (prefix_run plan (legal_prefix plan l)) (legal_done plan l)
+    solve_none n plan l = none_wide is_same_key (wide_meaning (document g s)) law (FollowBest (document g s)) narrow es table n (reached_by plan) (prefix_run plan (legal_prefix g s facts some plan l)) (legal_done g s facts some plan l)
 
     better_run : (a b : Pagination) → Better g s a b → BetterRun (wide_meaning (document g s)) (reached_by a) (reached_by b)
     better_run a b p = record { no_worse = p.state; undercuts = p.cost }
@@ -171,7 +118,7 @@ module _ (g : GalleyValue) (s : Style) (facts : Facts (document g s)) (some : 1 
           cost = r.price;
           unbettered = λ other p better.
               (let is : reached_by other ≡ reached e l.moves = label_unbettered is_same_key (wide_meaning (document g s)) law (FollowBest (document g s)) narrow es table e l.moves (reached_by other) among l.run_of (prefix_run other p) (subst (λ (x : Reached State PageMove). BetterRun (wide_meaning (document g s)) (reached_by other) x) same (better_run other (plan_of s l.moves) better)) in
-              sym (plan_is other p) ∙ ap (λ (x : Reached State PageMove). plan_of s x.moves) is);
+              sym (plan_is g s facts some other p) ∙ ap (λ (x : Reached State PageMove). plan_of s x.moves) is);
         }
       where
         same_reached : (ms ns : List PageMove) (u v : State) (c d : ℤ) → ms ≡ ns → u ≡ v → c ≡ d → ◌≡◌ {A = Reached State PageMove} (record { moves = ms; state = u; cost = c }) (record { moves = ns; state = v; cost = d })

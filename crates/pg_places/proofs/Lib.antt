@@ -1,0 +1,6 @@
+pub mod Among
+pub mod Tests
+pub mod Places
+pub mod Measures
+pub mod Callouts
+pub mod Continues

@@ -1,0 +1,5 @@
+pub mod Runs
+pub mod Least
+pub mod SpaceLaws
+pub mod Rank
+pub mod Solve
