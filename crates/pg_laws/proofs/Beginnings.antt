@@ -54,4 +54,3 @@ beginning_before doc facts m ms b = record { stand = b.stand.1; waits = waits_be
 
 pub empty_beginning : (doc : Document) → Facts doc → IsBeginning doc []
 empty_beginning doc facts = record { stand = tt; waits = all_of (λ (x : ℕ × ℕ). nat_lt (age doc [] x) (length (distance_table doc.style x.0))) (waiting doc []) (λ x a. let r : IsBetween doc.style (placed_of doc.style []) (called doc.blocks doc.style (place_of [])) x = between_at doc.style (placed_of doc.style []) (called doc.blocks doc.style (place_of [])) x a in let z : entry (called doc.blocks doc.style (place_of [])) x.0 ≡ 0 = facts.starts x.0 in let q : x.1 < entry (called doc.blocks doc.style (place_of [])) x.0 = r.to in absurd (omega arith)) }
-

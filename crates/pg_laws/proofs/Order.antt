@@ -25,7 +25,7 @@ columns_total =
     (then_total (on_total (λ (a : PageMove). a.column.top) nat_list_cmp_total)
     (on_total (λ (a : PageMove). reverse a.column.picks) nat_list_cmp_total))))))
 
-then_equal : (o p : Ordering) → ordering_then o p ≡ Equal → (o ≡ Equal) × (p ≡ Equal)
+pub then_equal : (o p : Ordering) → ordering_then o p ≡ Equal → (o ≡ Equal) × (p ≡ Equal)
 then_equal Less p e = absurd cc
 then_equal Equal p e = (refl, e)
 then_equal Greater p e = absurd cc

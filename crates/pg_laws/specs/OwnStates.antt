@@ -50,7 +50,6 @@ pub record IsState (doc : Document) (u : State) : Type 0 where
   pub waiting : length u.ages ≡ length (waiting_in doc u)
   pub young : are_young doc u.ages (waiting_in doc u) ≡ true
 
-
 -- the column follows the state too, at a cost that is not greater, to a state that is no worse
 pub record FollowsToo (doc : Document) (u : State) (m : PageMove) (v : State) (c : ℤ) : Type 0 where
   pub to : State
