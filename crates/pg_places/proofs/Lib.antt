@@ -4,3 +4,4 @@ pub mod Places
 pub mod Measures
 pub mod Callouts
 pub mod Continues
+pub mod Steps

@@ -25,7 +25,7 @@ use Rattle.std.specs.List.{cons_option}
 use Rattle.pg_list.specs.declared.item.Item.TheVariants.{BoxItem, Rule, Glue, Kern, Penalty, Insert, Carry}
 use Rattle.std.proofs.lemmas.Bool.Decides.{nat_tests}
 
-count_more : (blocks : List Block) (n m : ℕ) (b : Block) → n < m → slice_get blocks n ≡ Some b → item_count (take n blocks) + block_size b ≤ item_count (take m blocks)
+pub count_more : (blocks : List Block) (n m : ℕ) (b : Block) → n < m → slice_get blocks n ≡ Some b → item_count (take n blocks) + block_size b ≤ item_count (take m blocks)
 count_more [] n m b h e = absurd cc
 count_more (x ∷ xs) n zero b h e = absurd (omega arith)
 count_more (x ∷ xs) zero (suc m) b h e =
@@ -43,7 +43,7 @@ count_more (x ∷ xs) (suc n) (suc m) b h e =
     let t : item_count (x ∷ take m xs) ≡ block_size x + item_count (take m xs) = sum_by-cons block_size x (take m xs) in
     omega arith
 
-picked_size : (b : Block) (v : ℕ) → length (picked_items b v) ≤ block_size b
+pub picked_size : (b : Block) (v : ℕ) → length (picked_items b v) ≤ block_size b
 picked_size (One item) zero = omega arith
 picked_size (One item) (suc v) = by (suc v == 0)
   where
@@ -59,7 +59,7 @@ picked_size (Choice variants) v = by variants v
 
 module _ (all : List Block) where
   -- a place with an item behind it lies in a block
-  inside : (from to : Place) → IsPlace all from → IsPast all from to → from.block < length all → from.index < length (items_around all from)
+  pub inside : (from to : Place) → IsPlace all from → IsPast all from to → from.block < length all → from.index < length (items_around all from)
   inside from to p q h = by p.within
     where
       by : (is_same_place from (end_of all) ≡ true) ⊎ (from.index < length (items_around all from)) → from.index < length (items_around all from)

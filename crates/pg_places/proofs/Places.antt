@@ -89,7 +89,7 @@ begins (variant ∷ variants) c = by variant.items c.shape.each.0.begins
     by [] h = absurd h
     by (item ∷ items) h = omega arith
 
-suc_not : (j : ℕ) → (suc j == 0) ≡ false
+pub suc_not : (j : ℕ) → (suc j == 0) ≡ false
 suc_not j = grind (arith, nat_tests)
 
 pub begins_with : (variants : List Variant) (pick : ℕ) (v : Variant) → AllByRecursion IsVariant variants → slice_get variants pick ≡ Some v → 0 < length (picked_items (Choice variants) pick)
@@ -206,7 +206,7 @@ module _ (all : List Block) where
   pub none_around : (n v k : ℕ) → slice_get all n ≡ None → items_around all (place n v k) ≡ []
   none_around n v k e = ap (λ (o : Option Block). unwrap_or (option_map (λ (block : Block). picked_items block v) o) []) e
 
-  drop_later : (n v i j : ℕ) (items : List Item) → drop j (later_flat_items n v i items) ≡ later_flat_items n v (i + j) (drop j items)
+  pub drop_later : (n v i j : ℕ) (items : List Item) → drop j (later_flat_items n v i items) ≡ later_flat_items n v (i + j) (drop j items)
   drop_later n v i zero items = let e : i ≡ i + 0 = omega arith in ap (λ (k : ℕ). later_flat_items n v k items) e
   drop_later n v i (suc j) [] = refl
   drop_later n v i (suc j) (item ∷ items) = let e : i + 1 + j ≡ i + suc j = omega arith in drop_later n v (i + 1) j items ∙ ap (λ (k : ℕ). later_flat_items n v k (drop j items)) e
