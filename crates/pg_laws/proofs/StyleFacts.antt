@@ -3,7 +3,7 @@ use Rattle.std.proofs.Common.{◌≡◌, refl, sym, subst, ◌∙◌, ℕ, zero,
 use Rattle.std.specs.Prelude.{cond, slice_get, slice_index}
 use Rattle.std.specs.List.{filter, find, AllByRecursion, range_with_len}
 use Rattle.std.specs.Option.{option_map_or}
-use Rattle.pg_style.specs.Ranges.{IsStyle, IsDistance, IsClass, IsKind, Rises}
+use Rattle.pg_style.specs.Ranges.{IsStyle, IsDistance, IsClass, IsKind, Rises, AreDemerits}
 use Rattle.pg_style.specs.Values.{StyleValue}
 use Rattle.pg_style.specs.declared.style.Class.{Class}
 use Rattle.pg_style.specs.declared.style.Kind.{Kind}
@@ -71,24 +71,22 @@ rises_to (x ∷ y ∷ ys) r (suc i) (suc j) h l = rises_to (y ∷ ys) r.1 i j (o
 pub has_tables : (doc : Document) → IsStyle doc.style → HasTables doc
 has_tables doc range = record { some = λ slot h. (let d : IsDistance (distance_table doc.style slot) = slot_table doc.style range slot h in let s : 1 ≤ length (distance_table doc.style slot) = d.some in omega arith) }
 
+-- the table of each slot rises, and its entries are in range
+pub slot_entries : (style : StyleValue) → IsStyle style → (slot : ℕ) → Rises (distance_table style slot) × AllByRecursion AreDemerits (distance_table style slot)
+slot_entries style range slot = by (slice_get (float_numbers style) slot)
+  where
+    none : (o : Option (Area × List ℕ)) → option_map_or (λ (kind : Area × List ℕ). true) o false ≡ false → Rises (option_map_or (λ (kind : Area × List ℕ). kind.1) o []) × AllByRecursion AreDemerits (option_map_or (λ (kind : Area × List ℕ). kind.1) o [])
+    none None f = (tt, tt)
+    none (Some k) f = absurd cc
+
+    by : (o : Option ℕ) → Rises (option_map_or (λ (number : ℕ). option_map_or (λ (kind : Area × List ℕ). kind.1) (float_class style number) []) o []) × AllByRecursion AreDemerits (option_map_or (λ (number : ℕ). option_map_or (λ (kind : Area × List ℕ). kind.1) (float_class style number) []) o [])
+    by None = (tt, tt)
+    by (Some number) = by_bool (option_map_or (λ (kind : Area × List ℕ). true) (float_class style number) false)
+        (λ t. let d : IsDistance (option_map_or (λ (kind : Area × List ℕ). kind.1) (float_class style number) []) = class_table style range number t in (d.rises, d.each))
+        (λ f. none (float_class style number) f)
+
 pub tables_of : (doc : Document) → IsStyle doc.style → Tables doc
 tables_of doc range = record {
   some = (has_tables doc range).some;
-  rises = λ slot i j h l. by slot i j h l (length (float_numbers doc.style));
+  rises = λ slot i j h l. rises_to (distance_table doc.style slot) (slot_entries doc.style range slot).0 i j h l;
 }
-  where
-    by : (slot i j : ℕ) → i ≤ j → j < length (distance_table doc.style slot) → ℕ → slice_index (distance_table doc.style slot) i ≤ slice_index (distance_table doc.style slot) j
-    by slot i j h l n = rises_to (distance_table doc.style slot) (rising (slice_get (float_numbers doc.style) slot) refl) i j h l
-      where
-        nothing : Rises []
-        nothing = tt
-
-        rising : (o : Option ℕ) → o ≡ slice_get (float_numbers doc.style) slot → Rises (option_map_or (λ (number : ℕ). option_map_or (λ (kind : Area × List ℕ). kind.1) (float_class doc.style number) []) o [])
-        rising None e = nothing
-        rising (Some number) e = by_bool (option_map_or (λ (kind : Area × List ℕ). true) (float_class doc.style number) false)
-            (λ t. (class_table doc.style range number t).rises)
-            (λ f. none (float_class doc.style number) f)
-          where
-            none : (o : Option (Area × List ℕ)) → option_map_or (λ (kind : Area × List ℕ). true) o false ≡ false → Rises (option_map_or (λ (kind : Area × List ℕ). kind.1) o [])
-            none None f = nothing
-            none (Some k) f = absurd cc

@@ -24,51 +24,6 @@ use Rattle.pg_laws.proofs.PagesLaws.{wide_long}
 use Rattle.pg_space.specs.PageSpace.{rank}
 use Rattle.pg_rules.specs.Room.{Document, is_text, is_top_allowed, is_bottom_allowed}
 
-total_cons : (x : ℕ) (xs : List ℕ) → total_count (x ∷ xs) ≡ x + total_count xs
-total_cons x xs = sum_by-cons (λ (n : ℕ). n) x xs
-
-zip_total : (F : ℕ → ℕ) (f : ℕ) (xs ys : List ℕ) → length xs ≡ length ys → ((i : ℕ) → F (f + i) ≡ entry xs i + entry ys i) → total_count (map F (range_with_len f (length xs))) ≡ total_count xs + total_count ys
-zip_total F f [] [] l h = refl
-zip_total F f [] (y ∷ ys) l h = absurd (omega arith)
-zip_total F f (x ∷ xs) [] l h = absurd (omega arith)
-zip_total F f (x ∷ xs) (y ∷ ys) l h =
-    let z : f + 0 ≡ f = omega arith in
-    let a : F f ≡ x + y = ap F (sym z) ∙ h 0 in
-    let r : total_count (map F (range_with_len (f + 1) (length xs))) ≡ total_count xs + total_count ys = zip_total F (f + 1) xs ys (omega arith) (λ i. (let e : f + 1 + i ≡ f + suc i = omega arith in ap F e ∙ h (suc i))) in
-    let s : total_count (F f ∷ map F (range_with_len (f + 1) (length xs))) ≡ F f + total_count (map F (range_with_len (f + 1) (length xs))) = total_cons (F f) (map F (range_with_len (f + 1) (length xs))) in
-    let t : total_count (x ∷ xs) ≡ x + total_count xs = total_cons x xs in
-    let u : total_count (y ∷ ys) ≡ y + total_count ys = total_cons y ys in
-    omega arith
-
-plus_total : (style : StyleValue) (a b : List ℕ) → length a ≡ length (float_numbers style) → length b ≡ length (float_numbers style) → total_count (plus_counts style a b) ≡ total_count a + total_count b
-plus_total style a b l k = subst (λ (n : ℕ). total_count (map (λ (slot : ℕ). entry a slot + entry b slot) (range_with_len 0 n)) ≡ total_count a + total_count b) l
-    (zip_total (λ (slot : ℕ). entry a slot + entry b slot) 0 a b (l ∙ sym k) (λ i. (let e : 0 + i ≡ i = omega arith in ap (λ (n : ℕ). entry a n + entry b n) e)))
-
-count_total : (F : ℕ → ℕ) (f : ℕ) (xs : List ℕ) → ((i : ℕ) → F (f + i) ≡ entry xs i) → sum_by F (range_with_len f (length xs)) ≡ total_count xs
-count_total F f [] h = refl
-count_total F f (x ∷ xs) h =
-    let z : f + 0 ≡ f = omega arith in
-    let a : F f ≡ x = ap F (sym z) ∙ h 0 in
-    let r : sum_by F (range_with_len (f + 1) (length xs)) ≡ total_count xs = count_total F (f + 1) xs (λ i. (let e : f + 1 + i ≡ f + suc i = omega arith in ap F e ∙ h (suc i))) in
-    let s : sum_by F (f ∷ range_with_len (f + 1) (length xs)) ≡ F f + sum_by F (range_with_len (f + 1) (length xs)) = sum_by-cons F f (range_with_len (f + 1) (length xs)) in
-    let t : total_count (x ∷ xs) ≡ x + total_count xs = total_cons x xs in
-    omega arith
-
--- a list with an entry for each class deals out all that it counts
-float_total : (style : StyleValue) (counts : List ℕ) → length counts ≡ length (float_numbers style) → float_count style counts ≡ total_count counts
-float_total style counts l = subst (λ (n : ℕ). sum_by (λ (slot : ℕ). entry counts slot) (range_with_len 0 n) ≡ total_count counts) l (count_total (λ (slot : ℕ). entry counts slot) 0 counts (λ i. (let e : 0 + i ≡ i = omega arith in ap (entry counts) e)))
-
-plus_long : (style : StyleValue) (a b : List ℕ) → length (plus_counts style a b) ≡ length (float_numbers style)
-plus_long style a b = length-map-range_with_len (λ (slot : ℕ). entry a slot + entry b slot) 0 (length (float_numbers style))
-
-pub after_total : (style : StyleValue) (placed : List ℕ) (m : PageMove) → length placed ≡ length (float_numbers style) → length m.wide ≡ length (float_numbers style) → length m.column.top ≡ length (float_numbers style) → length m.column.bottom ≡ length (float_numbers style) →
-    total_count (placed_after style placed m) ≡ ((total_count placed + total_count m.wide) + total_count m.column.top) + total_count m.column.bottom
-after_total style placed m p doc t b =
-    let x : total_count (with_wide style placed m) ≡ total_count placed + total_count m.wide = plus_total style placed m.wide p doc in
-    let y : total_count (plus_counts style (with_wide style placed m) m.column.top) ≡ total_count (with_wide style placed m) + total_count m.column.top = plus_total style (with_wide style placed m) m.column.top (plus_long style placed m.wide) t in
-    let z : total_count (placed_after style placed m) ≡ total_count (plus_counts style (with_wide style placed m) m.column.top) + total_count m.column.bottom = plus_total style (plus_counts style (with_wide style placed m) m.column.top) m.column.bottom (plus_long style (with_wide style placed m) m.column.top) b in
-    omega arith
-
 or_cases : (a b : Bool) → (a || b) ≡ true → (a ≡ true) ⊎ (b ≡ true)
 or_cases true b e = inl refl
 or_cases false b e = inr e
