@@ -99,10 +99,10 @@ pub no_older_refl : (a : List ℕ) → are_no_older a a ≡ true
 no_older_refl [] = refl
 no_older_refl (x ∷ xs) = both (nat_le x x) (are_no_older xs xs) (let h : x ≤ x = omega arith in grind (arith, nat_tests)) (no_older_refl xs)
 
-le_true : (a b : ℕ) → nat_le a b ≡ true → a ≤ b
+pub le_true : (a b : ℕ) → nat_le a b ≡ true → a ≤ b
 le_true a b h = grind (arith, nat_tests)
 
-le_of : (a b : ℕ) → a ≤ b → nat_le a b ≡ true
+pub le_of : (a b : ℕ) → a ≤ b → nat_le a b ≡ true
 le_of a b h = grind (arith, nat_tests)
 
 pub no_older_chain : (a b c : List ℕ) → are_no_older a b ≡ true → are_no_older b c ≡ true → are_no_older a c ≡ true

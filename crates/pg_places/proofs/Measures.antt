@@ -132,11 +132,11 @@ module _ (number : ℕ) where
       let f : inserted (take n xs ++ drop n xs) ≡ inserted xs = ap inserted (take-append-drop n xs) in
       omega arith
 
-  later_items : (n v i : ℕ) (items : List Item) → map (λ (flat_item : FlatItem). flat_item.item) (later_flat_items n v i items) ≡ items
+  pub later_items : (n v i : ℕ) (items : List Item) → map (λ (flat_item : FlatItem). flat_item.item) (later_flat_items n v i items) ≡ items
   later_items n v i [] = refl
   later_items n v i (x ∷ xs) = ap (λ (ys : List Item). x ∷ ys) (later_items n v (i + 1) xs)
 
-  variant_items : (n v : ℕ) (items : List Item) → map (λ (flat_item : FlatItem). flat_item.item) (variant_flat_items n v items) ≡ items
+  pub variant_items : (n v : ℕ) (items : List Item) → map (λ (flat_item : FlatItem). flat_item.item) (variant_flat_items n v items) ≡ items
   variant_items n v [] = refl
   variant_items n v (x ∷ xs) = ap (λ (ys : List Item). x ∷ ys) (later_items n v 1 xs)
 
