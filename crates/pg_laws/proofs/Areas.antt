@@ -20,10 +20,10 @@ use Rattle.pg_flat.specs.Whole.{whole_sum_by}
 use Rattle.pg_rules.specs.Floats.{entry, insert_size, sizes_of, floats, float_numbers, float_count, total_count, slots, dealt, dealt_from, has_all, area_height, is_area_allowed, takes_wide}
 use Rattle.pg_rules.specs.History.{made_wide}
 use Rattle.pg_rules.specs.Room.{Document, checked_height}
-use Rattle.pg_laws.specs.Ranges.{AreItemsInRange}
-use Rattle.pg_places.proofs.Among.{by_bool, both_of}
+use Rattle.pg_places.proofs.Among.{both_of, by_bool}
 use Rattle.pg_places.proofs.Measures.{variant_items}
 use Rattle.pg_places.proofs.Tests.{eq_true}
+use Rattle.pg_laws.specs.Ranges.{AreItemsInRange}
 use Rattle.pg_laws.proofs.Counts.{float_total}
 use Rattle.pg_laws.proofs.Simulation.{le_true}
 

@@ -16,19 +16,19 @@ use Rattle.pg_rules.specs.Follow.{Follow}
 use Rattle.pg_rules.specs.Legal.{breach, document}
 use Rattle.pg_rules.specs.NoWorse.{PageKey, key, is_same_key, are_no_older}
 use Rattle.pg_rules.specs.States.{Prefix, prefix_breach, state_of, state_at, is_done}
+use Rattle.pg_places.proofs.Among.{both_of}
+use Rattle.pg_laws.specs.Laws.{BeginningsFollow, FollowersArePushed, Follows, KeepsBeginningRules, KeepsRules, LegalAreDone, NoWorseDone, NoWorseFollow, OrderTellsApart, PrefixesKeepRules, UnbrokenKeepRules}
 use Rattle.pg_laws.specs.Pages.{plan_of}
 use Rattle.pg_laws.specs.Ranges.{AreInRange}
 use Rattle.pg_laws.specs.Stands.{IsBeginning}
-use Rattle.pg_laws.specs.Laws.{FollowersArePushed, Follows, BeginningsFollow, KeepsRules, KeepsBeginningRules, UnbrokenKeepRules, PrefixesKeepRules, LegalAreDone, OrderTellsApart, NoWorseFollow, NoWorseDone}
-use Rattle.pg_places.proofs.Among.{both_of}
 use Rattle.pg_laws.proofs.Beginnings.{Facts, beginning_before}
-use Rattle.pg_laws.proofs.Faults.{Sound, sound_of, of_sound, unless_none, none_unless}
+use Rattle.pg_laws.proofs.Faults.{Sound, none_unless, of_sound, sound_of, unless_none}
 use Rattle.pg_laws.proofs.GalleyFacts.{facts_of}
-use Rattle.pg_laws.proofs.Order.{columns_total, column_equal, then_equal}
+use Rattle.pg_laws.proofs.Order.{column_equal, columns_total, then_equal}
 use Rattle.pg_laws.proofs.PagesLaws.{plan_back}
-use Rattle.pg_laws.proofs.Prefixes.{legal_prefix, legal_done, done_is_legal, IsPlanOfColumns, columns_plan, columns_begin, plan_is, prefix_sound}
+use Rattle.pg_laws.proofs.Prefixes.{IsPlanOfColumns, columns_begin, columns_plan, done_is_legal, legal_done, legal_prefix, plan_is, prefix_sound}
 use Rattle.pg_laws.proofs.Push.{column_pays, follows, stands}
-use Rattle.pg_laws.proofs.Simulation.{simulates, key_same, with_ages}
+use Rattle.pg_laws.proofs.Simulation.{key_same, simulates, with_ages}
 use Rattle.pg_laws.proofs.StyleFacts.{has_tables, tables_of}
 
 module _ (g : GalleyValue) (s : StyleValue) (range : AreInRange g s) where

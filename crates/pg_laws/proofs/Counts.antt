@@ -15,11 +15,11 @@ use Rattle.pg_rules.specs.Floats.{entry, total_count, float_count, plus_counts, 
 use Rattle.pg_rules.specs.Follow.{Follow, context_in, wide_in, next_state}
 use Rattle.pg_rules.specs.History.{placed_after, with_wide, made_wide}
 use Rattle.pg_laws.specs.OwnStates.{IsState}
+use Rattle.pg_laws.proofs.Waiting.{placed_more, slotted}
 use Rattle.pg_rules.specs.Room.{Document, is_text, is_top_allowed, is_bottom_allowed}
 use Rattle.std.proofs.Common.{◌-◌, ◌++◌, zero, length-append}
 use Rattle.pg_rules.specs.Floats.{numbered, floats_between}
 use Rattle.pg_rules.specs.Legal.{added}
-use Rattle.pg_laws.proofs.Waiting.{slotted, placed_more}
 
 pub total_cons : (x : ℕ) (xs : List ℕ) → total_count (x ∷ xs) ≡ x + total_count xs
 total_cons x xs = sum_by-cons (λ (n : ℕ). n) x xs

@@ -14,9 +14,9 @@ use Rattle.pg_flat.specs.Flat.{FlatItem, later_flat_items, variant_flat_items, f
 use Rattle.pg_places.specs.Past.{IsPlace, far}
 use Rattle.pg_places.proofs.Among.{by_bool}
 use Rattle.pg_places.proofs.Callouts.{take_all}
-use Rattle.pg_places.proofs.Measures.{count_more, picked_size, block_at}
-use Rattle.pg_places.proofs.Places.{Found, found, drop_head, drop_later, around_is, around_block, suc_not}
-use Rattle.pg_places.proofs.Tests.{if_true, if_false, same_place}
+use Rattle.pg_places.proofs.Measures.{block_at, count_more, picked_size}
+use Rattle.pg_places.proofs.Places.{Found, around_block, around_is, drop_head, drop_later, found, suc_not}
+use Rattle.pg_places.proofs.Tests.{if_false, if_true, same_place}
 
 pub fronts_few : (xs : List FlatItem) (n : ℕ) → fronts xs n ≤ n
 fronts_few xs n =

@@ -14,12 +14,13 @@ use Rattle.pg_flat.specs.Flat.{is_same_place}
 use Rattle.pg_rules.specs.Floats.{entry, total_count, float_count, plus_counts, float_numbers}
 use Rattle.pg_rules.specs.Follow.{Follow, context_in, wide_in, next_state}
 use Rattle.pg_rules.specs.History.{placed_after, with_wide, made_wide}
-use Rattle.pg_places.specs.Past.{IsPlace, Past, far}
+use Rattle.pg_places.specs.Past.{IsPast, IsPlace, Past, far}
 use Rattle.pg_places.proofs.Among.{both_of, by_bool}
 use Rattle.pg_places.proofs.Callouts.{fit_ends}
 use Rattle.pg_places.proofs.Measures.{far_rises, past_within}
 use Rattle.pg_places.proofs.Tests.{eq_refl, eq_true, if_false, if_true, less_true, place_refl, same_place}
 use Rattle.pg_laws.specs.OwnStates.{IsState}
+use Rattle.pg_laws.proofs.Counts.{after_total, float_total, plus_total, total_cons}
 use Rattle.pg_laws.proofs.PagesLaws.{wide_long}
 use Rattle.pg_space.specs.PageSpace.{rank}
 use Rattle.pg_rules.specs.Room.{Document, is_text, is_top_allowed, is_bottom_allowed}
@@ -42,23 +43,27 @@ last_step false true x y p q h = omega arith
 last_step true b' x y p q h = absurd cc
 last_step false false x y p q h = absurd cc
 
-module _ (doc : Document) (blocks : AllByRecursion IsBlock doc.blocks) (few : doc.style.columns ≤ 2) where
-  far_after : (u : State) (m : PageMove) (v : State) (c : ℤ) → IsState doc u → Follow doc u m v c → (far doc.blocks u.place ≤ far doc.blocks m.column.to) × ((is_text (context_in doc u m) ≡ true) → far doc.blocks u.place < far doc.blocks m.column.to)
+-- the rank by a measure of places
+abbrev pub ranked : (Place → ℕ) → State → ℕ
+ranked F u = 2 * (F u.place + total_count u.placed) + (if u.column == 1 then 1 else 0)
+
+module _ (doc : Document) (blocks : AllByRecursion IsBlock doc.blocks) (few : doc.style.columns ≤ 2) (F : Place → ℕ) (climbs : (from to : Place) → IsPlace doc.blocks from → IsPast doc.blocks from to → F from < F to) where
+  far_after : (u : State) (m : PageMove) (v : State) (c : ℤ) → IsState doc u → Follow doc u m v c → (F u.place ≤ F m.column.to) × ((is_text (context_in doc u m) ≡ true) → F u.place < F m.column.to)
   far_after u m v c own f =
       let from : m.column.from ≡ u.place = same_place m.column.from u.place f.starts in
       let here : IsPlace doc.blocks m.column.from = subst (IsPlace doc.blocks) (sym from) own.place in
-      let start : far doc.blocks m.column.from ≡ far doc.blocks u.place = ap (far doc.blocks) from in
+      let start : F m.column.from ≡ F u.place = ap F from in
       elim (fit_ends doc (context_in doc u m) refl blocks here f.stands.rules.fits) [
-        | inl e ↦ (let s : far doc.blocks m.column.to ≡ far doc.blocks m.column.from = ap (far doc.blocks) e in (omega arith, λ t. absurd (not_text (is_same_place m.column.from m.column.to) t (subst (λ (at : Place). is_same_place m.column.from at ≡ true) (sym e) (place_refl m.column.from)))))
-        | inr q ↦ (let r : far doc.blocks m.column.from < far doc.blocks m.column.to = far_rises doc.blocks m.column.from m.column.to here q (past_within doc.blocks m.column.from m.column.to q) in (omega arith, λ t. omega arith))
+        | inl e ↦ (let s : F m.column.to ≡ F m.column.from = ap F e in (omega arith, λ t. absurd (not_text (is_same_place m.column.from m.column.to) t (subst (λ (at : Place). is_same_place m.column.from at ≡ true) (sym e) (place_refl m.column.from)))))
+        | inr q ↦ (let r : F m.column.from < F m.column.to = climbs m.column.from m.column.to here q in (omega arith, λ t. omega arith))
       ]
     where
       not_text : (b : Bool) → not b ≡ true → b ≡ true → ⊥
       not_text true t s = absurd cc
       not_text false t s = absurd cc
 
-  pub rises : (u : State) (m : PageMove) (v : State) (c : ℤ) → IsState doc u → Follow doc u m v c → rank doc u < rank doc v
-  rises u m v c own f = subst (λ (x : State). rank doc u < rank doc x) (sym f.leads) (by_bool (is_text (context_in doc u m)) with_text without)
+  pub rises : (u : State) (m : PageMove) (v : State) (c : ℤ) → IsState doc u → Follow doc u m v c → ranked F u < ranked F v
+  rises u m v c own f = subst (λ (x : State). ranked F u < ranked F x) (sym f.leads) (by_bool (is_text (context_in doc u m)) with_text without)
     where
       counts : (length m.column.top ≡ length (float_numbers doc.style)) × (length m.column.bottom ≡ length (float_numbers doc.style))
       counts =
@@ -70,19 +75,19 @@ module _ (doc : Document) (blocks : AllByRecursion IsBlock doc.blocks) (few : do
       sum : total_count (placed_after doc.style u.placed m) ≡ ((total_count u.placed + total_count m.wide) + total_count m.column.top) + total_count m.column.bottom
       sum = after_total doc.style u.placed m own.placed (wide_long doc u.column m f.stands.wide) counts.0 counts.1
 
-      moved : (far doc.blocks u.place ≤ far doc.blocks m.column.to) × ((is_text (context_in doc u m) ≡ true) → far doc.blocks u.place < far doc.blocks m.column.to)
+      moved : (F u.place ≤ F m.column.to) × ((is_text (context_in doc u m) ≡ true) → F u.place < F m.column.to)
       moved = far_after u m v c own f
 
-      le : far doc.blocks u.place ≤ far doc.blocks m.column.to
+      le : F u.place ≤ F m.column.to
       le = moved.0
 
-      up : far doc.blocks u.place + total_count u.placed < far doc.blocks m.column.to + total_count (placed_after doc.style u.placed m) → rank doc u < rank doc (next_state doc u m)
-      up h = rank_step (u.column == 1) ((next_state doc u m).column == 1) (far doc.blocks u.place + total_count u.placed) (far doc.blocks m.column.to + total_count (placed_after doc.style u.placed m)) h
+      up : F u.place + total_count u.placed < F m.column.to + total_count (placed_after doc.style u.placed m) → ranked F u < ranked F (next_state doc u m)
+      up h = rank_step (u.column == 1) ((next_state doc u m).column == 1) (F u.place + total_count u.placed) (F m.column.to + total_count (placed_after doc.style u.placed m)) h
 
-      with_text : is_text (context_in doc u m) ≡ true → rank doc u < rank doc (next_state doc u m)
-      with_text t = let h : far doc.blocks u.place < far doc.blocks m.column.to = moved.1 t in up (omega (arith, sum))
+      with_text : is_text (context_in doc u m) ≡ true → ranked F u < ranked F (next_state doc u m)
+      with_text t = let h : F u.place < F m.column.to = moved.1 t in up (omega (arith, sum))
 
-      idle : is_some (wide_in doc u m) ≡ true → rank doc u < rank doc (next_state doc u m)
+      idle : is_some (wide_in doc u m) ≡ true → ranked F u < ranked F (next_state doc u m)
       idle i = by_bool (u.column == 1)
           (λ t. (let made : is_some (made_wide doc u.placed m.wide) ≡ true = subst (λ (o : Option ℤ). is_some o ≡ true) (if_true (u.column == 1) (made_wide doc u.placed m.wide) u.wide t) i in let some : 0 < total_count m.wide = some_wide (nat_lt 0 (float_count doc.style m.wide)) refl made in up (omega (arith, sum, le))))
           (λ n. second n)
@@ -91,7 +96,7 @@ module _ (doc : Document) (blocks : AllByRecursion IsBlock doc.blocks) (few : do
           some_wide true e h = let l : 0 < float_count doc.style m.wide = less_true 0 (float_count doc.style m.wide) (sym e) in let t : float_count doc.style m.wide ≡ total_count m.wide = float_total doc.style m.wide (wide_long doc u.column m f.stands.wide) in omega arith
           some_wide false e h = let z : made_wide doc u.placed m.wide ≡ None = if_false (nat_lt 0 (float_count doc.style m.wide)) _ None (sym e) in let y : is_some (made_wide doc u.placed m.wide) ≡ false = ap is_some z in absurd cc
 
-          second : (u.column == 1) ≡ false → rank doc u < rank doc (next_state doc u m)
+          second : (u.column == 1) ≡ false → ranked F u < ranked F (next_state doc u m)
           second n =
               let not_one : u.column ≡ 1 → ⊥ = λ e. (let t : (u.column == 1) ≡ true = subst (λ (z : ℕ). (z == 1) ≡ true) (sym e) refl in absurd cc) in
               let low : 1 ≤ u.column = own.column.0 in
@@ -100,9 +105,9 @@ module _ (doc : Document) (blocks : AllByRecursion IsBlock doc.blocks) (few : do
               let t : (u.column == doc.style.columns) ≡ true = subst (λ (z : ℕ). (u.column == z) ≡ true) full (eq_refl u.column) in
               let first : (next_state doc u m).column ≡ 1 = if_true (u.column == doc.style.columns) 1 (u.column + 1) t in
               let one : ((next_state doc u m).column == 1) ≡ true = subst (λ (z : ℕ). (z == 1) ≡ true) (sym first) refl in
-              last_step (u.column == 1) ((next_state doc u m).column == 1) (far doc.blocks u.place + total_count u.placed) (far doc.blocks m.column.to + total_count (placed_after doc.style u.placed m)) n one (omega (arith, sum, le))
+              last_step (u.column == 1) ((next_state doc u m).column == 1) (F u.place + total_count u.placed) (F m.column.to + total_count (placed_after doc.style u.placed m)) n one (omega (arith, sum, le))
 
-      without : is_text (context_in doc u m) ≡ false → rank doc u < rank doc (next_state doc u m)
+      without : is_text (context_in doc u m) ≡ false → ranked F u < ranked F (next_state doc u m)
       without n =
           let form = both_of (length m.column.picks == 0) _ (sym (if_false (is_text (context_in doc u m)) _ _ n) ∙ f.stands.rules.well_formed) in
           elim (or_cases (nat_lt 0 (float_count doc.style m.column.top) && (float_count doc.style m.column.bottom == 0)) (is_idle (context_in doc u m)) form.1) [
@@ -110,6 +115,7 @@ module _ (doc : Document) (blocks : AllByRecursion IsBlock doc.blocks) (few : do
             | inr t ↦ idle (both_of ((float_count doc.style m.column.top == 0) && (float_count doc.style m.column.bottom == 0)) (is_some (wide_in doc u m)) t).1
           ]
 
+module _ (doc : Document) (blocks : AllByRecursion IsBlock doc.blocks) where
   -- a column never leads to a smaller block
   pub onward : (u : State) (m : PageMove) (v : State) (c : ℤ) → IsState doc u → Follow doc u m v c → u.place.block ≤ v.place.block
   onward u m v c own f =
@@ -125,14 +131,3 @@ module _ (doc : Document) (blocks : AllByRecursion IsBlock doc.blocks) (few : do
       later : (u : State) (m : PageMove) (v : State) → m.column.from.block ≡ u.place.block → v.place.block ≡ m.column.to.block → Past m.column.from m.column.to → u.place.block ≤ v.place.block
       later u m v start end (inl l) = omega arith
       later u m v start end (inr l) = let s : m.column.from.block ≡ m.column.to.block = l.block in omega arith
-
-  -- the place of what follows is one of the galley
-  pub next_place : (u : State) (m : PageMove) (v : State) (c : ℤ) → IsState doc u → Follow doc u m v c → IsPlace doc.blocks v.place
-  next_place u m v c own f =
-      let from : m.column.from ≡ u.place = same_place m.column.from u.place f.starts in
-      let here : IsPlace doc.blocks m.column.from = subst (IsPlace doc.blocks) (sym from) own.place in
-      let end : m.column.to ≡ v.place = ap (λ (x : State). x.place) (sym f.leads) in
-      elim (fit_ends doc (context_in doc u m) refl blocks here f.stands.rules.fits) [
-        | inl e ↦ subst (IsPlace doc.blocks) (sym e ∙ end) here
-        | inr q ↦ subst (IsPlace doc.blocks) end q.place
-      ]

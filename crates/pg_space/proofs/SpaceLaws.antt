@@ -22,9 +22,12 @@ pub record Moves (doc : Document) : Type 0 where
   pub rises : (u : State) (m : PageMove) (v : State) (c : ℤ) → IsState doc u → Follow doc u m v c → rank doc u < rank doc v
   pub onward : (u : State) (m : PageMove) (v : State) (c : ℤ) → IsState doc u → Follow doc u m v c → u.place.block ≤ v.place.block
   pub within : (u : State) → IsState doc u → u.place.block ≤ length doc.blocks
-  pub low : (u : State) → IsState doc u → rank doc u < 2 ^ 24
-  -- a move costs at most so much for each step of the rank
-  pub cheap : (u : State) (m : PageMove) (v : State) (c : ℤ) → IsState doc u → Follow doc u m v c → nat_abs c + 2 ^ 34 * rank doc u ≤ 2 ^ 34 * rank doc v
+  pub low : (u : State) → IsState doc u → rank doc u < 2 ^ 64
+  -- a measure that each move raises, by so much at least for what it costs
+  pub weight : State → ℕ
+  pub light : (u : State) → IsState doc u → weight u < 2 ^ 30
+  pub heavier : (u : State) (m : PageMove) (v : State) (c : ℤ) → IsState doc u → Follow doc u m v c → weight u < weight v
+  pub cheap : (u : State) (m : PageMove) (v : State) (c : ℤ) → IsState doc u → Follow doc u m v c → nat_abs c + 1000000000 * weight u ≤ 1000000000 * weight v
 
 module _ (doc : Document) (tables : Tables doc) (moves : Moves doc) where
   keys_same : (u v : State) → is_no_worse u v ≡ true → key u ≡ key v
@@ -44,21 +47,21 @@ module _ (doc : Document) (tables : Tables doc) (moves : Moves doc) where
   rank_key : (u v : State) → key u ≡ key v → rank doc u ≡ rank doc v
   rank_key u v e = ap (λ (k : PageKey). rank doc (with_ages k [])) e
 
-  -- a run costs at most so much for each step of its rank, and has fewer moves than its rank
-  bounded : (ms : List PageMove) (u : State) (c : ℤ) → Run (wide_meaning doc) ms u c → (nat_abs c ≤ 2 ^ 34 * rank doc u) × (length ms ≤ rank doc u)
-  bounded [] u c (e, z) = (subst (λ (x : ℤ). nat_abs x ≤ 2 ^ 34 * rank doc u) (sym z) (omega arith), omega arith)
+  -- a run costs at most so much for each step of its weight, and has fewer moves than its weight
+  bounded : (ms : List PageMove) (u : State) (c : ℤ) → Run (wide_meaning doc) ms u c → (nat_abs c ≤ 1000000000 * moves.weight u) × (length ms ≤ moves.weight u)
+  bounded [] u c (e, z) = (subst (λ (x : ℤ). nat_abs x ≤ 1000000000 * moves.weight u) (sym z) (omega arith), omega arith)
   bounded (m ∷ ms) v c (u, (n, k, (run, step, sum))) =
       let r = bounded ms u n run in
-      let h : nat_abs n ≤ 2 ^ 34 * rank doc u = r.0 in
-      let i : length ms ≤ rank doc u = r.1 in
-      let j : nat_abs k + 2 ^ 34 * rank doc u ≤ 2 ^ 34 * rank doc v = moves.cheap u m v k (own_run ms u n run) step in
-      let l : rank doc u < rank doc v = moves.rises u m v k (own_run ms u n run) step in
-      (subst (λ (x : ℤ). nat_abs x ≤ 2 ^ 34 * rank doc v) (sym sum) (add n k (2 ^ 34 * rank doc u) (2 ^ 34 * rank doc v) h j), omega arith)
+      let h : nat_abs n ≤ 1000000000 * moves.weight u = r.0 in
+      let i : length ms ≤ moves.weight u = r.1 in
+      let j : nat_abs k + 1000000000 * moves.weight u ≤ 1000000000 * moves.weight v = moves.cheap u m v k (own_run ms u n run) step in
+      let l : moves.weight u < moves.weight v = moves.heavier u m v k (own_run ms u n run) step in
+      (subst (λ (x : ℤ). nat_abs x ≤ 1000000000 * moves.weight v) (sym sum) (add n k (1000000000 * moves.weight u) (1000000000 * moves.weight v) h j), omega arith)
     where
       add : (n k : ℤ) (a b : ℕ) → nat_abs n ≤ a → nat_abs k + a ≤ b → nat_abs (n +ℤ k) ≤ b
       add n k a b h j = omega (arith, ints)
 
-  small_from : (c : ℤ) (r : ℕ) → nat_abs c ≤ 2 ^ 34 * r → r < 2 ^ 24 → Small c
+  small_from : (c : ℤ) (r : ℕ) → nat_abs c ≤ 1000000000 * r → r < 2 ^ 30 → Small c
   small_from c r h l = record { above = omega (arith, ints); below = omega (arith, ints) }
 
   pub lawful : Lawful is_same_key (wide_meaning doc)
@@ -67,7 +70,7 @@ module _ (doc : Document) (tables : Tables doc) (moves : Moves doc) where
     own_next = moves.own;
     determined = λ u m v x c d f g. (f.leads ∙ sym g.leads, f.pays ∙ sym g.pays);
     rises = moves.rises;
-    rank_fits = λ u o. (let h : rank doc u < 2 ^ 24 = moves.low u o in omega arith);
+    rank_fits = moves.low;
     reflexive = λ u o. both (is_same_key (key u) (key u)) (are_no_older u.ages u.ages) (key_refl (key u)) (no_older_refl u.ages);
     transitive = λ u v x ou ov ox p q. chain u v x p q;
     one_key = λ u v ou ov p. (both_of (is_same_key (key u) (key v)) (are_no_older u.ages v.ages) p).0;
@@ -80,7 +83,7 @@ module _ (doc : Document) (tables : Tables doc) (moves : Moves doc) where
     onward = moves.onward;
     reach_own = λ u o. (let h : u.place.block ≤ length doc.blocks = moves.within u o in omega arith);
     reach_next = λ u m v c o f. (let h : v.place.block ≤ length doc.blocks = moves.within v (moves.own u m v c o f) in omega arith);
-    small_move = λ u m v c o f. (let h : nat_abs c + 2 ^ 34 * rank doc u ≤ 2 ^ 34 * rank doc v = moves.cheap u m v c o f in small_from c (rank doc v) (omega arith) (moves.low v (moves.own u m v c o f)));
-    small_run = λ ms u c run. small_from c (rank doc u) (bounded ms u c run).0 (moves.low u (own_run ms u c run));
-    few_moves = λ ms u c run. (let h : length ms ≤ rank doc u = (bounded ms u c run).1 in let l : rank doc u < 2 ^ 24 = moves.low u (own_run ms u c run) in omega arith);
+    small_move = λ u m v c o f. (let h : nat_abs c + 1000000000 * moves.weight u ≤ 1000000000 * moves.weight v = moves.cheap u m v c o f in small_from c (moves.weight v) (omega arith) (moves.light v (moves.own u m v c o f)));
+    small_run = λ ms u c run. small_from c (moves.weight u) (bounded ms u c run).0 (moves.light u (own_run ms u c run));
+    few_moves = λ ms u c run. (let h : length ms ≤ moves.weight u = (bounded ms u c run).1 in let l : moves.weight u < 2 ^ 30 = moves.light u (own_run ms u c run) in omega arith);
   }

@@ -1,5 +1,5 @@
 -- Pages as a space: states of beginnings, columns as moves.
-use Rattle.std.specs.Prelude.{◌≡◌, ℕ, ◌+◌, ◌*◌, ◌<ℤ◌, ◌+ℤ◌, ◌⊎◌, Bool, true, false, ◌==◌, ◌&&◌, if◌then◌else◌, List, [], length, ℤ}
+use Rattle.std.specs.Prelude.{◌≡◌, ℕ, ◌+◌, ◌*◌, ◌^◌, ◌<ℤ◌, ◌+ℤ◌, ◌⊎◌, Bool, true, false, ◌==◌, ◌&&◌, if◌then◌else◌, List, [], length, ℤ}
 use Rattle.std.specs.List.{sum_by}
 use Rattle.std.specs.Ordering.{is_gt}
 use Rattle.pg_plan.specs.declared.pages.PageMove.{PageMove}
@@ -13,12 +13,11 @@ use Rattle.pg_rules.specs.Room.{Document, ColumnContext, is_text}
 use Rattle.pg_rules.specs.States.{state_at, is_done}
 use Rattle.pg_rules.specs.NoWorse.{PageKey, key, is_no_worse}
 use Rattle.pg_table.specs.Space.{Meaning}
-use Rattle.pg_places.specs.Past.{far}
 use Rattle.pg_laws.specs.OwnStates.{IsState}
 
--- each column leads on, but for an idle one that ends its page
+-- by place, and within one place by the floats that are placed; an idle column that ends its page comes before the next page
 abbrev pub rank : Document → State → ℕ
-rank doc u = 2 * (far doc.blocks u.place + sum_by (λ (n : ℕ). n) u.placed) + (if u.column == 1 then 1 else 0)
+rank doc u = 2 * (2 ^ 20 * u.place.block + u.place.index + sum_by (λ (n : ℕ). n) u.placed) + (if u.column == 1 then 1 else 0)
 
 -- the picks of a text column are of least text and pick demerits among those with its end and fitness, and first among equals
 abbrev pub with_picks : ColumnContext → List ℕ → ColumnContext
