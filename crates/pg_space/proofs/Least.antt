@@ -191,7 +191,7 @@ module _ (doc : Document) (u : State) (m : PageMove) (v : State) (c : ℤ) (f : 
       (then_same (counts_cmp m.column.bottom m.column.bottom) _ (tied_itself (lists_total nat_cmp_total) m.column.bottom)
       (then_same (counts_cmp m.column.top m.column.top) (picks_cmp picks m.column.picks) (tied_itself (lists_total nat_cmp_total) m.column.top) h)))))
 
-  instead_text : is_text (context_in doc u m) ≡ true → Instead (wide_meaning doc) (FollowBest doc) u m v c
+  pub instead_text : is_text (context_in doc u m) ≡ true → Instead (wide_meaning doc) (FollowBest doc) u m v c
   instead_text t =
       let b : LeastOf (λ (picks : List ℕ). text_cost (with_picks (context_in doc u m) picks)) (may_pick (context_in doc u m)) m.column.picks (pick_lists (blocks_at doc.blocks m.column.from)) = best in
       let p = both_of (keeps_text (with_picks (context_in doc u m) b.least)) (column_fitness (with_picks (context_in doc u m) b.least) == column_fitness (context_in doc u m)) b.passes in
@@ -210,7 +210,7 @@ module _ (doc : Document) (u : State) (m : PageMove) (v : State) (c : ℤ) (f : 
       cheaper a b r x y picks (inl h) p q = inl (omega (arith, ints))
       cheaper a b r x y picks (inr h) p q = inr (let k : a ≡ b = h.0 in cc, not_after picks h.1)
 
-  instead_other : is_text (context_in doc u m) ≡ false → Instead (wide_meaning doc) (FollowBest doc) u m v c
+  pub instead_other : is_text (context_in doc u m) ≡ false → Instead (wide_meaning doc) (FollowBest doc) u m v c
   instead_other n = record {
     move = m;
     cost = c;

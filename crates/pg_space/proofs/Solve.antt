@@ -1,6 +1,6 @@
 -- The best pagination, none, and the frontier, from a table of pages.
 use Rattle.std.proofs.Common.{◌≡◌, sym, ap, subst, ◌∙◌, ℕ, ◌≤◌, inl, inr, List, true, false, arith}
-use Rattle.std.specs.Prelude.{◌≢◌, ℤ, ◌≤ℤ◌, Contains}
+use Rattle.std.specs.Prelude.{◌≢◌, ℤ, ◌≤ℤ◌, AllPairs, Contains}
 use Rattle.std.specs.Ordering.{is_gt, ordering_reverse}
 use Rattle.std.specs.declared.cmp.Ordering.{Ordering}
 use Rattle.std.specs.declared.cmp.Ordering.TheVariants.{Less, Equal, Greater}
@@ -22,7 +22,10 @@ use Rattle.pg_rules.specs.NoWorse.{is_same_key}
 use Rattle.pg_rules.specs.States.{Prefix, state_of, is_done}
 use Rattle.pg_table.specs.Space.{Lawful, Reached, Run, IsRun, Undercuts}
 use Rattle.pg_table.specs.Space.{Better as BetterRun}
-use Rattle.pg_table.specs.Label.{RunOf, reached, IsTable, IsBestOf, NoneDone}
+use Rattle.pg_table.specs.Label.{Apart, RunOf, reached, IsTable, IsBestOf, NoneDone}
+use Rattle.pg_table.proofs.Lists.{pairs_weaker}
+use Rattle.pg_table.proofs.Narrow.{narrow_lawful}
+use Rattle.pg_table.proofs.Runs.{better_itself}
 use Rattle.pg_table.specs.Label.{IsLabel as IsTableLabel}
 use Rattle.pg_table.specs.declared.table.Entry.{Entry}
 use Rattle.pg_table.proofs.Labels.{label_run}
@@ -152,3 +155,14 @@ module _ (g : GalleyValue) (s : StyleValue) (facts : Facts (document g s)) (some
     -- two labels on the frontier have two states
     pub states_differ : (e f : Entry State PageMove) → Contains es e → Contains es f → e.state ≡ f.state → e ≡ f
     states_differ e f a b same = labels_differ is_same_key (wide_meaning (document g s)) law (FollowBest (document g s)) narrow es table e f a b same
+
+    -- no two labels have one state
+    pub states_apart : AllPairs (λ a b. a.state ≡ b.state → ⊥) es
+    states_apart = pairs_weaker (Apart (page_meaning (document g s)) es) (λ a b. a.state ≡ b.state → ⊥) es no_pair table.apart
+      where
+        no_pair : (a b : Entry State PageMove) → Contains es a → Contains es b → Apart (page_meaning (document g s)) es a b → a.state ≡ b.state → ⊥
+        no_pair a b ca cb apart same =
+            let e : a ≡ b = states_differ a b ca cb same in
+            let l : IsTableLabel (page_meaning (document g s)) es a = table.labels a ca in
+            apart.left l.moves l.moves l.run_of (subst (λ (x : Entry State PageMove). RunOf es x l.moves) e l.run_of)
+            (subst (λ (x : Entry State PageMove). BetterRun (page_meaning (document g s)) (reached a l.moves) (reached x l.moves)) e (better_itself is_same_key (page_meaning (document g s)) (narrow_lawful is_same_key (wide_meaning (document g s)) law (FollowBest (document g s)) narrow) (reached a l.moves) l.run))

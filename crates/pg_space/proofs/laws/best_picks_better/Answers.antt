@@ -1,0 +1,12 @@
+use Rattle.pg_space.proofs.Contracts.{best_exist, best_betters}
+use Rattle.pg_space.proofs.Least.{best_narrower}
+use Rattle.pg_space.proofs.laws.best_picks_better.Goals as goal
+
+pub returns-clause-exist : goal.returns-clause-exist
+returns-clause-exist c = best_exist _
+
+pub returns-clause-narrower : goal.returns-clause-narrower
+returns-clause-narrower c = best_narrower _
+
+pub returns-clause-better : goal.returns-clause-better
+returns-clause-better c = best_betters _ _ c.requires
