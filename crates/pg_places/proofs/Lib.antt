@@ -3,5 +3,5 @@ pub mod Tests
 pub mod Places
 pub mod Measures
 pub mod Callouts
-pub mod Continues
+pub mod Splits
 pub mod Steps
