@@ -48,7 +48,7 @@ young_map doc g [] h = refl
 young_map doc g (x ∷ xs) h = let t = both_of (nat_lt (g x) (length (distance_table doc.style x.0))) _ h in both (nat_lt (g x) (length (distance_table doc.style x.0))) _ t.0 (young_map doc g xs t.1)
 
 -- a member of the slots is below their number
-slot_below : (f k slot : ℕ) → Among slot (range_with_len f k) → (f ≤ slot) × (slot < f + k)
+pub slot_below : (f k slot : ℕ) → Among slot (range_with_len f k) → (f ≤ slot) × (slot < f + k)
 slot_below f zero slot a = absurd a
 slot_below f (suc k) slot (inl e) = (omega arith, omega arith)
 slot_below f (suc k) slot (inr a) = let r = slot_below (f + 1) k slot a in let p : f + 1 ≤ slot = r.0 in let q : slot < f + 1 + k = r.1 in (omega arith, omega arith)

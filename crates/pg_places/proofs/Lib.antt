@@ -5,3 +5,4 @@ pub mod Measures
 pub mod Callouts
 pub mod Splits
 pub mod Steps
+pub mod Alike

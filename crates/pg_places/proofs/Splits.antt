@@ -121,7 +121,7 @@ module _ (all : List Block) where
   each_drop (suc n) [] a = tt
   each_drop (suc n) (x ∷ xs) a = each_drop n xs a.1
 
-  stands_at : (xs : List FlatItem) (to : Place) (k : ℕ) → steps_to all xs to ≡ Some k → StandsAt xs k to
+  pub stands_at : (xs : List FlatItem) (to : Place) (k : ℕ) → steps_to all xs to ≡ Some k → StandsAt xs k to
   stands_at xs to k e = by_bool (is_same_place to (end_of all))
       (λ t. inr (sym (some_same (length xs) k (sym (if_true (is_same_place to (end_of all)) (Some (length xs)) (position (λ (flat_item : FlatItem). is_same_place flat_item.place to) xs) t) ∙ e)), same_place to (end_of all) t))
       (λ f. let r : Found (λ (flat_item : FlatItem). is_same_place flat_item.place to) xs k = found (λ (flat_item : FlatItem). is_same_place flat_item.place to) xs k (sym (if_false (is_same_place to (end_of all)) (Some (length xs)) (position (λ (flat_item : FlatItem). is_same_place flat_item.place to) xs) f) ∙ e) in
