@@ -3,3 +3,4 @@ pub mod Break
 pub mod Totals
 pub mod Badness
 pub mod Whole
+pub mod Rigid

@@ -69,11 +69,11 @@ abbrev pub floats_between : StyleValue → List ℕ → List ℕ → List (ℕ �
 floats_between style a b = flat_map (λ (slot : ℕ). numbered slot (entry a slot) (entry b slot - entry a slot)) (slots style)
 
 -- the counts deal out the next floats, class by class
-abbrev pub dealt_from : ℕ → List (List ℤ) → List ℕ → List ℕ → List ℤ
+abbrev pub dealt_from : {X : Type 0} → ℕ → List (List X) → List ℕ → List ℕ → List X
 dealt_from slot [] before counts = []
-dealt_from slot (sizes ∷ floats) before counts = take (entry counts slot) (drop (entry before slot) sizes) ++ dealt_from (slot + 1) floats before counts
+dealt_from slot (own ∷ floats) before counts = take (entry counts slot) (drop (entry before slot) own) ++ dealt_from (slot + 1) floats before counts
 
-abbrev pub dealt : List (List ℤ) → List ℕ → List ℕ → List ℤ
+abbrev pub dealt : {X : Type 0} → List (List X) → List ℕ → List ℕ → List X
 dealt floats before counts = dealt_from 0 floats before counts
 
 -- no class deals out a float that it has not

@@ -1,5 +1,5 @@
 -- The blocks of lines, one by one.
-use Rattle.std.proofs.Common.{◌≡◌, ◌∙◌, ◌≤◌, ◌<◌, ◌+◌, ◌^◌, ℕ, ap, sym, arith, List, [], ◌∷◌, ◌++◌, refl, length, append_assoc, append-nil, inl, inr, length-append}
+use Rattle.std.proofs.Common.{◌≡◌, ◌∙◌, ◌≤◌, ◌<◌, ◌+◌, ◌^◌, ℕ, ap, sym, subst, arith, List, [], ◌∷◌, ◌++◌, refl, length, append_assoc, append-nil, inl, inr, length-append}
 use Rattle.std.specs.Prelude.{Option, Some, None, ℤ, nat_le, Err}
 use Rattle.std.proofs.lemmas.Bool.{le-leb, lt-leb, cases_Bool}
 use Rattle.std.specs.List.{sum_by}
@@ -8,6 +8,7 @@ use Rattle.pg_list.specs.declared.item.Item.{Item}
 use Rattle.pg_list.specs.declared.blocks.Block.{Block}
 use Rattle.pg_list.specs.declared.blocks.Block.TheVariants.{One}
 use Rattle.pg_list.specs.Counts.{item_count, block_size}
+use Rattle.pg_flat.specs.Rigid.{IsRigid, AreRigid}
 use Rattle.pg_showbox.specs.Gives.{Refuses}
 use Rattle.pg_showbox.specs.declared.galley.ListKind.{ListKind}
 use Rattle.pg_showbox.specs.declared.galley.ListKind.TheVariants.{NotBuilt, Memory}
@@ -91,6 +92,14 @@ items_more blocks new item so_far push =
     let one = ap item_count push ∙ sum_by_push block_size blocks (One item) in
     let more = ap length push ∙ length-append blocks (One item ∷ []) in
     omega arith
+
+rigid_push : (blocks : List Block) (item : Item) → AreRigid blocks → IsRigid item → AreRigid (blocks ++ One item ∷ [])
+rigid_push [] item all is = (is, tt)
+rigid_push (block ∷ blocks) item all is = (all.0, rigid_push blocks item all.1 is)
+
+pub rigid_more : (blocks new : List Block) (item shown : Item) → AreRigid blocks → item ≡ shown → IsRigid shown → new ≡ blocks ++ One item ∷ [] → AreRigid new
+rigid_more blocks new item shown all same is push =
+    subst (λ (bs : List Block). AreRigid bs) (sym push) (rigid_push blocks item all (subst (λ (it : Item). IsRigid it) (sym same) is))
 
 pub nil_from_length : (xs : List ℕ) → length xs ≡ 0 → xs ≡ []
 nil_from_length [] e = refl

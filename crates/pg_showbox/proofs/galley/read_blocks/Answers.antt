@@ -2,7 +2,7 @@ use Rattle.std.proofs.Common.{◌≡◌, ◌∙◌, ap, sym, arith, length, nat_
 use Rattle.std.proofs.lemmas.Bool.Decides.{nat_tests}
 use Rattle.pg_showbox.specs.Lines.{ended_lines, unended}
 use Rattle.pg_showbox.specs.Shown.{line_item}
-use Rattle.pg_showbox.proofs.BlockLemmas.{with_front, said_more, count_more, items_more, one_longer, line_fails, too_many, not_ended, all_said, none_said, nil_from_length}
+use Rattle.pg_showbox.proofs.BlockLemmas.{with_front, said_more, count_more, items_more, one_longer, rigid_more, line_fails, too_many, not_ended, all_said, none_said, nil_from_length}
 use Rattle.pg_showbox.specs.Galley.{blocks_of}
 use Rattle.pg_list.specs.declared.blocks.Block.TheVariants.{One}
 use Rattle.pg_showbox.proofs.galley.read_blocks.Goals as goal
@@ -26,6 +26,7 @@ lines-preserved c = record {
   count = count_more (ended_lines c.args.text.now) (ended_lines c.lines.rest.now) (ended_lines c.in-Some.after.now) c.in-Some.line.now
       c.lines.blocks c.push.new.self (One c.in-Ok.item) c.lines.invariant.count c.in-Some.ensures.lines c.in-Ok-push.ensures.ok;
   items = items_more c.lines.blocks c.push.new.self c.in-Ok.item c.lines.invariant.items c.in-Ok-push.ensures.ok;
+  rigid = rigid_more c.lines.blocks c.push.new.self c.in-Ok.item (line_item c.in-Some-item_line.found) c.lines.invariant.rigid c.in-Ok.ensures c.in-Some-item_line.ensures.rigid c.in-Ok-push.ensures.ok;
   unended = c.lines.invariant.unended ∙ c.in-Some.ensures.rest;
   room = let longer = one_longer c.lines.blocks c.push.new.self (One c.in-Ok.item) c.in-Ok-push.ensures.ok in omega (arith, longer);
 }

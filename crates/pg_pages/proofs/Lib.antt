@@ -1,0 +1,4 @@
+pub mod WorkedTexts
+pub mod Singles
+pub mod Plain
+pub mod PlainColumn

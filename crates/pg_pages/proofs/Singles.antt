@@ -1,0 +1,30 @@
+-- The items of blocks, one block more, and texts that grow.
+use Rattle.std.proofs.Common.{◌≡◌, ◌∙◌, sym, refl, ap, ◌+◌, ◌<◌, ◌≤◌, ℕ, zero, suc, arith, subst, List, [], ◌∷◌, ◌++◌, take, length}
+use Rattle.std.proofs.Math.Seq.{take-suc}
+use Rattle.std.proofs.Math.ListN.{get_or}
+use Rattle.std.proofs.lemmas.List.{take-take}
+use Rattle.pg_list.specs.declared.item.Item.{Item}
+use Rattle.pg_list.specs.declared.blocks.Block.{Block}
+use Rattle.pg_list.specs.declared.blocks.Block.TheVariants.{One, Choice}
+use Rattle.pg_plain.specs.Plain.{single_items}
+use Rattle.pg_scaled.specs.Scaled.{Grows}
+
+pub singles_append : (xs ys : List Block) → single_items (xs ++ ys) ≡ single_items xs ++ single_items ys
+singles_append [] ys = refl
+singles_append (One item ∷ xs) ys = ap (λ (items : List Item). item ∷ items) (singles_append xs ys)
+singles_append (Choice variants ∷ xs) ys = singles_append xs ys
+
+pub singles_length : (xs : List Block) → length (single_items xs) ≤ length xs
+singles_length [] = omega arith
+singles_length (One item ∷ xs) = omega (arith, singles_length xs)
+singles_length (Choice variants ∷ xs) = omega (arith, singles_length xs)
+
+-- the blocks up to and including the next
+pub one_more : (xs : List Block) (i : ℕ) (x : Block) → i < length xs → x ≡ get_or xs i x → take (i + 1) xs ≡ take i xs ++ x ∷ []
+one_more xs i x less is =
+    let next : i + 1 ≡ suc i = omega arith in
+    ap (λ (k : ℕ). take k xs) next ∙ take-suc xs i x less ∙ ap (λ (y : Block). take i xs ++ y ∷ []) (sym is)
+
+pub grows_on : (a b c : List ℕ) → Grows a b → Grows b c → Grows a c
+grows_on a b c one two =
+    (omega (arith, one.0, two.0), sym (take-take (length a) (length b) c one.0) ∙ ap (λ (xs : List ℕ). take (length a) xs) two.1 ∙ one.1)

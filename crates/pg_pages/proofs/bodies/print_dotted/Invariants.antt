@@ -1,0 +1,10 @@
+use Rattle.std.proofs.Common.{◌≡◌, ◌++◌, take}
+use Rattle.pg_scaled.specs.Scaled.{Grows}
+use Rattle.pg_pages.specs.Bodies.{dotted}
+use Rattle.pg_pages.proofs.bodies.print_dotted.Given as goal
+
+abbrev pub invariant-loop-byte : goal.invariant-loop-byte
+invariant-loop-byte l = record {
+  text : l.out.items ≡ l.fn.out.items ++ dotted (take l.byte-index l.body);
+  grows : Grows l.fn.out.items l.out.items;
+}

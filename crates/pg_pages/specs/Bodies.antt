@@ -1,0 +1,32 @@
+-- How an item's shown text stands in a page text.
+use Rattle.std.specs.Prelude.{ℕ, Bool, not, ◌==◌, if◌then◌else◌, List, [], ◌∷◌, ◌++◌, take, drop, codes, ℤ}
+use Rattle.std.specs.List.{flat_map, prefix_len}
+use Rattle.pg_list.specs.declared.item.Item.{Item}
+use Rattle.pg_list.specs.declared.item.Item.TheVariants.{Insert}
+use Rattle.pg_list.specs.Bodies.{body_of}
+use Rattle.pg_scaled.specs.Scaled.{scaled_text}
+use Rattle.pg_pages.specs.Words.{line}
+
+abbrev pub is_no_feed : ℕ → Bool
+is_no_feed byte = not (byte == 10)
+
+-- a point in front of each further line
+abbrev pub dotted : List ℕ → List ℕ
+dotted body = flat_map (λ (byte : ℕ). if byte == 10 then 10 ∷ 46 ∷ [] else byte ∷ []) body
+
+-- a body with a point in front of each of its lines
+abbrev pub body_text : List ℕ → List ℕ
+body_text body = line (46 ∷ dotted body)
+
+-- a set width, and what stands behind it
+abbrev pub set_rest : ℤ → List ℕ → List ℕ
+set_rest width further = codes ", set " ++ scaled_text width ++ line (dotted further)
+
+-- a body whose first line goes on with a set width
+abbrev pub set_text : List ℕ → ℤ → List ℕ
+set_text body width = 46 ∷ dotted (take (prefix_len is_no_feed body) body) ++ set_rest width (drop (prefix_len is_no_feed body) body)
+
+-- inserts stand in areas of their own
+abbrev pub plain_text : Item → List ℕ
+plain_text (Insert class size body) = []
+plain_text item = body_text (body_of item)

@@ -1,0 +1,5 @@
+pub mod Words
+pub mod Bodies
+pub mod SetGlue
+pub mod PageText
+pub mod PlainText

@@ -1,0 +1,62 @@
+//! The shown texts of items.
+ghost use Rattle.std.specs.Prelude.{◌≡◌, ◌≤◌, ◌++◌, ◌∷◌, [], OnOk, length};
+ghost use Rattle.std.specs.List.{prefix_len};
+ghost use Rattle.pg_scaled.specs.Scaled.{Grows};
+ghost use Rattle.pg_pages.specs.Bodies.{dotted, body_text, set_rest, set_text, is_no_feed};
+
+use pg_scaled::print_scaled;
+use std::alloc::AllocError;
+
+// The bytes, with a point behind each line feed.
+fn print_dotted(body: &[u8], out: &mut Vec<u8>) -> Result<(), AllocError>
+    ensures ok { OnOk result (out.new.items ≡ out.old.items ++ dotted body.now) }
+    ensures grows { Grows out.old.items out.new.items }
+{
+    for byte in body {
+        out.push(*byte)?;
+        if *byte == b'\n' {
+            out.push(b'.')?;
+        }
+    }
+    Ok(())
+}
+
+pub fn print_body(body: &[u8], out: &mut Vec<u8>) -> Result<(), AllocError>
+    ensures ok { OnOk result (out.new.items ≡ out.old.items ++ body_text body.now) }
+    ensures grows { Grows out.old.items out.new.items }
+{
+    out.push(b'.')?;
+    print_dotted(body, out)?;
+    out.push(b'\n')?;
+    Ok(())
+}
+
+// How many bytes stand before the first line feed.
+fn first_line_len(body: &[u8]) -> usize
+    ensures len { result ≡ prefix_len is_no_feed body.now }
+    ensures within { result ≤ length body.now }
+{
+    body.iter().take_while(|byte| **byte != b'\n').count()
+}
+
+// A set width, and what stands behind the first line.
+fn print_set_rest(width: i32, further: &[u8], out: &mut Vec<u8>) -> Result<(), AllocError>
+    ensures ok { OnOk result (out.new.items ≡ out.old.items ++ set_rest width further.now) }
+    ensures grows { Grows out.old.items out.new.items }
+{
+    out.extend_from_slice(b", set ")?;
+    print_scaled(i128::from(width), out)?;
+    print_dotted(further, out)?;
+    out.push(b'\n')?;
+    Ok(())
+}
+
+pub fn print_set(body: &[u8], width: i32, out: &mut Vec<u8>) -> Result<(), AllocError>
+    ensures ok { OnOk result (out.new.items ≡ out.old.items ++ set_text body.now width) }
+    ensures grows { Grows out.old.items out.new.items }
+{
+    let (first, further) = body.split_at(first_line_len(body));
+    out.push(b'.')?;
+    print_dotted(first, out)?;
+    print_set_rest(width, further, out)
+}

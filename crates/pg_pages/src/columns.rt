@@ -1,0 +1,193 @@
+//! A column of text: its numbers and its items.
+ghost use Rattle.std.specs.Prelude.{◌≡◌, ◌≤◌, ◌^◌, ◌<◌, ◌++◌, ◌∷◌, [], OnOk, length, List, ℤ, pos, ◌≤ℤ◌, ◌-ℤ◌};
+ghost use Rattle.std.specs.Int.{int_max};
+ghost use Rattle.std.specs.List.{AllByRecursion};
+ghost use Rattle.pg_list.specs.Shapes.{IsBlock};
+ghost use Rattle.pg_list.specs.Ranges.{IsScaled};
+ghost use Rattle.pg_list.specs.declared.item.Item.{Item as AnItem};
+ghost use Rattle.pg_flat.specs.Rigid.{AreRigid};
+ghost use Rattle.pg_flat.specs.Totals.{top_glue, trimmed};
+ghost use Rattle.pg_scaled.specs.Scaled.{Grows, scaled_text};
+ghost use Rattle.pg_sums.specs.AreSums.{AreSums};
+ghost use Rattle.pg_plain.specs.Plain.{single_items};
+ghost use Rattle.pg_pages.specs.Words.{whole_text};
+ghost use Rattle.pg_pages.specs.PlainText.{numbers_text, sizes_text, costs_text, demerits_line, own_items, own_text, front_is_box};
+
+use crate::bodies::{print_body, print_set};
+use crate::words::print_whole;
+use pg_list::{Block, Item, item_is_box};
+use pg_scaled::print_scaled;
+use pg_sums::Sums;
+use pg_whole::{minus, wide};
+use std::alloc::AllocError;
+
+/// The numbers of a text column, lengths in scaled points: what its text is set to, its natural size, TeX's badness of the
+/// difference, the penalty at its end, and its demerits.
+#[derive(Clone, Copy, Debug, Drop)]
+pub struct TextNumbers {
+    pub goal: i64,
+    pub total: i64,
+    pub badness: u16,
+    pub penalty: i32,
+    pub demerits: i64,
+}
+
+// A name, and a scaled number behind it.
+fn print_length(name: &[u8], length: i64, out: &mut Vec<u8>) -> Result<(), AllocError>
+    ensures ok { OnOk result (out.new.items ≡ out.old.items ++ name.now ++ scaled_text length) }
+    ensures grows { Grows out.old.items out.new.items }
+{
+    out.extend_from_slice(name)?;
+    print_scaled(i128::from(length), out)
+}
+
+// A name, and a whole number behind it.
+fn print_number(name: &[u8], number: i128, out: &mut Vec<u8>) -> Result<(), AllocError>
+    ensures ok { OnOk result (out.new.items ≡ out.old.items ++ name.now ++ whole_text number) }
+    ensures grows { Grows out.old.items out.new.items }
+{
+    out.extend_from_slice(name)?;
+    print_whole(number, out)
+}
+
+fn print_sizes(numbers: &TextNumbers, out: &mut Vec<u8>) -> Result<(), AllocError>
+    ensures ok { OnOk result (out.new.items ≡ out.old.items ++ sizes_text numbers.now) }
+    ensures grows { Grows out.old.items out.new.items }
+{
+    print_length(b"set goal ", numbers.goal, out)?;
+    print_length(b" total ", numbers.total, out)
+}
+
+fn print_costs(numbers: &TextNumbers, out: &mut Vec<u8>) -> Result<(), AllocError>
+    ensures ok { OnOk result (out.new.items ≡ out.old.items ++ costs_text numbers.now) }
+    ensures grows { Grows out.old.items out.new.items }
+{
+    print_number(b" badness ", i128::from(numbers.badness), out)?;
+    print_number(b" penalty ", i128::from(numbers.penalty), out)
+}
+
+fn print_demerits(demerits: i64, out: &mut Vec<u8>) -> Result<(), AllocError>
+    ensures ok { OnOk result (out.new.items ≡ out.old.items ++ demerits_line demerits) }
+    ensures grows { Grows out.old.items out.new.items }
+{
+    print_number(b" demerits ", i128::from(demerits), out)?;
+    out.push(b'\n')?;
+    Ok(())
+}
+
+#[tactic(auto, unfolding(crate::specs::PlainText::numbers_text))]
+pub fn print_numbers(numbers: &TextNumbers, out: &mut Vec<u8>) -> Result<(), AllocError>
+    ensures ok { OnOk result (out.new.items ≡ out.old.items ++ numbers_text numbers.now) }
+    ensures grows { Grows out.old.items out.new.items }
+{
+    print_sizes(numbers, out)?;
+    print_costs(numbers, out)?;
+    print_demerits(numbers.demerits, out)
+}
+
+// An item in the text of a column; inserts stand elsewhere.
+fn print_item(item: &Item, out: &mut Vec<u8>) -> Result<(), AllocError>
+    ensures ok { OnOk result (out.new.items ≡ out.old.items ++ own_text item.now) }
+    ensures grows { Grows out.old.items out.new.items }
+{
+    match item {
+        Item::Glue { width, body, .. } => print_set(body.as_slice(), *width, out),
+        Item::Insert { .. } => Ok(()),
+        _ => print_body(item.body(), out),
+    }
+}
+
+fn print_block(block: &Block, out: &mut Vec<u8>) -> Result<(), AllocError>
+    ensures ok { OnOk result (out.new.items ≡ out.old.items ++ own_items (single_items (block.now ∷ []))) }
+    ensures grows { Grows out.old.items out.new.items }
+{
+    match block {
+        Block::One(item) => print_item(item, out),
+        Block::Choice(_) => Ok(()),
+    }
+}
+
+#[tactic(auto, using(crate::proofs::Singles::singles_append))]
+pub fn print_items(blocks: &[Block], out: &mut Vec<u8>) -> Result<(), AllocError>
+    ensures ok { OnOk result (out.new.items ≡ out.old.items ++ own_items (single_items blocks.now)) }
+    ensures grows { Grows out.old.items out.new.items }
+{
+    for block in blocks {
+        print_block(block, out)?;
+    }
+    Ok(())
+}
+
+fn begins_with_box(blocks: &[Block]) -> bool
+    requires { AreRigid blocks.now }
+    ensures { result ≡ front_is_box (single_items blocks.now) }
+{
+    match blocks {
+        [Block::One(item), ..] => item_is_box(item),
+        _ => false,
+    }
+}
+
+// The blocks from the first box on.
+pub fn without_front(blocks: &[Block]) -> &[Block]
+    requires { AreRigid blocks.now }
+    ensures items { single_items result.now ≡ trimmed (single_items blocks.now) }
+{
+    let mut rest = blocks;
+    'rest: while !begins_with_box(rest) {
+        let [_, after @ ..] = rest else {
+            return rest;
+        };
+        rest = after;
+    }
+    rest
+}
+
+fn lift(topskip: i32, height: i32) -> i64
+    ensures { result ≡ int_max (pos 0) (topskip -ℤ height) }
+{
+    let space = minus(wide(topskip), wide(height));
+    if space > 0 { space } else { 0 }
+}
+
+// What stands above the first box.
+pub fn space_above(topskip: i32, blocks: &[Block]) -> i64
+    requires { AreRigid blocks.now }
+    ensures { result ≡ top_glue topskip (single_items blocks.now) }
+{
+    for block in blocks {
+        if let Block::One(Item::BoxItem { height, .. }) = block {
+            return lift(topskip, *height);
+        }
+    }
+    0
+}
+
+// Adds the item of a block.
+fn add_block(sums: &mut Sums, block: &Block)
+    requires few { sums.old.count < 2 ^ 20 }
+    requires in_range { IsBlock block.now }
+    ensures { (topskip maxdepth : ℤ) (items : List AnItem) → AreSums topskip maxdepth items sums.old
+        → AreSums topskip maxdepth (items ++ single_items (block.now ∷ [])) sums.new }
+{
+    if let Block::One(item) = block {
+        sums.add(item);
+    }
+}
+
+// The sums of the blocks' items.
+#[tactic(auto, using(crate::proofs::Singles::singles_append, crate::proofs::Singles::singles_length))]
+pub fn sums_of(topskip: i32, maxdepth: i32, blocks: &[Block]) -> Sums
+    requires topskip { IsScaled topskip }
+    requires maxdepth { IsScaled maxdepth }
+    requires hanging { pos 0 ≤ℤ maxdepth }
+    requires few { length blocks.now ≤ 2 ^ 20 }
+    requires ranges { AllByRecursion IsBlock blocks.now }
+    ensures { AreSums topskip maxdepth (single_items blocks.now) result }
+{
+    let mut sums = Sums::start(topskip, maxdepth);
+    for block in blocks {
+        add_block(&mut sums, block);
+    }
+    sums
+}

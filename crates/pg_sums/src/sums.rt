@@ -1,0 +1,157 @@
+ghost use Rattle.std.specs.Prelude.{◌≡◌, ◌||◌, not, List, ◌++◌, ◌∷◌, [], ◌+◌, ◌*◌, ◌<◌, ◌≤◌, ◌^◌, ℤ, pos, true, false, ◌≤ℤ◌, ◌<ℤ◌, ◌+ℤ◌, ◌-ℤ◌, if◌then◌else◌, nat_abs};
+ghost use Rattle.std.specs.List.{list_any};
+ghost use Rattle.pg_list.specs.Ranges.{IsScaled, IsItemInRange};
+ghost use Rattle.pg_list.specs.Shapes.{is_box, is_discardable};
+ghost use Rattle.pg_list.specs.declared.item.Item.{Item as AnItem};
+ghost use Rattle.pg_flat.specs.Totals.{total, shrink, stretch, trimmed};
+ghost use Rattle.pg_flat.specs.Badness.{badness as badness_of, is_over, page_badness, has_infinite as has_infinite_of};
+ghost use Rattle.pg_list.specs.declared.item.Order.TheVariants.{Finite};
+ghost use Rattle.pg_sums.specs.AreSums.{AreSums};
+
+use crate::totals::Totals;
+use pg_badness::badness;
+use pg_list::{Item, item_is_discardable};
+use pg_whole::minus;
+use std::marker::Model;
+
+/// The sums of a segment so far. Discardable items before its first box are left out.
+#[derive(Debug, Drop)]
+pub struct Sums {
+    topskip: i32,
+    maxdepth: i32,
+    count: u32,
+    totals: Totals,
+}
+
+impl Model for Sums {
+    ghost use Rattle.pg_sums.specs.SumsValue.{SumsValue};
+
+    ghost Value = { SumsValue };
+
+    ghost use Rattle.pg_sums.specs.SumsValue.{IsWellKept};
+
+    ghost view = { λ a. record { topskip = a.topskip; maxdepth = a.maxdepth; count = a.count; totals = a.totals } };
+
+    ghost invariant = { λ a. IsWellKept (record { topskip = a.topskip; maxdepth = a.maxdepth; count = a.count; totals = a.totals }) };
+}
+
+impl Sums {
+    /// The sums of no items.
+    pub fn start(topskip: i32, maxdepth: i32) -> Sums
+        requires topskip { IsScaled topskip }
+        requires maxdepth { IsScaled maxdepth }
+        requires hanging { pos 0 ≤ℤ maxdepth }
+        ensures { AreSums topskip maxdepth [] result }
+    {
+        Sums {
+            topskip,
+            maxdepth,
+            count: 0,
+            totals: Totals::none(),
+        }
+    }
+
+    /// Whether an item counts after those so far.
+    fn counts(&self, item: &Item) -> bool
+        ensures { result ≡ (self.now.totals.has_box || not (is_discardable item.now)) }
+    {
+        self.totals.has_box || !item_is_discardable(item)
+    }
+
+    /// Adds the next item.
+    pub fn add(&mut self, item: &Item)
+        requires few { self.old.count < 2 ^ 20 }
+        requires in_range { IsItemInRange item.now }
+        ensures { (topskip maxdepth : ℤ) (items : List AnItem) → AreSums topskip maxdepth items self.old → AreSums topskip maxdepth (items ++ item.now ∷ []) self.new }
+    {
+        if self.counts(item) {
+            self.totals.add(self.topskip, self.maxdepth, item);
+        }
+        self.count += 1;
+    }
+
+    /// The natural size.
+    pub fn total(&self) -> i64
+        ensures sums { (topskip maxdepth : ℤ) (items : List AnItem) → AreSums topskip maxdepth items self.now → result ≡ total topskip maxdepth (trimmed items) }
+        ensures value { result ≡ self.now.totals.total }
+        ensures size { nat_abs result < 2 ^ 55 }
+    {
+        self.totals.total
+    }
+
+    /// How much can shrink.
+    pub fn shrink(&self) -> i64
+        ensures sums { (topskip maxdepth : ℤ) (items : List AnItem) → AreSums topskip maxdepth items self.now → result ≡ shrink (trimmed items) }
+        ensures value { result ≡ self.now.totals.shrink }
+        ensures size { nat_abs result < 2 ^ 52 }
+    {
+        self.totals.shrink
+    }
+
+    /// Whether a box or rule was added.
+    pub fn has_box(&self) -> bool
+        ensures { (topskip maxdepth : ℤ) (items : List AnItem) → AreSums topskip maxdepth items self.now → result ≡ list_any is_box items }
+    {
+        self.totals.has_box
+    }
+
+    /// Whether the total passes a goal by more than can shrink.
+    pub fn over(&self, goal: i64) -> bool
+        requires { nat_abs goal < 2 ^ 52 }
+        ensures value { result ≡ is_over self.now.totals.total self.now.totals.shrink goal }
+        ensures sums { (topskip maxdepth : ℤ) (items : List AnItem) → AreSums topskip maxdepth items self.now → result ≡ is_over (total topskip maxdepth (trimmed items)) (shrink (trimmed items)) goal }
+    {
+        self.total() >= goal && minus(self.total(), goal) > self.shrink()
+    }
+
+    fn has_infinite(&self) -> bool
+        ensures { (topskip maxdepth : ℤ) (items : List AnItem) → AreSums topskip maxdepth items self.now → result ≡ has_infinite_of (trimmed items) }
+    {
+        self.totals.fil != 0 || self.totals.fill != 0 || self.totals.filll != 0
+    }
+
+    /// How badly the finite stretch fills an excess.
+    fn stretch_badness(&self, excess: i64) -> u16
+        requires { pos 0 ≤ℤ excess }
+        ensures { (topskip maxdepth : ℤ) (items : List AnItem) → AreSums topskip maxdepth items self.now → result ≡ badness_of excess (stretch Finite (trimmed items)) }
+    {
+        badness(excess, self.totals.finite)
+    }
+
+    /// How badly the shrink takes up an excess.
+    fn shrink_badness(&self, excess: i64) -> u16
+        requires { pos 0 ≤ℤ excess }
+        ensures { (topskip maxdepth : ℤ) (items : List AnItem) → AreSums topskip maxdepth items self.now → result ≡ badness_of excess (shrink (trimmed items)) }
+    {
+        badness(excess, self.totals.shrink)
+    }
+
+    /// How badly the glue fills a goal that the segment is not over.
+    fn glue_badness(&self, goal: i64) -> u16
+        requires size { nat_abs goal < 2 ^ 52 }
+        requires fits { is_over self.now.totals.total self.now.totals.shrink goal ≡ false }
+        ensures { (topskip maxdepth : ℤ) (items : List AnItem) → AreSums topskip maxdepth items self.now → result ≡ page_badness false goal (total topskip maxdepth (trimmed items)) (trimmed items) }
+    {
+        let total = self.total();
+        if total >= goal {
+            self.shrink_badness(minus(total, goal))
+        } else if self.has_infinite() {
+            0
+        } else {
+            self.stretch_badness(minus(goal, total))
+        }
+    }
+
+    /// How badly the segment fills a goal that it is not over.
+    pub fn page_badness(&self, goal: i64, spent: bool) -> u16
+        requires size { nat_abs goal < 2 ^ 52 }
+        requires fits { is_over self.now.totals.total self.now.totals.shrink goal ≡ false }
+        ensures { (topskip maxdepth : ℤ) (items : List AnItem) → AreSums topskip maxdepth items self.now → result ≡ page_badness spent goal (total topskip maxdepth (trimmed items)) (trimmed items) }
+    {
+        if spent && self.total() <= goal {
+            0
+        } else {
+            self.glue_badness(goal)
+        }
+    }
+}
