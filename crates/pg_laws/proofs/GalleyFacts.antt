@@ -10,7 +10,7 @@ use Rattle.pg_flat.specs.Flat.{items_before, flat}
 use Rattle.pg_rules.specs.Floats.{sizes_of, entry, called, float_numbers}
 use Rattle.pg_rules.specs.History.{place_of, context}
 use Rattle.pg_rules.specs.Room.{Document}
-use Rattle.pg_places.specs.Past.{IsPlace}
+use Rattle.pg_rules.specs.IsState.{IsPlace}
 use Rattle.pg_places.proofs.Among.{both_of}
 use Rattle.pg_places.proofs.Callouts.{called_total, entry_less, entry_zero, fit_ends, start_place}
 use Rattle.pg_places.proofs.Measures.{called_grows}

@@ -12,7 +12,7 @@ use Rattle.pg_plan.specs.declared.states.Side.{Side}
 use Rattle.pg_plan.specs.declared.states.Side.TheVariants.{L, R, S}
 use Rattle.pg_plan.specs.declared.states.State.{State}
 use Rattle.pg_rules.specs.Frontier.{side_rank, option_cmp, state_cmp}
-use Rattle.pg_laws.proofs.Order.{place_total, then_equal, nat_equal, list_equal, place_equal}
+use Rattle.pg_laws.proofs.Order.{list_equal, nat_equal, place_equal, place_total, then_equal}
 
 module _ {X : Type 0} (cmp : X → X → Ordering) (total : IsTotalOrder cmp) where
   option_back : (a b : Option X) → option_cmp cmp a b ≡ ordering_reverse (option_cmp cmp b a)

@@ -90,3 +90,9 @@ placed_more style placed m slot h =
     let b : entry (plus_counts style (with_wide style placed m) m.column.top) slot ≡ entry (with_wide style placed m) slot + entry m.column.top slot = entry_plus style (with_wide style placed m) m.column.top slot h in
     let c : entry (placed_after style placed m) slot ≡ entry (plus_counts style (with_wide style placed m) m.column.top) slot + entry m.column.bottom slot = entry_plus style (plus_counts style (with_wide style placed m) m.column.top) m.column.bottom slot h in
     omega arith
+
+-- a member of the slots is below their number
+pub slot_below : (f k slot : ℕ) → Among slot (range_with_len f k) → (f ≤ slot) × (slot < f + k)
+slot_below f zero slot a = absurd a
+slot_below f (suc k) slot (inl e) = (omega arith, omega arith)
+slot_below f (suc k) slot (inr a) = let r = slot_below (f + 1) k slot a in let p : f + 1 ≤ slot = r.0 in let q : slot < f + 1 + k = r.1 in (omega arith, omega arith)

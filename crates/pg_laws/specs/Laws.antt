@@ -13,7 +13,8 @@ use Rattle.pg_rules.specs.Legal.{Legal, breach, document, misfilled, ends_spent,
 use Rattle.pg_rules.specs.History.{placed_of}
 use Rattle.pg_rules.specs.NoWorse.{is_no_worse}
 use Rattle.pg_rules.specs.States.{Prefix, state_of, can_wait, is_done}
-use Rattle.pg_laws.specs.OwnStates.{FollowsToo, IsState}
+use Rattle.pg_rules.specs.IsState.{IsState}
+use Rattle.pg_laws.specs.FollowsToo.{FollowsToo}
 use Rattle.pg_laws.specs.Stands.{Stand}
 
 -- ---- a column more

@@ -16,7 +16,7 @@ use Rattle.pg_flat.specs.Break.{break_penalty, follows_solid, has_at, is_forced,
 use Rattle.pg_flat.specs.Flat.{FlatItem, blocks_at, flat_items_at, flat_items_from, later_flat_items, picked_variants, variant_flat_items}
 use Rattle.pg_places.proofs.Among.{by_bool}
 use Rattle.pg_places.proofs.Places.{drop_head, pick_named}
-use Rattle.pg_places.proofs.Tests.{if_true, if_false}
+use Rattle.pg_places.proofs.Tests.{if_false, if_true}
 
 abbrev pub Alike : List Item → List Item → Type 0
 Alike [] [] = Unit {0}

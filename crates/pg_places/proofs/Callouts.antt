@@ -13,7 +13,8 @@ use Rattle.pg_flat.specs.Flat.{items_before, flat, fronts}
 use Rattle.pg_rules.specs.Floats.{sizes_of, entry}
 use Rattle.pg_rules.specs.Room.{Document, ColumnContext, flat_items_of, size_of}
 use Rattle.std.specs.Option.{option_map_or}
-use Rattle.pg_places.specs.Past.{IsPast, IsPlace}
+use Rattle.pg_rules.specs.IsState.{IsPlace}
+use Rattle.pg_places.specs.Past.{IsPast}
 use Rattle.pg_places.proofs.Among.{both_of}
 use Rattle.pg_places.proofs.Measures.{block_at, block_inserts, count_before, inserted, inserted_flat, part_few, sum_more}
 use Rattle.pg_places.proofs.Places.{begins, ends_at, none_around}

@@ -13,7 +13,8 @@ use Rattle.pg_list.specs.Places.{place, picked_items, items_around}
 use Rattle.pg_list.specs.Shapes.{IsBlock, HaveInserts, inserts}
 use Rattle.pg_flat.specs.Flat.{FlatItem, is_same_place, end_of, items_before, flat, flat_items_from}
 use Rattle.pg_rules.specs.Floats.{sizes_of, insert_size}
-use Rattle.pg_places.specs.Past.{IsPast, IsPlace, LaterIn, Past, far}
+use Rattle.pg_rules.specs.IsState.{IsPlace}
+use Rattle.pg_places.specs.Past.{IsPast, LaterIn, Past, far}
 use Rattle.pg_places.proofs.Among.{by_bool}
 use Rattle.pg_places.proofs.Places.{around_block, around_is}
 use Rattle.pg_places.proofs.Tests.{if_false, if_true, same_place}

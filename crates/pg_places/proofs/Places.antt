@@ -14,7 +14,8 @@ use Rattle.pg_flat.specs.Flat.{FlatItem, later_flat_items, variant_flat_items, f
 use Rattle.std.specs.Option.{option_map_or}
 use Rattle.std.proofs.Common.{length-drop}
 use Rattle.std.proofs.lemmas.Option.{slice_get_within}
-use Rattle.pg_places.specs.Past.{IsPast, IsPlace}
+use Rattle.pg_rules.specs.IsState.{IsPlace}
+use Rattle.pg_places.specs.Past.{IsPast}
 use Rattle.pg_places.proofs.Among.{by_bool}
 use Rattle.pg_places.proofs.Tests.{if_false, if_true, less_true, same_place}
 

@@ -12,10 +12,10 @@ use Rattle.pg_list.specs.declared.galley.Place.{Place}
 use Rattle.pg_list.specs.Places.{place, picked_items, items_around}
 use Rattle.pg_list.specs.Shapes.{IsBlock}
 use Rattle.pg_flat.specs.Flat.{FlatItem, later_flat_items, variant_flat_items, flat_items_from, flat_items_at, fronts, picked_variants, steps_to, is_same_place, end_of, blocks_at}
-use Rattle.pg_places.specs.Past.{IsPlace}
+use Rattle.pg_rules.specs.IsState.{IsPlace}
 use Rattle.pg_places.proofs.Among.{by_bool}
-use Rattle.pg_places.proofs.Places.{Found, found, around_block, around_is, begins, begins_with, drop_head, drop_later, pick_named, suc_not}
-use Rattle.pg_places.proofs.Tests.{if_true, if_false, same_place}
+use Rattle.pg_places.proofs.Places.{Found, around_block, around_is, begins, begins_with, drop_head, drop_later, found, pick_named, suc_not}
+use Rattle.pg_places.proofs.Tests.{if_false, if_true, same_place}
 
 pub fronts_cons : (x : FlatItem) (xs : List FlatItem) (k : ℕ) → fronts (x ∷ xs) (suc k) ≡ cond x.is_front 1 0 + fronts xs k
 fronts_cons x xs k = sum_by-cons (λ (flat_item : FlatItem). cond flat_item.is_front 1 0) x (take k xs)

@@ -11,7 +11,8 @@ use Rattle.pg_list.specs.declared.blocks.Block.TheVariants.{One, Choice}
 use Rattle.pg_list.specs.declared.galley.Place.{Place}
 use Rattle.pg_list.specs.declared.item.Item.{Item}
 use Rattle.pg_flat.specs.Flat.{FlatItem, later_flat_items, variant_flat_items, flat_items_from, flat_items_at, steps_to, is_same_place, end_of, fronts}
-use Rattle.pg_places.specs.Past.{IsPlace, far}
+use Rattle.pg_rules.specs.IsState.{IsPlace}
+use Rattle.pg_places.specs.Past.{far}
 use Rattle.pg_places.proofs.Among.{by_bool}
 use Rattle.pg_places.proofs.Callouts.{take_all}
 use Rattle.pg_places.proofs.Measures.{block_at, count_more, picked_size}

@@ -3,13 +3,7 @@ use Rattle.std.specs.Prelude.{◌≡◌, true, ℕ, ◌+◌, ◌<◌, ◌⊎◌,
 use Rattle.pg_list.specs.declared.blocks.Block.{Block}
 use Rattle.pg_list.specs.declared.galley.Place.{Place}
 use Rattle.pg_list.specs.Counts.{item_count}
-use Rattle.pg_list.specs.Places.{items_around}
-use Rattle.pg_flat.specs.Flat.{is_same_place, end_of}
-
--- a place of the galley
-pub record IsPlace (blocks : List Block) (at : Place) : Type 0 where
-  pub within : (is_same_place at (end_of blocks) ≡ true) ⊎ (at.index < length (items_around blocks at))
-  pub front : at.index ≡ 0 → at.variant ≡ 0
+use Rattle.pg_rules.specs.IsState.{IsPlace}
 
 -- how many items stand before a place, those of all variants counted
 abbrev pub far : List Block → Place → ℕ

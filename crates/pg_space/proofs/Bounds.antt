@@ -28,22 +28,22 @@ use Rattle.pg_rules.specs.Legal.{added, document}
 use Rattle.pg_rules.specs.NoWorse.{is_same_key}
 use Rattle.pg_rules.specs.Room.{Document, ColumnContext, flat_items_of, size_of}
 use Rattle.pg_table.specs.Space.{Lawful}
-use Rattle.pg_places.specs.Past.{IsPlace, IsPast, Past, far}
+use Rattle.pg_rules.specs.IsState.{IsPlace, IsState}
+use Rattle.pg_places.specs.Past.{IsPast, Past, far}
 use Rattle.pg_places.proofs.Among.{Among, all_at, both_of}
 use Rattle.pg_places.proofs.Callouts.{called_total}
-use Rattle.pg_places.proofs.Measures.{far_rises, past_within, place_within, block_inserts, inserted_flat, picked_size, block_at}
+use Rattle.pg_places.proofs.Measures.{block_at, block_inserts, far_rises, inserted_flat, past_within, picked_size, place_within}
 use Rattle.pg_places.proofs.Places.{begins}
-use Rattle.pg_places.proofs.Steps.{fronts_few, steps_far, far_within, index_within}
+use Rattle.pg_places.proofs.Steps.{far_within, fronts_few, index_within, steps_far}
 use Rattle.pg_places.proofs.Tests.{eq_true, same_place}
-use Rattle.pg_laws.specs.OwnStates.{IsState}
 use Rattle.pg_laws.specs.Ranges.{AreInRange}
-use Rattle.pg_laws.proofs.Counts.{added_long, counts_few, total_cons}
-use Rattle.pg_laws.proofs.Owned.{own_next, own_start}
-use Rattle.pg_laws.proofs.Prices.{cost_few, picked_limits}
 use Rattle.pg_laws.proofs.Simulation.{le_true}
 use Rattle.pg_laws.proofs.StyleFacts.{tables_of}
+use Rattle.pg_bounds.proofs.Counts.{added_long, counts_few, total_cons}
+use Rattle.pg_bounds.proofs.Owned.{own_next, own_start}
+use Rattle.pg_bounds.proofs.Prices.{cost_few, picked_limits}
 use Rattle.pg_space.specs.PageSpace.{rank, wide_meaning}
-use Rattle.pg_space.proofs.Rank.{ranked, rises, onward}
+use Rattle.pg_space.proofs.Rank.{onward, ranked, rises}
 use Rattle.pg_space.proofs.SpaceLaws.{Moves, lawful}
 
 -- ---- how many floats there are

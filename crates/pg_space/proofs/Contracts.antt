@@ -18,7 +18,21 @@ use Rattle.pg_rules.specs.Best.{Best}
 use Rattle.pg_rules.specs.Cost.{cost}
 use Rattle.pg_rules.specs.Follow.{Follow, context_in}
 use Rattle.pg_rules.specs.Room.{Document, is_text}
+use Rattle.pg_rules.specs.IsState.{IsState}
 use Rattle.pg_places.proofs.Among.{by_bool}
+use Rattle.pg_laws.specs.FollowsToo.{FollowsToo}
+use Rattle.pg_laws.specs.Laws.{IsPushed}
+use Rattle.pg_laws.specs.Pages.{plan_of}
+use Rattle.pg_laws.specs.Ranges.{AreInRange}
+use Rattle.pg_laws.proofs.Contracts.{facts, no_worse_follow, pushed, some}
+use Rattle.pg_laws.proofs.Order.{columns_total}
+use Rattle.pg_laws.proofs.Prefixes.{plan_is}
+use Rattle.pg_space.specs.Laws.{BeginningsAreRuns, BestLabelsAreBest, BetterGoOn, GoesOnBetter, IsBeginningOf, IsRunOfColumns, NoneDoneNoneLegal, RunsAreBeginnings, SortedLabelsAreFrontier, TellsAll, label_of}
+use Rattle.pg_space.specs.PageSpace.{FollowBest, page_meaning, wide_meaning}
+use Rattle.pg_space.proofs.Bounds.{pages_lawful}
+use Rattle.pg_space.proofs.FrontierLaws.{entry_label, label_entry, labels_rise}
+use Rattle.pg_space.proofs.Least.{best_narrower, instead_other, instead_text}
+use Rattle.pg_space.proofs.Solve.{IsPlanOfRun, prefix_run, run_plan, solve_best, solve_none, label_on, on_label, states_apart}
 use Rattle.pg_rules.specs.Frontier.{Better, Frontier, IsLabel}
 use Rattle.pg_rules.specs.Legal.{document}
 use Rattle.pg_rules.specs.NoWorse.{is_same_key, is_no_worse}
@@ -30,19 +44,6 @@ use Rattle.pg_table.specs.declared.table.Entry.{Entry}
 use Rattle.pg_table.proofs.Lists.{contains_at, pairs_weaker, some_same}
 use Rattle.pg_table.proofs.Narrow.{narrow_lawful, bettered}
 use Rattle.pg_table.proofs.Runs.{own}
-use Rattle.pg_laws.specs.Laws.{IsPushed}
-use Rattle.pg_laws.specs.OwnStates.{IsState, FollowsToo}
-use Rattle.pg_laws.specs.Pages.{plan_of}
-use Rattle.pg_laws.specs.Ranges.{AreInRange}
-use Rattle.pg_laws.proofs.Contracts.{facts, no_worse_follow, pushed, some}
-use Rattle.pg_laws.proofs.Order.{columns_total}
-use Rattle.pg_laws.proofs.Prefixes.{plan_is}
-use Rattle.pg_space.specs.Laws.{IsBeginningOf, RunsAreBeginnings, IsRunOfColumns, BeginningsAreRuns, GoesOnBetter, BetterGoOn, label_of, BestLabelsAreBest, NoneDoneNoneLegal, SortedLabelsAreFrontier, TellsAll}
-use Rattle.pg_space.specs.PageSpace.{FollowBest, wide_meaning, page_meaning}
-use Rattle.pg_space.proofs.Bounds.{pages_lawful}
-use Rattle.pg_space.proofs.FrontierLaws.{labels_rise, label_entry, entry_label}
-use Rattle.pg_space.proofs.Least.{best_narrower, instead_text, instead_other}
-use Rattle.pg_space.proofs.Solve.{IsPlanOfRun, prefix_run, run_plan, solve_best, solve_none, label_on, on_label, states_apart}
 
 -- best picks exist for each column that may follow
 pub best_exist : (doc : Document) (u : State) (m : PageMove) (v : State) (c : ℤ) → Follow doc u m v c → Instead (wide_meaning doc) (FollowBest doc) u m v c

@@ -15,7 +15,7 @@ use Rattle.pg_plan.specs.declared.states.State.{State}
 use Rattle.pg_rules.specs.Frontier.{state_cmp, RisesByState}
 use Rattle.pg_table.specs.declared.table.Entry.{Entry}
 use Rattle.pg_table.proofs.Lists.{at_contains, contains_at, some_same}
-use Rattle.pg_laws.proofs.StateOrder.{states_total, state_equal}
+use Rattle.pg_laws.proofs.StateOrder.{state_equal, states_total}
 use Rattle.pg_space.specs.Laws.{label_of}
 
 abbrev is_tie : Ordering → Bool

@@ -14,14 +14,14 @@ use Rattle.pg_flat.specs.Flat.{is_same_place}
 use Rattle.pg_rules.specs.Floats.{entry, total_count, float_count, plus_counts, float_numbers}
 use Rattle.pg_rules.specs.Follow.{Follow, context_in, wide_in, next_state}
 use Rattle.pg_rules.specs.History.{placed_after, with_wide, made_wide}
-use Rattle.pg_places.specs.Past.{IsPast, IsPlace, Past, far}
+use Rattle.pg_rules.specs.IsState.{IsPlace, IsState}
+use Rattle.pg_places.specs.Past.{IsPast, Past, far}
 use Rattle.pg_places.proofs.Among.{both_of, by_bool}
 use Rattle.pg_places.proofs.Callouts.{fit_ends}
 use Rattle.pg_places.proofs.Measures.{far_rises, past_within}
 use Rattle.pg_places.proofs.Tests.{eq_refl, eq_true, if_false, if_true, less_true, place_refl, same_place}
-use Rattle.pg_laws.specs.OwnStates.{IsState}
-use Rattle.pg_laws.proofs.Counts.{after_total, float_total, plus_total, total_cons}
 use Rattle.pg_laws.proofs.PagesLaws.{wide_long}
+use Rattle.pg_bounds.proofs.Counts.{after_total, float_total, plus_total, total_cons}
 use Rattle.pg_space.specs.PageSpace.{rank}
 use Rattle.pg_rules.specs.Room.{Document, is_text, is_top_allowed, is_bottom_allowed}
 

@@ -18,7 +18,7 @@ use Rattle.pg_table.specs.Label.{RunOf, IsTable, IsBestOf, NoneDone}
 use Rattle.pg_table.specs.Space.{Run}
 use Rattle.pg_table.specs.declared.table.Entry.{Entry}
 use Rattle.pg_laws.specs.Pages.{plan_of}
-use Rattle.pg_space.specs.PageSpace.{wide_meaning, page_meaning}
+use Rattle.pg_space.specs.PageSpace.{page_meaning, wide_meaning}
 
 -- the pagination that fills its pages with these columns is a beginning with this state and cost
 pub record IsBeginningOf (galley : GalleyValue) (style : StyleValue) (ms : List PageMove) (v : State) (c : ℤ) : Type 0 where

@@ -13,7 +13,7 @@ use Rattle.pg_rules.specs.Room.{Document, ColumnContext, is_text}
 use Rattle.pg_rules.specs.States.{state_at, is_done}
 use Rattle.pg_rules.specs.NoWorse.{PageKey, key, is_no_worse}
 use Rattle.pg_table.specs.Space.{Meaning}
-use Rattle.pg_laws.specs.OwnStates.{IsState}
+use Rattle.pg_rules.specs.IsState.{IsState}
 
 -- by place, and within one place by the floats that are placed; an idle column that ends its page comes before the next page
 abbrev pub rank : Document → State → ℕ

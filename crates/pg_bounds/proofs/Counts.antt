@@ -14,7 +14,7 @@ use Rattle.pg_flat.specs.Flat.{is_same_place}
 use Rattle.pg_rules.specs.Floats.{entry, total_count, float_count, plus_counts, float_numbers}
 use Rattle.pg_rules.specs.Follow.{Follow, context_in, wide_in, next_state}
 use Rattle.pg_rules.specs.History.{placed_after, with_wide, made_wide}
-use Rattle.pg_laws.specs.OwnStates.{IsState}
+use Rattle.pg_rules.specs.IsState.{IsState}
 use Rattle.pg_laws.proofs.Waiting.{placed_more, slotted}
 use Rattle.pg_rules.specs.Room.{Document, is_text, is_top_allowed, is_bottom_allowed}
 use Rattle.std.proofs.Common.{◌-◌, ◌++◌, zero, length-append}

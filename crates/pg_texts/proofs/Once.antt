@@ -22,7 +22,7 @@ use Rattle.pg_rules.specs.Floats.{entry, float_numbers, floats, plus_counts, siz
 use Rattle.pg_rules.specs.History.{context, place_of, placed_after, placed_of, with_wide}
 use Rattle.pg_rules.specs.Legal.{Legal, document, has_dealt_all, is_chained}
 use Rattle.pg_rules.specs.Room.{ColumnContext, Document, flat_items_of, items_of, size_of}
-use Rattle.pg_places.specs.Past.{IsPlace}
+use Rattle.pg_rules.specs.IsState.{IsPlace}
 use Rattle.pg_places.proofs.Among.{both, both_of, by_bool}
 use Rattle.pg_places.proofs.Callouts.{fit_ends, start_place}
 use Rattle.pg_places.proofs.Splits.{splits}
@@ -30,9 +30,9 @@ use Rattle.pg_places.proofs.Tests.{eq_true, same_place}
 use Rattle.pg_laws.specs.Laws.{KeepsRules}
 use Rattle.pg_laws.specs.Ranges.{AreInRange}
 use Rattle.pg_laws.specs.Stands.{Stand}
-use Rattle.pg_laws.specs.Texts.{Chained, EachOnce, LegalHaveEachOnce, column_floats, dealt_floats, is_kept, next_floats, picks_of, segment_of, segments, text_of, texts}
 use Rattle.pg_laws.proofs.Contracts.{unbroken_keep_rules}
 use Rattle.pg_laws.proofs.Waiting.{entry_plus, entry_slots}
+use Rattle.pg_texts.specs.Texts.{Chained, EachOnce, LegalHaveEachOnce, column_floats, dealt_floats, is_kept, next_floats, picks_of, segment_of, segments, text_of, texts}
 
 -- ---- texts
 

@@ -24,8 +24,8 @@ use Rattle.pg_places.proofs.Among.{both_of, by_bool}
 use Rattle.pg_places.proofs.Measures.{variant_items}
 use Rattle.pg_places.proofs.Tests.{eq_true}
 use Rattle.pg_laws.specs.Ranges.{AreItemsInRange}
-use Rattle.pg_laws.proofs.Counts.{float_total}
 use Rattle.pg_laws.proofs.Simulation.{le_true}
+use Rattle.pg_bounds.proofs.Counts.{float_total}
 
 -- a length that is not negative, and a scaled number
 abbrev pub IsSize : ℤ → Type 0

@@ -26,16 +26,16 @@ use Rattle.pg_rules.specs.Legal.{added, distance_table}
 use Rattle.pg_rules.specs.NoWorse.{is_same_side}
 use Rattle.pg_rules.specs.Room.{ColumnContext, Document, is_text, size_of}
 use Rattle.pg_rules.specs.States.{age, state_at, waiting}
-use Rattle.pg_places.specs.Past.{IsPast, IsPlace}
+use Rattle.pg_rules.specs.IsState.{IsPlace, IsState, are_young, has_side, not_first, not_some}
+use Rattle.pg_places.specs.Past.{IsPast}
 use Rattle.pg_places.proofs.Among.{Among, all_at, all_of, both, both_of, by_bool}
 use Rattle.pg_places.proofs.Callouts.{entry_less, entry_zero, fit_ends, start_place}
 use Rattle.pg_places.proofs.Measures.{called_grows}
 use Rattle.pg_places.proofs.Tests.{eq_true, if_false, if_true, int_le_of, int_less, less_of, less_true, not_less, same_place}
-use Rattle.pg_laws.specs.OwnStates.{IsState, are_young, has_side, not_first, not_some}
 use Rattle.pg_laws.specs.Ranges.{AreItemsInRange}
-use Rattle.pg_laws.proofs.Areas.{IsUpTo, wide_range}
 use Rattle.pg_laws.proofs.Simulation.{le_of, le_true}
-use Rattle.pg_laws.proofs.Waiting.{IsBetween, between_at, between_of, entry_slots, placed_more}
+use Rattle.pg_laws.proofs.Waiting.{IsBetween, between_at, between_of, entry_slots, placed_more, slot_below}
+use Rattle.pg_bounds.proofs.Areas.{IsUpTo, wide_range}
 
 eq_no : (a b : ℕ) → (a == b) ≡ false → a ≡ b → ⊥
 eq_no a b f e = let t : (a == a) ≡ true = grind (arith, nat_tests) in let s : (a == a) ≡ false = subst (λ (z : ℕ). (a == z) ≡ false) (sym e) f in absurd cc
@@ -46,12 +46,6 @@ not_one n h = grind (arith, nat_tests)
 young_map : (doc : Document) (g : ℕ × ℕ → ℕ) (floats : List (ℕ × ℕ)) → list_all (λ (float : ℕ × ℕ). nat_lt (g float) (length (distance_table doc.style float.0))) floats ≡ true → are_young doc (map g floats) floats ≡ true
 young_map doc g [] h = refl
 young_map doc g (x ∷ xs) h = let t = both_of (nat_lt (g x) (length (distance_table doc.style x.0))) _ h in both (nat_lt (g x) (length (distance_table doc.style x.0))) _ t.0 (young_map doc g xs t.1)
-
--- a member of the slots is below their number
-pub slot_below : (f k slot : ℕ) → Among slot (range_with_len f k) → (f ≤ slot) × (slot < f + k)
-slot_below f zero slot a = absurd a
-slot_below f (suc k) slot (inl e) = (omega arith, omega arith)
-slot_below f (suc k) slot (inr a) = let r = slot_below (f + 1) k slot a in let p : f + 1 ≤ slot = r.0 in let q : slot < f + 1 + k = r.1 in (omega arith, omega arith)
 
 -- ---- sides and runs
 
