@@ -48,7 +48,7 @@ place_equal a b e =
     make : (b v i b' v' i' : ℕ) → b ≡ b' → v ≡ v' → i ≡ i' → ◌≡◌ {A = Place} (record { block = b; variant = v; index = i }) (record { block = b'; variant = v'; index = i' })
     make b v i b' v' i' p q r = cc
 
-picks_equal : (a b : List ℕ) → picks_cmp a b ≡ Equal → a ≡ b
+pub picks_equal : (a b : List ℕ) → picks_cmp a b ≡ Equal → a ≡ b
 picks_equal a b e = sym (reverse-reverse a) ∙ (ap reverse (list_equal (reverse a) (reverse b) e) ∙ reverse-reverse b)
 
 same_column : (f t f' t' : Place) (a b p a' b' p' : List ℕ) (r r' : ℕ) (doc doc' : List ℕ) → f ≡ f' → t ≡ t' → a ≡ a' → b ≡ b' → p ≡ p' → r ≡ r' → doc ≡ doc' →

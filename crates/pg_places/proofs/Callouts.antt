@@ -65,14 +65,14 @@ sum_take f (suc n) (x ∷ xs) =
     omega arith
 
 -- no place has more callouts before it than there are
-pub called_total : (doc : Document) → AllByRecursion IsBlock doc.blocks → (number : ℕ) (at : Place) → length (sizes_of number (items_before doc.blocks at)) ≤ length (sizes_of number (flat doc.blocks []))
-called_total doc a number at = by (slice_get doc.blocks at.block) refl
+pub few_in_all : (blocks : List Block) → AllByRecursion IsBlock blocks → (number : ℕ) (at : Place) → length (sizes_of number (items_before blocks at)) ≤ length (sizes_of number (flat blocks []))
+few_in_all blocks a number at = by (slice_get blocks at.block) refl
   where
-    flat_count : length (sizes_of number (flat doc.blocks [])) ≡ sum_by (block_inserts number) doc.blocks
-    flat_count = inserted_flat number 0 doc.blocks
+    flat_count : length (sizes_of number (flat blocks [])) ≡ sum_by (block_inserts number) blocks
+    flat_count = inserted_flat number 0 blocks
 
-    before : length (sizes_of number (items_before doc.blocks at)) ≡ sum_by (block_inserts number) (take at.block doc.blocks) + (if at.index == 0 then 0 else inserted number (take at.index (items_around doc.blocks at)))
-    before = count_before number doc.blocks at
+    before : length (sizes_of number (items_before blocks at)) ≡ sum_by (block_inserts number) (take at.block blocks) + (if at.index == 0 then 0 else inserted number (take at.index (items_around blocks at)))
+    before = count_before number blocks at
 
     none : (t : Bool) (items : List Item) → items ≡ [] → (if t then 0 else inserted number (take at.index items)) ≡ 0
     none true items e = refl
@@ -82,14 +82,17 @@ called_total doc a number at = by (slice_get doc.blocks at.block) refl
         empty zero = refl
         empty (suc n) = refl
 
-    by : (o : Option Block) → o ≡ slice_get doc.blocks at.block → length (sizes_of number (items_before doc.blocks at)) ≤ length (sizes_of number (flat doc.blocks []))
+    by : (o : Option Block) → o ≡ slice_get blocks at.block → length (sizes_of number (items_before blocks at)) ≤ length (sizes_of number (flat blocks []))
     by None e =
-        let z : (if at.index == 0 then 0 else inserted number (take at.index (items_around doc.blocks at))) ≡ 0 = none (at.index == 0) (items_around doc.blocks at) (none_around doc.blocks at.block at.variant at.index (sym e)) in
-        let s : sum_by (block_inserts number) (take at.block doc.blocks) ≤ sum_by (block_inserts number) doc.blocks = sum_take (block_inserts number) at.block doc.blocks in
+        let z : (if at.index == 0 then 0 else inserted number (take at.index (items_around blocks at))) ≡ 0 = none (at.index == 0) (items_around blocks at) (none_around blocks at.block at.variant at.index (sym e)) in
+        let s : sum_by (block_inserts number) (take at.block blocks) ≤ sum_by (block_inserts number) blocks = sum_take (block_inserts number) at.block blocks in
         omega (arith, before, flat_count)
     by (Some b) e =
-        let l : at.block < length doc.blocks = slice_get_within doc.blocks at.block b (sym e) in
-        let s : sum_by (block_inserts number) (take at.block doc.blocks) + block_inserts number b ≤ sum_by (block_inserts number) (take (length doc.blocks) doc.blocks) = sum_more (block_inserts number) doc.blocks at.block (length doc.blocks) b l (sym e) in
-        let t : sum_by (block_inserts number) (take (length doc.blocks) doc.blocks) ≡ sum_by (block_inserts number) doc.blocks = ap (sum_by (block_inserts number)) (take_all doc.blocks) in
-        let k : (if at.index == 0 then 0 else inserted number (take at.index (items_around doc.blocks at))) ≤ block_inserts number b = part_few number doc.blocks at b (block_at number doc.blocks at.block b a (sym e)) (sym e) in
+        let l : at.block < length blocks = slice_get_within blocks at.block b (sym e) in
+        let s : sum_by (block_inserts number) (take at.block blocks) + block_inserts number b ≤ sum_by (block_inserts number) (take (length blocks) blocks) = sum_more (block_inserts number) blocks at.block (length blocks) b l (sym e) in
+        let t : sum_by (block_inserts number) (take (length blocks) blocks) ≡ sum_by (block_inserts number) blocks = ap (sum_by (block_inserts number)) (take_all blocks) in
+        let k : (if at.index == 0 then 0 else inserted number (take at.index (items_around blocks at))) ≤ block_inserts number b = part_few number blocks at b (block_at number blocks at.block b a (sym e)) (sym e) in
         omega (arith, before, flat_count)
+
+pub called_total : (doc : Document) → AllByRecursion IsBlock doc.blocks → (number : ℕ) (at : Place) → length (sizes_of number (items_before doc.blocks at)) ≤ length (sizes_of number (flat doc.blocks []))
+called_total doc a number at = few_in_all doc.blocks a number at

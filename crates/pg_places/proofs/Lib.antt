@@ -6,3 +6,4 @@ pub mod Callouts
 pub mod Splits
 pub mod Steps
 pub mod Alike
+pub mod Contracts

@@ -20,7 +20,7 @@ use Rattle.pg_plan.specs.declared.states.State.{State}
 use Rattle.pg_flat.specs.Flat.{picked_variants, blocks_at, fronts}
 use Rattle.pg_rules.specs.ColumnRules.{does_fit, is_well_formed, is_tolerable, passes_breaks, has_room, keeps_note_limits, keeps_looseness, column_variants}
 use Rattle.pg_rules.specs.Cost.{column_cost, fit_demerits, float_demerits, run_demerits, differs}
-use Rattle.pg_rules.specs.Follow.{Follow, context_in, next_state, age_in}
+use Rattle.pg_rules.specs.Follow.{Follow, KeepsColumnRules, context_in, next_state, age_in}
 use Rattle.pg_rules.specs.History.{column_fitness}
 use Rattle.pg_rules.specs.Legal.{added}
 use Rattle.pg_rules.specs.NoWorse.{is_no_worse, is_same_key, key, are_no_older, PageKey}
@@ -31,7 +31,7 @@ use Rattle.pg_table.specs.Narrower.{Instead, IsNarrower}
 use Rattle.pg_places.proofs.Among.{Among, among_left, among_right, both, both_of, by_bool}
 use Rattle.pg_places.proofs.Places.{picked_few}
 use Rattle.pg_places.proofs.Tests.{eq_refl, eq_true}
-use Rattle.pg_laws.proofs.Order.{columns_total, place_total}
+use Rattle.pg_laws.proofs.Order.{columns_total, picks_equal, place_total}
 use Rattle.pg_laws.proofs.Simulation.{key_same, with_ages}
 use Rattle.pg_space.specs.PageSpace.{FollowBest, IsLeast, keeps_text, text_cost, wide_meaning, with_picks}
 
@@ -230,3 +230,27 @@ best_narrower doc = record {
     same_least u v m p l =
         let t = both_of (is_same_key (key u) (key v)) (are_no_older u.ages v.ages) p in
         subst (λ (k : PageKey). IsLeast (context_in doc (with_ages k []) m)) (sym (key_same (key u) (key v) t.0)) l
+
+-- of two columns with best picks that differ in their picks alone, and have one fitness, the picks are the same
+pub best_unique : (doc : Document) (u : State) (m : PageMove) (v x : State) (c d : ℤ) (picks : List ℕ) → is_text (context_in doc u m) ≡ true → FollowBest doc u m v c → FollowBest doc u (picking m picks) x d →
+    column_fitness (context_in doc u (picking m picks)) ≡ column_fitness (context_in doc u m) → m.column.picks ≡ picks
+best_unique doc u m v x c d picks text a b fit =
+    both_ways (text_cost (context_in doc u m)) (text_cost (context_in doc u (picking m picks)))
+    (a.least.least picks text (kept (context_in doc u (picking m picks)) b.follow.stands.rules) fit)
+    (b.least.least m.column.picks text (kept (context_in doc u m) a.follow.stands.rules) (sym fit))
+  where
+    kept : (it : ColumnContext) → KeepsColumnRules it → keeps_text it ≡ true
+    kept it k = both (does_fit it) _ k.fits (both (is_well_formed it) _ k.well_formed (both (is_tolerable it) _ k.tolerable (both (passes_breaks it) _ k.passes (both (has_room it) _ k.room (both (keeps_note_limits it) (keeps_looseness it) k.note_limits k.looseness)))))
+
+    tie : (o p : Ordering) → o ≡ ordering_reverse p → is_gt o ≡ false → is_gt p ≡ false → o ≡ Equal
+    tie Less Less e g h = absurd cc
+    tie Less Equal e g h = absurd cc
+    tie Less Greater e g h = absurd cc
+    tie Equal p e g h = refl
+    tie Greater p e g h = absurd cc
+
+    both_ways : (k l : ℤ) → (k <ℤ l) ⊎ ((k ≡ l) × (is_gt (picks_cmp m.column.picks picks) ≡ false)) → (l <ℤ k) ⊎ ((l ≡ k) × (is_gt (picks_cmp picks m.column.picks) ≡ false)) → m.column.picks ≡ picks
+    both_ways k l (inl p) (inl q) = absurd (omega (arith, ints))
+    both_ways k l (inl p) (inr q) = absurd (let e : l ≡ k = q.0 in omega (arith, ints))
+    both_ways k l (inr p) (inl q) = absurd (let e : k ≡ l = p.0 in omega (arith, ints))
+    both_ways k l (inr p) (inr q) = picks_equal m.column.picks picks (tie (picks_cmp m.column.picks picks) (picks_cmp picks m.column.picks) ((lists_total nat_cmp_total).antisymm (reverse m.column.picks) (reverse picks)) p.1 q.1)

@@ -1,5 +1,5 @@
 -- What a table of pages says of all paginations, in the words of its contracts.
-use Rattle.std.specs.Prelude.{◌≡◌, ◌↔◌, ℕ, Option, Some, List, ◌∷◌, map, slice_get, ℤ}
+use Rattle.std.specs.Prelude.{◌≡◌, true, ◌↔◌, ℕ, Option, Some, List, ◌∷◌, map, slice_get, ℤ}
 use Rattle.std.specs.List.Sorted.{IsPermutation, IsSortedByKey}
 use Rattle.pg_list.specs.GalleyValue.{GalleyValue}
 use Rattle.pg_plan.specs.declared.pages.PageMove.{PageMove}
@@ -10,7 +10,9 @@ use Rattle.pg_plan.specs.Order.{columns}
 use Rattle.pg_style.specs.Values.{StyleValue}
 use Rattle.pg_rules.specs.Best.{Best}
 use Rattle.pg_rules.specs.Cost.{cost}
-use Rattle.pg_rules.specs.Follow.{Follow}
+use Rattle.pg_rules.specs.Follow.{Follow, context_in}
+use Rattle.pg_rules.specs.History.{column_fitness}
+use Rattle.pg_rules.specs.Room.{is_text}
 use Rattle.pg_rules.specs.Frontier.{Better, Frontier, state_cmp}
 use Rattle.pg_rules.specs.Legal.{Legal, document}
 use Rattle.pg_rules.specs.States.{Prefix, state_of}
@@ -18,7 +20,7 @@ use Rattle.pg_table.specs.Label.{RunOf, IsTable, IsBestOf, NoneDone}
 use Rattle.pg_table.specs.Space.{Run}
 use Rattle.pg_table.specs.declared.table.Entry.{Entry}
 use Rattle.pg_laws.specs.Pages.{plan_of}
-use Rattle.pg_space.specs.PageSpace.{page_meaning, wide_meaning}
+use Rattle.pg_space.specs.PageSpace.{FollowBest, page_meaning, repicked, wide_meaning}
 
 -- the pagination that fills its pages with these columns is a beginning with this state and cost
 pub record IsBeginningOf (galley : GalleyValue) (style : StyleValue) (ms : List PageMove) (v : State) (c : ℤ) : Type 0 where
@@ -52,6 +54,11 @@ pub record GoesOnBetter (galley : GalleyValue) (style : StyleValue) (a b : Pagin
 abbrev pub BetterGoOn : GalleyValue → StyleValue → Type 0
 BetterGoOn galley style = (a b : Pagination) (m : PageMove) (v : State) (c : ℤ) → Prefix galley style a → Prefix galley style b → Better galley style a b →
     Follow (document galley style) (state_of galley style b) m v c → GoesOnBetter galley style a b m
+
+-- of the columns that follow a state with best picks, those of one end, fitness, run and counts are one
+abbrev pub BestPicksAreOne : GalleyValue → StyleValue → Type 0
+BestPicksAreOne galley style = (u : State) (m : PageMove) (v x : State) (c d : ℤ) (picks : List ℕ) → is_text (context_in (document galley style) u m) ≡ true → FollowBest (document galley style) u m v c →
+    FollowBest (document galley style) u (repicked m picks) x d → column_fitness (context_in (document galley style) u (repicked m picks)) ≡ column_fitness (context_in (document galley style) u m) → m.column.picks ≡ picks
 
 -- ---- from a table
 

@@ -23,6 +23,9 @@ rank doc u = 2 * (2 ^ 20 * u.place.block + u.place.index + sum_by (λ (n : ℕ).
 abbrev pub with_picks : ColumnContext → List ℕ → ColumnContext
 with_picks it picks = record it { column = record it.column { picks = picks } }
 
+abbrev pub repicked : PageMove → List ℕ → PageMove
+repicked m picks = record m { column = record m.column { picks = picks } }
+
 abbrev pub keeps_text : ColumnContext → Bool
 keeps_text it = does_fit it && (is_well_formed it && (is_tolerable it && (passes_breaks it && (has_room it && (keeps_note_limits it && keeps_looseness it)))))
 

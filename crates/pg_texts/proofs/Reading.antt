@@ -122,7 +122,7 @@ picks_split : (ls ns : List PageMove) → picks_of (ls ++ ns) ≡ picks_of ns ++
 picks_split [] ns = sym (append-nil (picks_of ns))
 picks_split (l ∷ ls) ns = ap (λ (xs : List ℕ). xs ++ l.column.picks) (picks_split ls ns) ∙ append_assoc (picks_of ns) (picks_of ls) l.column.picks
 
-chained_tail : (doc : Document) (ls ns : List PageMove) → Chained doc (ls ++ ns) → Chained doc ns
+pub chained_tail : (doc : Document) (ls ns : List PageMove) → Chained doc (ls ++ ns) → Chained doc ns
 chained_tail doc [] ns c = c
 chained_tail doc (l ∷ ls) ns c = chained_tail doc ls ns c.1
 

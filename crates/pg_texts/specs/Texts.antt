@@ -1,5 +1,5 @@
 -- The texts of columns, their segments and their floats, joined; and what the flat list of all picks says of a column.
-use Rattle.std.specs.Prelude.{◌≡◌, ℕ, ◌+◌, ◌-◌, ◌≤◌, Bool, true, ◌&&◌, ◌||◌, not, List, [], ◌∷◌, ◌++◌, length, take, drop, Option, Some, slice_get, ℤ, is_some}
+use Rattle.std.specs.Prelude.{◌≡◌, ℕ, ◌+◌, ◌-◌, ◌≤◌, Bool, true, ◌&&◌, ◌||◌, ◌==◌, not, nat_le, if◌then◌else◌, List, [], ◌∷◌, ◌++◌, length, take, drop, Option, Some, slice_get, ℤ, pos, ◌+ℤ◌, ◌-ℤ◌, is_some}
 use Rattle.std.specs.List.{filter, list_all, list_any, range_with_len}
 use Rattle.std.specs.Option.{option_map_or}
 use Rattle.pg_list.specs.GalleyValue.{GalleyValue}
@@ -11,12 +11,15 @@ use Rattle.pg_plan.specs.declared.pages.Pagination.{Pagination}
 use Rattle.pg_style.specs.Values.{StyleValue}
 use Rattle.pg_flat.specs.Break.{break_penalty, is_forced, is_spent, passes_between}
 use Rattle.pg_flat.specs.Flat.{flat, flat_items, flat_items_at}
-use Rattle.pg_flat.specs.Totals.{trimmed}
-use Rattle.pg_rules.specs.ColumnRules.{segment}
+use Rattle.pg_flat.specs.Badness.{is_over, page_badness}
+use Rattle.pg_flat.specs.Totals.{shrink, total, trimmed}
+use Rattle.pg_flat.specs.Whole.{square}
+use Rattle.pg_rules.specs.ColumnRules.{fitness_by, is_tolerable, is_well_formed, keeps_note_limits, passes_breaks, segment}
+use Rattle.pg_rules.specs.Cost.{column_demerits, penalty_demerits}
 use Rattle.pg_rules.specs.Floats.{entry, floats, plus_counts}
-use Rattle.pg_rules.specs.History.{context, placed_of, with_wide}
+use Rattle.pg_rules.specs.History.{column_fitness, context, placed_of, with_wide}
 use Rattle.pg_rules.specs.Legal.{Legal, document, is_chained}
-use Rattle.pg_rules.specs.Room.{ColumnContext, Document, items_of, size_of}
+use Rattle.pg_rules.specs.Room.{are_notes_within_limits, ColumnContext, Document, is_text, items_of, notes, room, size_of}
 
 -- ---- columns that stand from the last to the first
 
@@ -106,3 +109,39 @@ pub record StandsInFlat (galley : GalleyValue) (style : StyleValue) (behind : Li
 abbrev pub ColumnsReadFlat : GalleyValue → StyleValue → Type 0
 ColumnsReadFlat galley style = (plan : Pagination) (behind : List PageMove) (m : PageMove) (ms : List PageMove) → Chained (document galley style) (columns plan) → columns plan ≡ behind ++ m ∷ ms →
     StandsInFlat galley style behind m ms (picks_of (columns plan))
+
+-- ---- the rules on a column's text, read from the flat list between two offsets
+
+-- the segment of the j items behind an offset
+abbrev pub flat_segment : List Item → ℕ → ℕ → List Item
+flat_segment flat start j = trimmed (take j (drop start flat))
+
+abbrev pub flat_total : ColumnContext → List Item → ℕ → ℕ → ℤ
+flat_total it flat start j = total it.document.style.topskip it.document.style.maxdepth (flat_segment flat start j)
+
+abbrev pub flat_goal : ColumnContext → List Item → ℕ → ℕ → ℤ
+flat_goal it flat start j = room it -ℤ notes it.document.style (flat_segment flat start j)
+
+abbrev pub flat_is_over : ColumnContext → List Item → ℕ → ℕ → Bool
+flat_is_over it flat start j = is_over (flat_total it flat start j) (shrink (flat_segment flat start j)) (flat_goal it flat start j)
+
+abbrev pub flat_badness : ColumnContext → List Item → ℕ → ℕ → ℕ
+flat_badness it flat start n = page_badness (is_spent flat (start + n)) (flat_goal it flat start n) (flat_total it flat start n) (flat_segment flat start n)
+
+-- each rule, the fitness and the demerits of a text column are those of the flat list between its places
+pub record RulesReadFlat (it : ColumnContext) (flat : List Item) (start n : ℕ) : Type 0 where
+  pub well_formed : is_well_formed it ≡ (list_any is_box (take n (drop start flat)) && is_some (break_penalty flat (start + n)))
+  pub tolerable : is_tolerable it ≡ (not (flat_is_over it flat start n) && (is_forced flat (start + n) || nat_le (flat_badness it flat start n) it.document.style.tolerance))
+  pub passes : passes_breaks it ≡ passes_behind flat start (flat_is_over it flat start) n
+  pub note_limits : keeps_note_limits it ≡ are_notes_within_limits it.document.style (flat_segment flat start n)
+  pub fitness : column_fitness it ≡ (if it.document.style.version == 1 then 2 else fitness_by (flat_total it flat start n) (flat_goal it flat start n) (flat_badness it flat start n))
+  pub demerits : column_demerits it ≡ square (pos (it.document.style.line + flat_badness it flat start n)) +ℤ option_map_or penalty_demerits (break_penalty flat (start + n)) (pos 0)
+
+-- a text column in a pagination whose columns fit keeps the rules that its part of the flat list keeps, at the same demerits
+pub record KeepsFlatRules (galley : GalleyValue) (style : StyleValue) (behind : List PageMove) (m : PageMove) (ms : List PageMove) (picks : List ℕ) : Type 0 where
+  pub stands : StandsInFlat galley style behind m ms picks
+  pub rules : is_text (context (document galley style) m ms) ≡ true → RulesReadFlat (context (document galley style) m ms) (flat galley.blocks picks) stands.start stands.n
+
+abbrev pub RulesReadTheFlatList : GalleyValue → StyleValue → Type 0
+RulesReadTheFlatList galley style = (plan : Pagination) (behind : List PageMove) (m : PageMove) (ms : List PageMove) → Chained (document galley style) (columns plan) → columns plan ≡ behind ++ m ∷ ms →
+    KeepsFlatRules galley style behind m ms (picks_of (columns plan))
