@@ -1,7 +1,7 @@
 -- How high an area is at most.
-use Rattle.std.proofs.Common.{◌≡◌, refl, sym, ap, subst, ◌∙◌, ℕ, zero, suc, ◌+◌, ◌*◌, ◌^◌, ◌≤◌, ◌<◌, List, [], ◌∷◌, ◌++◌, map, length, length-append, take, drop, Bool, true, false, Option, Some, None, arith}
-use Rattle.std.specs.Prelude.{◌&&◌, ◌==◌, if◌then◌else◌, nat_abs, nat_le, nat_lt, slice_get, min, ℤ, pos, negsuc, ◌+ℤ◌, ◌*ℤ◌, ◌≤ℤ◌, ◌<ℤ◌}
-use Rattle.std.specs.List.{AllByRecursion, sum_by, range_with_len, filter_map, cons_option, list_all}
+use Rattle.std.proofs.Common.{◌≡◌, refl, sym, ap, subst, ◌∙◌, ℕ, zero, suc, ◌+◌, ◌*◌, ◌^◌, ◌≤◌, ◌<◌, List, [], ◌∷◌, ◌++◌, map, length, length-append, take, drop, Bool, true, false, Some, None, arith}
+use Rattle.std.specs.Prelude.{◌&&◌, ◌==◌, if◌then◌else◌, nat_abs, nat_le, nat_lt, min, ℤ, pos, negsuc, ◌+ℤ◌, ◌*ℤ◌, ◌≤ℤ◌}
+use Rattle.std.specs.List.{AllByRecursion, sum_by, range_with_len, cons_option}
 use Rattle.std.proofs.Math.Nat.{mul-le-mul_left, mul-le-mul_right}
 use Rattle.std.proofs.lemmas.Int.{ints}
 use Rattle.std.proofs.lemmas.List.{map-append, length-take}
@@ -14,13 +14,13 @@ use Rattle.pg_list.specs.declared.item.Item.{Item}
 use Rattle.pg_list.specs.declared.item.Item.TheVariants.{BoxItem, Rule, Glue, Kern, Penalty, Insert, Carry}
 use Rattle.pg_list.specs.declared.variants.Variant.{Variant}
 use Rattle.pg_style.specs.Ranges.{IsAreaRule}
-use Rattle.pg_style.specs.Values.{AreaRuleValue, StyleValue}
+use Rattle.pg_style.specs.Values.{AreaRuleValue}
 use Rattle.pg_flat.specs.Flat.{FlatItem, flat, flat_items_from, variant_flat_items}
 use Rattle.pg_flat.specs.Whole.{whole_sum_by}
-use Rattle.pg_rules.specs.Floats.{entry, insert_size, sizes_of, floats, float_numbers, float_count, total_count, slots, dealt, dealt_from, has_all, area_height, is_area_allowed, takes_wide}
+use Rattle.pg_rules.specs.Floats.{entry, sizes_of, floats, float_numbers, float_count, total_count, dealt, dealt_from, has_all, area_height, is_area_allowed, takes_wide}
 use Rattle.pg_rules.specs.History.{made_wide}
 use Rattle.pg_rules.specs.Room.{Document, checked_height}
-use Rattle.pg_places.proofs.Among.{both_of, by_bool}
+use Rattle.pg_places.proofs.Among.{both_of}
 use Rattle.pg_places.proofs.Measures.{variant_items}
 use Rattle.pg_places.proofs.Tests.{eq_true}
 use Rattle.pg_laws.specs.Ranges.{AreItemsInRange}

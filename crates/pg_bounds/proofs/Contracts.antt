@@ -6,12 +6,10 @@ use Rattle.pg_list.specs.GalleyValue.{GalleyValue}
 use Rattle.pg_list.specs.Shapes.{IsBlock}
 use Rattle.pg_list.specs.declared.blocks.Block.{Block}
 use Rattle.pg_list.specs.declared.galley.Place.{Place}
-use Rattle.pg_plan.specs.declared.pages.PageMove.{PageMove}
-use Rattle.pg_plan.specs.declared.states.State.{State}
 use Rattle.pg_style.specs.Values.{StyleValue}
 use Rattle.pg_flat.specs.Flat.{blocks_at}
 use Rattle.pg_rules.specs.ColumnRules.{column_variants}
-use Rattle.pg_rules.specs.Follow.{Follow, age_in, context_in}
+use Rattle.pg_rules.specs.Follow.{age_in, context_in}
 use Rattle.pg_rules.specs.IsState.{IsState}
 use Rattle.pg_rules.specs.Legal.{added, document}
 use Rattle.pg_rules.specs.States.{state_at}

@@ -1,22 +1,14 @@
 -- How many floats counts deal out.
-use Rattle.std.proofs.Common.{◌≡◌, refl, sym, ap, subst, ◌∙◌, ℕ, suc, ◌+◌, ◌*◌, ◌≤◌, ◌<◌, ◌⊎◌, inl, inr, List, [], ◌∷◌, map, length, Bool, true, false, Option, None, arith}
-use Rattle.std.specs.Prelude.{ℤ, ◌&&◌, ◌||◌, ◌==◌, not, nat_lt, if◌then◌else◌, is_some}
-use Rattle.std.specs.List.{sum_by, AllByRecursion, range_with_len}
+use Rattle.std.proofs.Common.{◌≡◌, refl, sym, ap, subst, ◌∙◌, ℕ, suc, ◌+◌, ◌*◌, ◌≤◌, ◌<◌, List, [], ◌∷◌, map, length, arith}
+use Rattle.std.specs.List.{sum_by, range_with_len}
 use Rattle.std.proofs.lemmas.List.Sums.{sum_by-cons}
 use Rattle.std.proofs.lemmas.List.FromFn.{length-map-range_with_len}
-use Rattle.pg_list.specs.declared.galley.Place.{Place}
-use Rattle.pg_list.specs.Shapes.{IsBlock}
 use Rattle.pg_plan.specs.declared.pages.PageMove.{PageMove}
-use Rattle.pg_plan.specs.declared.states.State.{State}
 use Rattle.pg_style.specs.Values.{StyleValue}
-use Rattle.pg_rules.specs.ColumnRules.{is_idle}
-use Rattle.pg_flat.specs.Flat.{is_same_place}
 use Rattle.pg_rules.specs.Floats.{entry, total_count, float_count, plus_counts, float_numbers}
-use Rattle.pg_rules.specs.Follow.{Follow, context_in, wide_in, next_state}
-use Rattle.pg_rules.specs.History.{placed_after, with_wide, made_wide}
-use Rattle.pg_rules.specs.IsState.{IsState}
+use Rattle.pg_rules.specs.History.{placed_after, with_wide}
 use Rattle.pg_laws.proofs.Waiting.{placed_more, slotted}
-use Rattle.pg_rules.specs.Room.{Document, is_text, is_top_allowed, is_bottom_allowed}
+use Rattle.pg_rules.specs.Room.{Document}
 use Rattle.std.proofs.Common.{◌-◌, ◌++◌, zero, length-append}
 use Rattle.pg_rules.specs.Floats.{numbered, floats_between}
 use Rattle.pg_rules.specs.Legal.{added}

@@ -1,7 +1,7 @@
 -- The start is a state of a beginning, and so is what follows one.
-use Rattle.std.proofs.Common.{◌≡◌, refl, sym, ap, subst, ◌∙◌, ℕ, zero, suc, ◌+◌, ◌-◌, ◌^◌, ◌≤◌, ◌<◌, ◌⊎◌, inl, inr, List, [], ◌∷◌, map, length, Bool, true, false, Option, Some, None, arith}
-use Rattle.std.specs.Prelude.{◌&&◌, ◌||◌, ◌==◌, if◌then◌else◌, not, nat_abs, nat_le, nat_lt, ℤ, pos, ◌≤ℤ◌, ◌<ℤ◌, int_le, int_lt, is_some, slice_get}
-use Rattle.std.specs.List.{AllByRecursion, list_all, range_with_len}
+use Rattle.std.proofs.Common.{◌≡◌, refl, sym, ap, subst, ℕ, ◌+◌, ◌-◌, ◌^◌, ◌≤◌, ◌<◌, inl, inr, List, [], ◌∷◌, map, length, Bool, true, false, Option, Some, None, arith}
+use Rattle.std.specs.Prelude.{◌&&◌, ◌||◌, ◌==◌, if◌then◌else◌, not, nat_abs, nat_le, nat_lt, ℤ, pos, ◌≤ℤ◌, int_le, int_lt, is_some, slice_get}
+use Rattle.std.specs.List.{AllByRecursion, list_all}
 use Rattle.std.specs.Option.{option_map_or}
 use Rattle.std.proofs.lemmas.Bool.Decides.{nat_tests}
 use Rattle.std.proofs.lemmas.Int.{ints}
@@ -14,27 +14,25 @@ use Rattle.pg_plan.specs.declared.states.Side.{Side}
 use Rattle.pg_plan.specs.declared.states.Side.TheVariants.{L, R, S}
 use Rattle.pg_plan.specs.declared.states.State.{State}
 use Rattle.pg_style.specs.Ranges.{IsStyle}
-use Rattle.pg_style.specs.Values.{StyleValue}
 use Rattle.pg_style.specs.declared.style.First.{First}
 use Rattle.pg_style.specs.declared.style.First.TheVariants.{Left, Right, Single}
-use Rattle.pg_flat.specs.Flat.{is_same_place, items_before}
+use Rattle.pg_flat.specs.Flat.{items_before}
 use Rattle.pg_rules.specs.ColumnRules.{text_fitness, text_total, text_goal, text_badness, fitness_by}
-use Rattle.pg_rules.specs.Floats.{entry, called, floats_between, float_numbers, plus_counts, sizes_of, slots}
-use Rattle.pg_rules.specs.Follow.{Follow, age_in, context_in, fills_page, keeps_run, may_turn, next_state, other_side, turns, waiting_behind, waiting_in, wide_in}
-use Rattle.pg_rules.specs.History.{column_fitness, fit_after, is_called, is_right, made_wide, next_column, placed_after, placed_of, place_of, side_of, with_wide}
+use Rattle.pg_rules.specs.Floats.{entry, called, float_numbers, sizes_of, slots}
+use Rattle.pg_rules.specs.Follow.{Follow, age_in, context_in, keeps_run, other_side, turns, waiting_behind, wide_in}
+use Rattle.pg_rules.specs.History.{column_fitness, is_called, is_right, made_wide, placed_after, placed_of, place_of, side_of}
 use Rattle.pg_rules.specs.Legal.{added, distance_table}
 use Rattle.pg_rules.specs.NoWorse.{is_same_side}
 use Rattle.pg_rules.specs.Room.{ColumnContext, Document, is_text, size_of}
 use Rattle.pg_rules.specs.States.{age, state_at, waiting}
 use Rattle.pg_rules.specs.IsState.{IsPlace, IsState, are_young, has_side, not_first, not_some}
-use Rattle.pg_places.specs.Past.{IsPast}
-use Rattle.pg_places.proofs.Among.{Among, all_at, all_of, both, both_of, by_bool}
+use Rattle.pg_places.proofs.Among.{Among, all_at, all_of, both, both_of}
 use Rattle.pg_places.proofs.Callouts.{entry_less, entry_zero, fit_ends, start_place}
 use Rattle.pg_places.proofs.Measures.{called_grows}
-use Rattle.pg_places.proofs.Tests.{eq_true, if_false, if_true, int_le_of, int_less, less_of, less_true, not_less, same_place}
+use Rattle.pg_places.proofs.Tests.{if_false, int_le_of, int_less, less_true, not_less, same_place}
 use Rattle.pg_laws.specs.Ranges.{AreItemsInRange}
 use Rattle.pg_laws.proofs.Simulation.{le_of, le_true}
-use Rattle.pg_laws.proofs.Waiting.{IsBetween, between_at, between_of, entry_slots, placed_more, slot_below}
+use Rattle.pg_laws.proofs.Waiting.{IsBetween, between_at, between_of, entry_slots, slot_below}
 use Rattle.pg_bounds.proofs.Areas.{IsUpTo, wide_range}
 
 eq_no : (a b : ℕ) → (a == b) ≡ false → a ≡ b → ⊥
@@ -188,18 +186,18 @@ module _ (doc : Document) (blocks : AllByRecursion IsBlock doc.blocks) (items : 
 
   pub own_next : (u : State) (m : PageMove) (v : State) (c : ℤ) → IsState doc u → Follow doc u m v c → IsState doc v
   own_next u m v c own f = subst (IsState doc) (sym f.leads) (record {
-        place = next_place u m v c own f;
-        column = column_next (u.column == doc.style.columns) u.column doc.style.columns refl own.column.0 own.column.1.0 range.columns_to;
-        side = side_next (u.column == doc.style.columns) doc.style.first u.side own.side;
-        run = run_next (u.column == doc.style.columns) u.side m.run (λ (run : ℕ). is_some (slice_get doc.style.runs run)) (both_of (is_some (slice_get doc.style.runs m.run)) _ f.stands.takes_run).0;
-        run_free = free_next (u.column == doc.style.columns) u.side m.run u.column own.column.0;
-        wide = wide (u.column == doc.style.columns) refl;
-        fit = fit_next doc.style.version (is_text (context_in doc u m)) u.fit (column_fitness (context_in doc u m)) (column_fitness_few (context_in doc u m)) own.fit;
-        placed = length-map-range_with_len _ 0 (length (float_numbers doc.style));
-        called = next_called u m v c own f;
-        waiting = length-map (waiting_behind doc u m) _;
-        young = young_map doc (λ (float : ℕ × ℕ). age_in doc u float + turns doc.style u) (waiting_behind doc u m) f.turns;
-      })
+    place = next_place u m v c own f;
+    column = column_next (u.column == doc.style.columns) u.column doc.style.columns refl own.column.0 own.column.1.0 range.columns_to;
+    side = side_next (u.column == doc.style.columns) doc.style.first u.side own.side;
+    run = run_next (u.column == doc.style.columns) u.side m.run (λ (run : ℕ). is_some (slice_get doc.style.runs run)) (both_of (is_some (slice_get doc.style.runs m.run)) _ f.stands.takes_run).0;
+    run_free = free_next (u.column == doc.style.columns) u.side m.run u.column own.column.0;
+    wide = wide (u.column == doc.style.columns) refl;
+    fit = fit_next doc.style.version (is_text (context_in doc u m)) u.fit (column_fitness (context_in doc u m)) (column_fitness_few (context_in doc u m)) own.fit;
+    placed = length-map-range_with_len _ 0 (length (float_numbers doc.style));
+    called = next_called u m v c own f;
+    waiting = length-map (waiting_behind doc u m) _;
+    young = young_map doc (λ (float : ℕ × ℕ). age_in doc u float + turns doc.style u) (waiting_behind doc u m) f.turns;
+  })
     where
       wide : (b : Bool) → b ≡ (u.column == doc.style.columns) → option_map_or (λ (z : ℤ). not_first (if b then 1 else u.column + 1) && (int_le (pos 0) z && int_lt z (pos (2 ^ 33)))) (if b then None else wide_in doc u m) true ≡ true
       wide true e = refl

@@ -1,7 +1,7 @@
 -- What a column costs at most.
-use Rattle.std.proofs.Common.{◌≡◌, refl, sym, ap, subst, ◌∙◌, ℕ, zero, suc, ◌+◌, ◌-◌, ◌*◌, ◌/◌, ◌≤◌, ◌<◌, List, [], ◌∷◌, ◌++◌, map, length, length-append, Bool, true, false, Option, Some, None, arith}
-use Rattle.std.specs.Prelude.{◌&&◌, ◌==◌, if◌then◌else◌, not, nat_lt, nat_abs, slice_get, slice_index, ℤ, pos, negsuc, ◌+ℤ◌, ◌-ℤ◌, ◌*ℤ◌, ◌<ℤ◌, int_lt, int_le}
-use Rattle.std.specs.List.{AllByRecursion, sum_by, range_with_len, flat_map}
+use Rattle.std.proofs.Common.{◌≡◌, refl, sym, ap, subst, ℕ, zero, suc, ◌+◌, ◌*◌, ◌/◌, ◌≤◌, List, [], ◌∷◌, ◌++◌, length, Bool, true, false, Option, Some, None, arith}
+use Rattle.std.specs.Prelude.{◌&&◌, ◌==◌, if◌then◌else◌, nat_lt, nat_abs, slice_get, slice_index, ℤ, pos, negsuc, ◌+ℤ◌, ◌-ℤ◌, ◌<ℤ◌, int_lt, int_le}
+use Rattle.std.specs.List.{AllByRecursion}
 use Rattle.std.specs.Option.{option_map_or}
 use Rattle.std.proofs.Math.Nat.{mul-le-mul_left, mul-le-mul_right, div-le_of_le-mul}
 use Rattle.std.proofs.lemmas.Int.{ints}
@@ -11,9 +11,7 @@ use Rattle.pg_list.specs.declared.blocks.Block.TheVariants.{One, Choice}
 use Rattle.pg_list.specs.declared.item.Item.{Item}
 use Rattle.pg_list.specs.declared.item.Item.TheVariants.{BoxItem, Rule, Glue, Kern, Penalty, Insert, Carry}
 use Rattle.pg_list.specs.declared.variants.Variant.{Variant}
-use Rattle.pg_plan.specs.declared.pages.PageMove.{PageMove}
 use Rattle.pg_style.specs.Ranges.{IsStyle, IsRun, AreDemerits}
-use Rattle.pg_style.specs.Values.{StyleValue}
 use Rattle.pg_style.specs.declared.style.Run.{Run}
 use Rattle.pg_flat.specs.Badness.{badness, cubed, ratio, has_infinite, page_badness}
 use Rattle.pg_flat.specs.Break.{break_penalty, item_break, follows_solid, has_at, is_glue, is_spent}
@@ -26,7 +24,6 @@ use Rattle.pg_rules.specs.Cost.{penalty_demerits, text_demerits, column_demerits
 use Rattle.pg_rules.specs.History.{column_fitness}
 use Rattle.pg_rules.specs.Legal.{distance_table}
 use Rattle.pg_rules.specs.Room.{ColumnContext, is_text, items_of, size_of}
-use Rattle.pg_places.proofs.Among.{by_bool}
 use Rattle.pg_places.proofs.Tests.{less_int, not_less}
 use Rattle.pg_laws.proofs.StyleFacts.{slot_entries}
 

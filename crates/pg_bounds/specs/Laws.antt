@@ -1,5 +1,5 @@
 -- What is bounded, in the words of the contracts.
-use Rattle.std.specs.Prelude.{◌≡◌, ℕ, ◌+◌, ◌*◌, ◌≤◌, length, nat_abs, ℤ}
+use Rattle.std.specs.Prelude.{◌+◌, ◌*◌, ◌≤◌, length, nat_abs, ℤ}
 use Rattle.pg_list.specs.GalleyValue.{GalleyValue}
 use Rattle.pg_plan.specs.declared.pages.PageMove.{PageMove}
 use Rattle.pg_plan.specs.declared.states.State.{State}
@@ -8,7 +8,6 @@ use Rattle.pg_rules.specs.ColumnRules.{column_variants}
 use Rattle.pg_rules.specs.Follow.{Follow, context_in}
 use Rattle.pg_rules.specs.IsState.{IsState}
 use Rattle.pg_rules.specs.Legal.{added, document}
-use Rattle.pg_rules.specs.States.{state_at}
 
 -- what follows a state is a state
 abbrev pub StatesLeadToStates : GalleyValue → StyleValue → Type 0

@@ -15,12 +15,10 @@ pub fn states_lead_to_states(galley: &Galley, style: &Style)
     requires { AreInRange galley.now style.now }
     ensures start { IsState (document galley.now style.now) (state_at (document galley.now style.now) []) }
     ensures next { StatesLeadToStates galley.now style.now }
-{
-}
+{}
 
 /// A column costs at most 7 times 10^8 and 10^8 for each of its picks and each float that it adds.
 pub fn columns_cost_little(galley: &Galley, style: &Style)
     requires { AreInRange galley.now style.now }
     ensures { ColumnsCostLittle galley.now style.now }
-{
-}
+{}

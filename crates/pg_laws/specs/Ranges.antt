@@ -1,5 +1,5 @@
 -- What the types of a galley and of a style keep.
-use Rattle.std.specs.Prelude.{◌≤◌, List}
+use Rattle.std.specs.Prelude.{◌≤◌}
 use Rattle.std.specs.List.{AllByRecursion}
 use Rattle.pg_list.specs.Counts.{item_count, item_limit}
 use Rattle.pg_list.specs.GalleyValue.{GalleyValue}

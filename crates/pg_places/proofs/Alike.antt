@@ -1,10 +1,10 @@
 -- Flat lists that go on alike: where they first differ, a box stands in both.
-use Rattle.std.proofs.Common.{◌≡◌, refl, sym, ap, subst, ◌∙◌, ℕ, zero, suc, ◌+◌, ◌-◌, ◌≤◌, ◌<◌, ◌⊎◌, inl, inr, List, [], ◌∷◌, ◌++◌, map, length, take, drop, Bool, true, false, Option, Some, None, arith}
-use Rattle.std.specs.Prelude.{◌&&◌, ◌||◌, ◌==◌, if◌then◌else◌, not, option_map, slice_get, unwrap_or, ℤ, pos, int_lt}
+use Rattle.std.proofs.Common.{◌≡◌, refl, sym, ap, subst, ◌∙◌, ℕ, zero, suc, ◌+◌, ◌≤◌, ◌<◌, ◌⊎◌, inl, inr, List, [], ◌∷◌, ◌++◌, map, length, drop, Bool, true, false, Option, Some, None, arith}
+use Rattle.std.specs.Prelude.{◌&&◌, ◌||◌, ◌==◌, if◌then◌else◌, option_map, slice_get, unwrap_or, ℤ, pos, int_lt}
 use Rattle.std.specs.List.{AllByRecursion, list_all, list_any}
 use Rattle.std.specs.Option.{option_map_or}
 use Rattle.std.proofs.lemmas.Bool.Decides.{nat_tests}
-use Rattle.pg_list.specs.Places.{place, picked_items, items_around}
+use Rattle.pg_list.specs.Places.{picked_items, items_around}
 use Rattle.pg_list.specs.Shapes.{IsBlock, IsVariant, BeginsWithBox, is_box, is_discardable}
 use Rattle.pg_list.specs.declared.blocks.Block.{Block}
 use Rattle.pg_list.specs.declared.blocks.Block.TheVariants.{One, Choice}
@@ -12,9 +12,8 @@ use Rattle.pg_list.specs.declared.galley.Place.{Place}
 use Rattle.pg_list.specs.declared.item.Item.{Item}
 use Rattle.pg_list.specs.declared.item.Item.TheVariants.{BoxItem, Rule, Glue, Kern, Penalty, Insert, Carry}
 use Rattle.pg_list.specs.declared.variants.Variant.{Variant}
-use Rattle.pg_flat.specs.Break.{break_penalty, follows_solid, has_at, is_forced, is_forcing, is_glue, is_spent, item_break}
+use Rattle.pg_flat.specs.Break.{break_penalty, follows_solid, has_at, is_forced, is_forcing, is_glue, item_break}
 use Rattle.pg_flat.specs.Flat.{FlatItem, blocks_at, flat_items_at, flat_items_from, later_flat_items, picked_variants, variant_flat_items}
-use Rattle.pg_places.proofs.Among.{by_bool}
 use Rattle.pg_places.proofs.Places.{drop_head, pick_named}
 use Rattle.pg_places.proofs.Tests.{if_false, if_true}
 

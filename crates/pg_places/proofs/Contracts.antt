@@ -3,7 +3,7 @@ use Rattle.std.proofs.Common.{List}
 use Rattle.std.specs.List.{AllByRecursion}
 use Rattle.pg_list.specs.Shapes.{IsBlock}
 use Rattle.pg_list.specs.declared.blocks.Block.{Block}
-use Rattle.pg_places.specs.Laws.{BehindHasMore, CalloutsAreAmongAll, Lead, LeadOn, LeadsCut, LeadsGoOn, PlacesBehindHaveMore}
+use Rattle.pg_places.specs.Laws.{CalloutsAreAmongAll, LeadsCut, LeadsGoOn, PlacesBehindHaveMore}
 use Rattle.pg_places.proofs.Callouts.{few_in_all}
 use Rattle.pg_places.proofs.Measures.{called_grows, far_rises, past_within}
 use Rattle.pg_places.proofs.Places.{ends_at}

@@ -1,6 +1,6 @@
 -- A column cuts the list of items in two: its own, and those from its end on with the picks that are left.
-use Rattle.std.proofs.Common.{◌≡◌, refl, sym, ap, subst, ◌∙◌, ℕ, zero, suc, ◌+◌, ◌-◌, ◌≤◌, ◌<◌, ◌⊎◌, inl, inr, List, [], ◌∷◌, ◌++◌, length, take, drop, length-drop, Bool, true, false, Option, Some, None, arith}
-use Rattle.std.specs.Prelude.{◌==◌, cond, if◌then◌else◌, slice_get}
+use Rattle.std.proofs.Common.{◌≡◌, refl, sym, ap, subst, ◌∙◌, ℕ, zero, suc, ◌+◌, ◌≤◌, ◌<◌, ◌⊎◌, inl, inr, List, [], ◌∷◌, ◌++◌, length, take, drop, true, false, Option, Some, arith}
+use Rattle.std.specs.Prelude.{◌==◌, cond, slice_get}
 use Rattle.std.specs.List.{AllByRecursion, position}
 use Rattle.std.specs.Option.{option_map_or}
 use Rattle.std.proofs.lemmas.List.Sums.{sum_by-cons}

@@ -1,11 +1,11 @@
 -- With each item passed on the way one more item lies before.
-use Rattle.std.proofs.Common.{◌≡◌, refl, sym, ap, subst, ◌∙◌, ℕ, zero, suc, ◌+◌, ◌-◌, ◌≤◌, ◌<◌, ◌⊎◌, inl, inr, List, [], ◌∷◌, ◌++◌, length, take, drop, Bool, true, false, Option, Some, None, arith, length-drop}
-use Rattle.std.specs.Prelude.{◌==◌, if◌then◌else◌, slice_get, min}
-use Rattle.std.specs.List.{position, count_by}
+use Rattle.std.proofs.Common.{◌≡◌, refl, sym, ap, subst, ◌∙◌, ℕ, zero, suc, ◌+◌, ◌-◌, ◌≤◌, ◌<◌, ◌⊎◌, inl, inr, List, [], ◌∷◌, ◌++◌, length, take, drop, true, false, Some, arith, length-drop}
+use Rattle.std.specs.Prelude.{◌==◌, slice_get, min}
+use Rattle.std.specs.List.{position}
 use Rattle.std.proofs.lemmas.List.{length-take}
 use Rattle.std.proofs.lemmas.List.Sums.{sum_by-take-le, count_by-le-length}
 use Rattle.pg_list.specs.Counts.{block_size, item_count}
-use Rattle.pg_list.specs.Places.{place, picked_items, items_around}
+use Rattle.pg_list.specs.Places.{picked_items, items_around}
 use Rattle.pg_list.specs.declared.blocks.Block.{Block}
 use Rattle.pg_list.specs.declared.blocks.Block.TheVariants.{One, Choice}
 use Rattle.pg_list.specs.declared.galley.Place.{Place}
@@ -15,7 +15,7 @@ use Rattle.pg_rules.specs.IsState.{IsPlace}
 use Rattle.pg_places.specs.Past.{far}
 use Rattle.pg_places.proofs.Among.{by_bool}
 use Rattle.pg_places.proofs.Callouts.{take_all}
-use Rattle.pg_places.proofs.Measures.{block_at, count_more, picked_size}
+use Rattle.pg_places.proofs.Measures.{count_more, picked_size}
 use Rattle.pg_places.proofs.Places.{Found, around_block, around_is, drop_head, drop_later, found, suc_not}
 use Rattle.pg_places.proofs.Tests.{if_false, if_true, same_place}
 

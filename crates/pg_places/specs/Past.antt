@@ -1,5 +1,5 @@
 -- The places of a galley, and which stand behind which.
-use Rattle.std.specs.Prelude.{◌≡◌, true, ℕ, ◌+◌, ◌<◌, ◌⊎◌, List, length, take}
+use Rattle.std.specs.Prelude.{◌≡◌, ℕ, ◌+◌, ◌<◌, ◌⊎◌, List, take}
 use Rattle.pg_list.specs.declared.blocks.Block.{Block}
 use Rattle.pg_list.specs.declared.galley.Place.{Place}
 use Rattle.pg_list.specs.Counts.{item_count}

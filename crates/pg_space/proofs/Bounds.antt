@@ -1,11 +1,10 @@
 -- The space of pages keeps the laws of a space, for each galley and style in range.
-use Rattle.std.proofs.Common.{◌≡◌, refl, sym, ap, subst, ◌∙◌, ℕ, zero, suc, ◌+◌, ◌*◌, ◌^◌, ◌≤◌, ◌<◌, ◌⊎◌, inl, inr, List, [], ◌∷◌, map, length, Bool, true, false, Option, Some, None, arith}
+use Rattle.std.proofs.Common.{◌≡◌, refl, sym, ap, subst, ℕ, zero, suc, ◌+◌, ◌*◌, ◌^◌, ◌≤◌, ◌<◌, inl, inr, List, [], ◌∷◌, map, length, Bool, true, false, Option, Some, None, arith}
 use Rattle.std.specs.Prelude.{cond, drop, ◌&&◌, ◌==◌, if◌then◌else◌, nat_abs, nat_le, ℤ}
-use Rattle.std.specs.List.{AllByRecursion, sum_by, list_all, range_with_len, filter, cons_option}
+use Rattle.std.specs.List.{AllByRecursion, sum_by, range_with_len, filter, cons_option}
 use Rattle.std.specs.Option.{option_map_or}
-use Rattle.std.proofs.lemmas.List.FromFn.{length-range_with_len}
-use Rattle.std.proofs.lemmas.List.Sums.{sum_by-cons, length-filter, count_by-le-length}
-use Rattle.pg_list.specs.Counts.{block_size, item_count, item_limit}
+use Rattle.std.proofs.lemmas.List.Sums.{sum_by-cons}
+use Rattle.pg_list.specs.Counts.{block_size, item_count}
 use Rattle.pg_list.specs.GalleyValue.{GalleyValue}
 use Rattle.pg_list.specs.Places.{picked_items}
 use Rattle.pg_list.specs.Shapes.{IsBlock}
@@ -15,31 +14,29 @@ use Rattle.pg_list.specs.declared.galley.Place.{Place}
 use Rattle.pg_list.specs.declared.item.Item.{Item}
 use Rattle.pg_plan.specs.declared.pages.PageMove.{PageMove}
 use Rattle.pg_plan.specs.declared.states.State.{State}
-use Rattle.pg_style.specs.Ranges.{IsStyle}
 use Rattle.pg_style.specs.Values.{StyleValue}
-use Rattle.pg_flat.specs.Flat.{blocks_at, flat, fronts, items_before, steps_to}
+use Rattle.pg_flat.specs.Flat.{blocks_at, flat, fronts, items_before}
 use Rattle.pg_rules.specs.ColumnRules.{column_variants}
-use Rattle.pg_rules.specs.Cost.{column_cost}
 use Rattle.pg_style.specs.declared.style.Area.{Area}
 use Rattle.pg_rules.specs.Floats.{float_class, entry, called, sizes_of, float_numbers, insert_size, slots, total_count}
 use Rattle.pg_rules.specs.Follow.{Follow, age_in, context_in, next_state}
 use Rattle.pg_rules.specs.History.{placed_after}
 use Rattle.pg_rules.specs.Legal.{added, document}
 use Rattle.pg_rules.specs.NoWorse.{is_same_key}
-use Rattle.pg_rules.specs.Room.{Document, ColumnContext, flat_items_of, size_of}
+use Rattle.pg_rules.specs.Room.{Document, flat_items_of, size_of}
 use Rattle.pg_table.specs.Space.{Lawful}
 use Rattle.pg_rules.specs.IsState.{IsPlace, IsState}
 use Rattle.pg_places.specs.Past.{IsPast, Past, far}
 use Rattle.pg_places.proofs.Among.{Among, all_at, both_of}
 use Rattle.pg_places.proofs.Callouts.{called_total}
-use Rattle.pg_places.proofs.Measures.{block_at, block_inserts, far_rises, inserted_flat, past_within, picked_size, place_within}
+use Rattle.pg_places.proofs.Measures.{block_inserts, far_rises, inserted_flat, past_within, picked_size, place_within}
 use Rattle.pg_places.proofs.Places.{begins}
 use Rattle.pg_places.proofs.Steps.{far_within, fronts_few, index_within, steps_far}
 use Rattle.pg_places.proofs.Tests.{eq_true, same_place}
 use Rattle.pg_laws.specs.Ranges.{AreInRange}
 use Rattle.pg_laws.proofs.Simulation.{le_true}
 use Rattle.pg_laws.proofs.StyleFacts.{tables_of}
-use Rattle.pg_bounds.proofs.Counts.{added_long, counts_few, total_cons}
+use Rattle.pg_bounds.proofs.Counts.{added_long, counts_few}
 use Rattle.pg_bounds.proofs.Owned.{own_next, own_start}
 use Rattle.pg_bounds.proofs.Prices.{cost_few, picked_limits}
 use Rattle.pg_space.specs.PageSpace.{rank, wide_meaning}

@@ -1,7 +1,6 @@
 -- The laws in the form of their contracts.
-use Rattle.std.proofs.Common.{◌≡◌, refl, sym, ap, subst, ◌∙◌, ℕ, ◌≤◌, ◌⊎◌, inl, inr, List, ◌∷◌, Bool, true, false, Some, arith}
-use Rattle.std.specs.Prelude.{Contains, AllPairs, slice_get, ℤ, ◌+ℤ◌, ◌<ℤ◌, ◌≤ℤ◌, map}
-use Rattle.std.specs.List.Sorted.{IsPermutation, IsSortedByKey}
+use Rattle.std.proofs.Common.{◌≡◌, refl, sym, ap, subst, ◌∙◌, ◌⊎◌, inl, inr, List, ◌∷◌, true, false, arith}
+use Rattle.std.specs.Prelude.{Contains, ℤ, ◌+ℤ◌, ◌<ℤ◌, ◌≤ℤ◌}
 use Rattle.std.specs.Ordering.{is_gt, ordering_then}
 use Rattle.std.specs.Cmp.Lexicographic.{slice_cmp}
 use Rattle.std.proofs.lemmas.Cmp.{tied_itself, by_ranked, int_ranked}
@@ -14,7 +13,6 @@ use Rattle.pg_plan.specs.declared.states.Label.{Label}
 use Rattle.pg_plan.specs.declared.states.State.{State}
 use Rattle.pg_plan.specs.Order.{columns, column_cmp, plan_cmp}
 use Rattle.pg_style.specs.Values.{StyleValue}
-use Rattle.pg_rules.specs.Best.{Best}
 use Rattle.pg_rules.specs.Cost.{cost}
 use Rattle.pg_rules.specs.Follow.{Follow, context_in}
 use Rattle.pg_rules.specs.Room.{Document, is_text}
@@ -22,26 +20,25 @@ use Rattle.pg_rules.specs.IsState.{IsState}
 use Rattle.pg_places.proofs.Among.{by_bool}
 use Rattle.pg_laws.specs.FollowsToo.{FollowsToo}
 use Rattle.pg_laws.specs.Laws.{IsPushed}
-use Rattle.pg_laws.specs.Pages.{plan_of}
 use Rattle.pg_laws.specs.Ranges.{AreInRange}
 use Rattle.pg_laws.proofs.Contracts.{facts, no_worse_follow, pushed, some}
 use Rattle.pg_laws.proofs.Order.{columns_total}
 use Rattle.pg_laws.proofs.Prefixes.{plan_is}
-use Rattle.pg_space.specs.Laws.{BeginningsAreRuns, BestLabelsAreBest, BetterGoOn, GoesOnBetter, IsBeginningOf, IsRunOfColumns, NoneDoneNoneLegal, RunsAreBeginnings, SortedLabelsAreFrontier, TellsAll, label_of}
+use Rattle.pg_space.specs.Laws.{BeginningsAreRuns, BestLabelsAreBest, BetterGoOn, RunsAreBeginnings, SortedLabelsAreFrontier, TellsAll, label_of}
 use Rattle.pg_space.specs.PageSpace.{FollowBest, page_meaning, wide_meaning}
 use Rattle.pg_space.proofs.Bounds.{pages_lawful}
 use Rattle.pg_space.proofs.FrontierLaws.{entry_label, label_entry, labels_rise}
 use Rattle.pg_space.proofs.Least.{best_narrower, instead_other, instead_text}
 use Rattle.pg_space.proofs.Solve.{IsPlanOfRun, prefix_run, run_plan, solve_best, solve_none, label_on, on_label, states_apart}
-use Rattle.pg_rules.specs.Frontier.{Better, Frontier, IsLabel}
+use Rattle.pg_rules.specs.Frontier.{IsLabel}
 use Rattle.pg_rules.specs.Legal.{document}
 use Rattle.pg_rules.specs.NoWorse.{is_same_key, is_no_worse}
 use Rattle.pg_rules.specs.States.{Prefix, state_of}
-use Rattle.pg_table.specs.Label.{RunOf, reached, Apart, IsTable, IsBestOf}
-use Rattle.pg_table.specs.Narrower.{IsNarrower, BetteredBy, Instead, narrowed}
-use Rattle.pg_table.specs.Space.{Lawful, Reached, Run, IsRun}
+use Rattle.pg_table.specs.Label.{RunOf, IsTable}
+use Rattle.pg_table.specs.Narrower.{BetteredBy, Instead}
+use Rattle.pg_table.specs.Space.{Lawful, Reached, IsRun}
 use Rattle.pg_table.specs.declared.table.Entry.{Entry}
-use Rattle.pg_table.proofs.Lists.{contains_at, pairs_weaker, some_same}
+use Rattle.pg_table.proofs.Lists.{contains_at, some_same}
 use Rattle.pg_table.proofs.Narrow.{narrow_lawful, bettered}
 use Rattle.pg_table.proofs.Runs.{own}
 

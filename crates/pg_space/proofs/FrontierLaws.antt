@@ -1,6 +1,6 @@
 -- The labels of a table, sorted by their states, are the frontier.
-use Rattle.std.proofs.Common.{◌≡◌, refl, sym, ap, subst, ◌∙◌, ℕ, zero, suc, ◌+◌, ◌≤◌, ◌<◌, ◌⊎◌, inl, inr, List, [], ◌∷◌, map, length, Bool, true, false, Option, Some, None, arith}
-use Rattle.std.specs.Prelude.{◌≢◌, ◌↔◌, Contains, AllPairs, slice_get, slice_index_or, option_map}
+use Rattle.std.proofs.Common.{◌≡◌, refl, sym, ap, subst, ◌∙◌, ℕ, suc, ◌+◌, ◌<◌, List, [], ◌∷◌, map, length, Bool, true, false, Option, Some, None, arith}
+use Rattle.std.specs.Prelude.{Contains, AllPairs, slice_get, slice_index_or, option_map}
 use Rattle.std.specs.List.{AllByRecursion, IsDistinct}
 use Rattle.std.specs.List.Sorted.{IsPermutation, IsSortedByKey}
 use Rattle.std.specs.Ordering.{is_lt, ordering_reverse}

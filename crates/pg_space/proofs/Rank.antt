@@ -1,28 +1,23 @@
 -- The rank rises with each column.
-use Rattle.std.proofs.Common.{◌≡◌, refl, sym, ap, subst, ◌∙◌, ℕ, suc, ◌+◌, ◌*◌, ◌≤◌, ◌<◌, ◌⊎◌, inl, inr, List, [], ◌∷◌, map, length, Bool, true, false, Option, None, arith}
+use Rattle.std.proofs.Common.{◌≡◌, refl, sym, ap, subst, ◌∙◌, ℕ, ◌+◌, ◌*◌, ◌≤◌, ◌<◌, ◌⊎◌, inl, inr, length, Bool, true, false, Option, None, arith}
 use Rattle.std.specs.Prelude.{ℤ, ◌&&◌, ◌||◌, ◌==◌, not, nat_lt, if◌then◌else◌, is_some}
-use Rattle.std.specs.List.{sum_by, AllByRecursion, range_with_len}
-use Rattle.std.proofs.lemmas.List.Sums.{sum_by-cons}
-use Rattle.std.proofs.lemmas.List.FromFn.{length-map-range_with_len}
+use Rattle.std.specs.List.{AllByRecursion}
 use Rattle.pg_list.specs.declared.galley.Place.{Place}
 use Rattle.pg_list.specs.Shapes.{IsBlock}
 use Rattle.pg_plan.specs.declared.pages.PageMove.{PageMove}
 use Rattle.pg_plan.specs.declared.states.State.{State}
-use Rattle.pg_style.specs.Values.{StyleValue}
 use Rattle.pg_rules.specs.ColumnRules.{is_idle}
 use Rattle.pg_flat.specs.Flat.{is_same_place}
-use Rattle.pg_rules.specs.Floats.{entry, total_count, float_count, plus_counts, float_numbers}
+use Rattle.pg_rules.specs.Floats.{total_count, float_count, float_numbers}
 use Rattle.pg_rules.specs.Follow.{Follow, context_in, wide_in, next_state}
-use Rattle.pg_rules.specs.History.{placed_after, with_wide, made_wide}
+use Rattle.pg_rules.specs.History.{placed_after, made_wide}
 use Rattle.pg_rules.specs.IsState.{IsPlace, IsState}
-use Rattle.pg_places.specs.Past.{IsPast, Past, far}
+use Rattle.pg_places.specs.Past.{IsPast, Past}
 use Rattle.pg_places.proofs.Among.{both_of, by_bool}
 use Rattle.pg_places.proofs.Callouts.{fit_ends}
-use Rattle.pg_places.proofs.Measures.{far_rises, past_within}
 use Rattle.pg_places.proofs.Tests.{eq_refl, eq_true, if_false, if_true, less_true, place_refl, same_place}
 use Rattle.pg_laws.proofs.PagesLaws.{wide_long}
-use Rattle.pg_bounds.proofs.Counts.{after_total, float_total, plus_total, total_cons}
-use Rattle.pg_space.specs.PageSpace.{rank}
+use Rattle.pg_bounds.proofs.Counts.{after_total, float_total}
 use Rattle.pg_rules.specs.Room.{Document, is_text, is_top_allowed, is_bottom_allowed}
 
 or_cases : (a b : Bool) → (a || b) ≡ true → (a ≡ true) ⊎ (b ≡ true)

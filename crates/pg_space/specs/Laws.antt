@@ -1,5 +1,5 @@
 -- What a table of pages says of all paginations, in the words of its contracts.
-use Rattle.std.specs.Prelude.{◌≡◌, true, ◌↔◌, ℕ, Option, Some, List, ◌∷◌, map, slice_get, ℤ}
+use Rattle.std.specs.Prelude.{◌≡◌, true, ℕ, Some, List, ◌∷◌, map, slice_get, ℤ}
 use Rattle.std.specs.List.Sorted.{IsPermutation, IsSortedByKey}
 use Rattle.pg_list.specs.GalleyValue.{GalleyValue}
 use Rattle.pg_plan.specs.declared.pages.PageMove.{PageMove}
@@ -16,7 +16,7 @@ use Rattle.pg_rules.specs.Room.{is_text}
 use Rattle.pg_rules.specs.Frontier.{Better, Frontier, state_cmp}
 use Rattle.pg_rules.specs.Legal.{Legal, document}
 use Rattle.pg_rules.specs.States.{Prefix, state_of}
-use Rattle.pg_table.specs.Label.{RunOf, IsTable, IsBestOf, NoneDone}
+use Rattle.pg_table.specs.Label.{RunOf, IsBestOf, NoneDone}
 use Rattle.pg_table.specs.Space.{Run}
 use Rattle.pg_table.specs.declared.table.Entry.{Entry}
 use Rattle.pg_laws.specs.Pages.{plan_of}

@@ -1,29 +1,29 @@
 -- The texts of columns cut the flat list, and each float is dealt out once.
-use Rattle.std.proofs.Common.{◌≡◌, refl, sym, ap, subst, ◌∙◌, ℕ, zero, suc, ◌+◌, ◌-◌, ◌≤◌, ◌<◌, ◌⊎◌, inl, inr, List, [], ◌∷◌, ◌++◌, append_assoc, map, length, take, drop, Bool, true, false, Option, Some, None, arith}
-use Rattle.std.specs.Prelude.{◌&&◌, ◌==◌, if◌then◌else◌, cond, not, slice_get, option_map, ℤ}
-use Rattle.std.specs.List.{AllByRecursion, filter, list_all, enumerate_from, take-map}
+use Rattle.std.proofs.Common.{◌≡◌, refl, sym, ap, subst, ◌∙◌, ℕ, zero, suc, ◌+◌, ◌<◌, inl, inr, List, [], ◌∷◌, ◌++◌, append_assoc, map, length, take, drop, Bool, true, false, Option, Some, None, arith}
+use Rattle.std.specs.Prelude.{◌&&◌, ◌==◌, cond, not, slice_get, ℤ}
+use Rattle.std.specs.List.{AllByRecursion, filter, list_all, enumerate_from}
 use Rattle.std.specs.Option.{option_map_or}
 use Rattle.std.proofs.lemmas.List.{append-nil, map-append, length-map}
 use Rattle.std.proofs.lemmas.List.Elements.{filter-append}
 use Rattle.std.proofs.lemmas.Option.{slice_get_within}
 use Rattle.pg_list.specs.GalleyValue.{GalleyValue}
-use Rattle.pg_list.specs.Shapes.{IsBlock, is_box, is_discardable}
+use Rattle.pg_list.specs.Shapes.{IsBlock, is_discardable}
 use Rattle.pg_list.specs.declared.galley.Place.{Place}
 use Rattle.pg_list.specs.declared.item.Item.{Item}
 use Rattle.pg_list.specs.declared.item.Item.TheVariants.{BoxItem, Rule, Glue, Kern, Penalty, Insert, Carry}
 use Rattle.pg_plan.specs.Order.{columns}
 use Rattle.pg_plan.specs.declared.pages.PageMove.{PageMove}
-use Rattle.pg_plan.specs.declared.pages.Pagination.{Pagination}
 use Rattle.pg_style.specs.Values.{StyleValue}
-use Rattle.pg_flat.specs.Flat.{FlatItem, blocks_at, flat, flat_items, flat_items_at, fronts, is_same_place, picked_variants, steps_to}
+use Rattle.pg_flat.specs.Flat.{FlatItem, flat, flat_items, flat_items_at, fronts, is_same_place}
 use Rattle.pg_flat.specs.Totals.{trimmed}
 use Rattle.pg_rules.specs.ColumnRules.{column_variants, does_fit}
 use Rattle.pg_rules.specs.Floats.{entry, float_numbers, floats, plus_counts, sizes_of}
-use Rattle.pg_rules.specs.History.{context, place_of, placed_after, placed_of, with_wide}
-use Rattle.pg_rules.specs.Legal.{Legal, document, has_dealt_all, is_chained}
+use Rattle.pg_rules.specs.History.{context, place_of, placed_of, with_wide}
+use Rattle.pg_rules.specs.Legal.{document, has_dealt_all, is_chained}
 use Rattle.pg_rules.specs.Room.{ColumnContext, Document, flat_items_of, items_of, size_of}
 use Rattle.pg_rules.specs.IsState.{IsPlace}
-use Rattle.pg_places.proofs.Among.{both, both_of, by_bool}
+use Rattle.pg_places.proofs.Alike.{item_of}
+use Rattle.pg_places.proofs.Among.{both, both_of}
 use Rattle.pg_places.proofs.Callouts.{fit_ends, start_place}
 use Rattle.pg_places.proofs.Splits.{splits}
 use Rattle.pg_places.proofs.Tests.{eq_true, same_place}
@@ -32,7 +32,7 @@ use Rattle.pg_laws.specs.Ranges.{AreInRange}
 use Rattle.pg_laws.specs.Stands.{Stand}
 use Rattle.pg_laws.proofs.Contracts.{unbroken_keep_rules}
 use Rattle.pg_laws.proofs.Waiting.{entry_plus, entry_slots}
-use Rattle.pg_texts.specs.Texts.{Chained, EachOnce, LegalHaveEachOnce, column_floats, dealt_floats, is_kept, next_floats, picks_of, segment_of, segments, text_of, texts}
+use Rattle.pg_texts.specs.Texts.{Chained, LegalHaveEachOnce, column_floats, dealt_floats, is_kept, picks_of, segment_of, segments, text_of, texts}
 
 -- ---- texts
 
@@ -49,9 +49,6 @@ fits_of it h = by (size_of it) refl h
     by : (o : Option ℕ) → o ≡ size_of it → option_map_or (λ n. (fronts (flat_items_of it) n == length it.column.picks) && (length (column_variants it) == length it.column.picks)) o false ≡ true → Fits it
     by None e t = absurd cc
     by (Some n) e t = let p = both_of (fronts (flat_items_of it) n == length it.column.picks) _ t in record { size = n; is = sym e; fronts_are = eq_true _ _ p.0; named = eq_true _ _ p.1 }
-
-abbrev pub item_of : FlatItem → Item
-item_of x = x.item
 
 -- the flat items between a column's ends, and those of all columns
 abbrev pub column_items : ColumnContext → List FlatItem
@@ -197,9 +194,9 @@ each_once g s range plan legal =
     let c : Chained (document g s) (columns plan) = stand_chained (document g s) (columns plan) k.stand in
     let rest : List Item = map item_of (flat_items_at g.blocks (place_of (columns plan)) []) in
     let w : flat g.blocks (picks_of (columns plan)) ≡ texts (document g s) (columns plan) ++ map item_of (flat_items_at g.blocks (place_of (columns plan)) []) =
-        ap (λ (p : List ℕ). flat g.blocks p) (sym (append-nil (picks_of (columns plan))))
-        ∙ (ap (map item_of) (whole_splits (document g s) range.blocks (columns plan) [] c)
-        ∙ (map-append item_of (passed (document g s) (columns plan)) (flat_items_at g.blocks (place_of (columns plan)) []) ∙ ap (λ (xs : List Item). xs ++ map item_of (flat_items_at g.blocks (place_of (columns plan)) [])) (passed_texts (document g s) (columns plan)))) in
+    ap (λ (p : List ℕ). flat g.blocks p) (sym (append-nil (picks_of (columns plan))))
+    ∙ (ap (map item_of) (whole_splits (document g s) range.blocks (columns plan) [] c)
+    ∙ (map-append item_of (passed (document g s) (columns plan)) (flat_items_at g.blocks (place_of (columns plan)) []) ∙ ap (λ (xs : List Item). xs ++ map item_of (flat_items_at g.blocks (place_of (columns plan)) [])) (passed_texts (document g s) (columns plan)))) in
     record {
       rest = map item_of (flat_items_at g.blocks (place_of (columns plan)) []);
       whole = w;

@@ -1,24 +1,22 @@
 -- A column reads the one flat list of all picks.
-use Rattle.std.proofs.Common.{◌≡◌, refl, sym, ap, subst, ◌∙◌, ℕ, zero, suc, ◌+◌, ◌-◌, ◌≤◌, ◌<◌, ◌⊎◌, inl, inr, List, [], ◌∷◌, ◌++◌, append_assoc, map, length, length-append, take, drop, Bool, true, false, Option, Some, None, arith}
-use Rattle.std.specs.Prelude.{◌&&◌, ◌||◌, not, is_some, min}
+use Rattle.std.proofs.Common.{◌≡◌, refl, sym, ap, subst, ◌∙◌, ℕ, zero, suc, ◌+◌, ◌-◌, ◌≤◌, ◌<◌, inl, inr, List, [], ◌∷◌, ◌++◌, append_assoc, map, length, length-append, length-drop, take, drop, Bool, Option, Some, arith}
+use Rattle.std.specs.Prelude.{◌&&◌, ◌||◌, not, is_some, ℤ}
 use Rattle.std.specs.List.{AllByRecursion, list_all, list_any, range_with_len}
 use Rattle.std.specs.Option.{option_map_or}
 use Rattle.std.proofs.Math.Seq.{drop-append_seam, drop-append-add}
-use Rattle.std.proofs.lemmas.List.{append-nil, map-append, length-map, length-take, take-append-le, drop-append-le, length-take-le}
+use Rattle.std.proofs.lemmas.List.{append-nil, map-append, length-map, take-append-le, drop-append-le, length-take-le}
 use Rattle.std.proofs.lemmas.Option.{slice_get_within}
 use Rattle.pg_list.specs.GalleyValue.{GalleyValue}
 use Rattle.pg_list.specs.Shapes.{IsBlock, is_box, is_discardable}
 use Rattle.pg_list.specs.declared.galley.Place.{Place}
 use Rattle.pg_list.specs.declared.item.Item.{Item}
-use Rattle.pg_plan.specs.Order.{columns}
 use Rattle.pg_plan.specs.declared.pages.PageMove.{PageMove}
-use Rattle.pg_plan.specs.declared.pages.Pagination.{Pagination}
 use Rattle.pg_style.specs.Values.{StyleValue}
-use Rattle.pg_flat.specs.Break.{break_penalty, follows_solid, has_at, is_forced, is_spent, passes_between}
+use Rattle.pg_flat.specs.Break.{break_penalty, follows_solid, has_at, is_forced, is_spent}
 use Rattle.pg_flat.specs.Flat.{FlatItem, blocks_at, flat, flat_items, flat_items_at, is_same_place, picked_variants}
 use Rattle.pg_flat.specs.Totals.{trimmed}
 use Rattle.pg_rules.specs.History.{context, place_of}
-use Rattle.pg_rules.specs.Legal.{document, is_chained}
+use Rattle.pg_rules.specs.Legal.{document}
 use Rattle.pg_rules.specs.ColumnRules.{does_fit}
 use Rattle.pg_rules.specs.Room.{ColumnContext, Document, flat_items_of, items_of, size_of}
 use Rattle.pg_places.proofs.Alike.{Alike, alike_append, alike_itself, at_alike, break_alike, break_by_rest, break_of, forced_alike, forced_by_rest, forced_of, item_of, next_at, same_alike, spent_alike}
@@ -27,7 +25,7 @@ use Rattle.pg_places.proofs.Splits.{StandsAt, stands_at}
 use Rattle.pg_places.proofs.Tests.{same_place}
 use Rattle.pg_laws.specs.Ranges.{AreInRange}
 use Rattle.pg_laws.proofs.Waiting.{slot_below}
-use Rattle.pg_texts.specs.Texts.{Chained, ColumnsReadFlat, ReadsFlat, StandsInFlat, passes_behind, picks_of}
+use Rattle.pg_texts.specs.Texts.{Chained, ColumnsReadFlat, ReadsFlat, StandsInFlat, picks_of}
 use Rattle.pg_texts.proofs.Once.{Fits, chain_fits, column_items, column_splits, fits_of, passed, whole_splits}
 
 -- ---- two lists with a common part
@@ -41,9 +39,6 @@ record Reads (xs flat : List Item) (start n : ℕ) : Type 0 where
   spent : (j : ℕ) → j ≤ n → is_spent xs j ≡ is_spent flat (start + j)
 
 module _ (before t rest other : List Item) (alike : Alike rest other) where
-  all : List Item
-  all = before ++ (t ++ other)
-
   own_rest : (j : ℕ) → j ≤ length t → drop j (t ++ rest) ≡ drop j t ++ rest
   own_rest j h = drop-append-le j t rest h
 
@@ -65,7 +60,7 @@ module _ (before t rest other : List Item) (alike : Alike rest other) where
 
   solid_same : (i : ℕ) → i < length t → follows_solid (t ++ rest) (suc i) ≡ follows_solid (before ++ (t ++ other)) (suc (length before + i))
   solid_same i h =
-      let l : length (drop i t) ≡ length t - i = Rattle.std.proofs.Common.length-drop i t in
+      let l : length (drop i t) ≡ length t - i = length-drop i t in
       next_at (λ item. not (is_discardable item)) i (t ++ rest) (drop i t ++ rest) (own_rest i (omega arith))
       ∙ (head_same (λ item. not (is_discardable item)) (drop i t) (omega arith)
       ∙ sym (next_at (λ item. not (is_discardable item)) (length before + i) (before ++ (t ++ other)) (drop i t ++ other) (flat_rest i (omega arith))))
@@ -106,7 +101,7 @@ reads_flat it flat start n size r = record {
       (λ (j : ℕ). not (is_some (break_penalty flat (start + j)) && list_any is_box (take j (drop start flat))) || not (is_forced flat (start + j) || over j)) (range_with_len 1 (n - 1)) (each over);
 }
   where
-    same : (a a' : Option Rattle.std.specs.Prelude.ℤ) (xs xs' : List Item) (f f' o : Bool) → a ≡ a' → xs ≡ xs' → f ≡ f' → (not (is_some a && list_any is_box xs) || not (f || o)) ≡ (not (is_some a' && list_any is_box xs') || not (f' || o))
+    same : (a a' : Option ℤ) (xs xs' : List Item) (f f' o : Bool) → a ≡ a' → xs ≡ xs' → f ≡ f' → (not (is_some a && list_any is_box xs) || not (f || o)) ≡ (not (is_some a' && list_any is_box xs') || not (f' || o))
     same a a' xs xs' f f' o p q r = cc
 
     each : (over : ℕ → Bool) (j : ℕ) → Among j (range_with_len 1 (n - 1)) → (not (is_some (break_penalty (items_of it) j) && list_any is_box (take j (items_of it))) || not (is_forced (items_of it) j || over j)) ≡ (not (is_some (break_penalty flat (start + j)) && list_any is_box (take j (drop start flat))) || not (is_forced flat (start + j) || over j))

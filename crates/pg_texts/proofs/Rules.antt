@@ -1,7 +1,7 @@
 -- The rules on a text column are those of its part of the flat list.
-use Rattle.std.proofs.Common.{◌≡◌, refl, sym, ap, subst, ◌∙◌, ℕ, zero, suc, ◌+◌, ◌-◌, ◌<◌, ◌≤◌, ◌⊎◌, inl, inr, List, [], ◌∷◌, ◌++◌, length, take, drop, Bool, true, false, Option, Some, None, arith}
-use Rattle.std.specs.Prelude.{◌&&◌, ◌||◌, ◌==◌, not, nat_le, if◌then◌else◌, is_some, slice_get, ℤ, pos, ◌+ℤ◌, ◌-ℤ◌}
-use Rattle.std.specs.List.{AllByRecursion, list_any, list_all, range_with_len}
+use Rattle.std.proofs.Common.{◌≡◌, refl, sym, ap, subst, ◌∙◌, ℕ, zero, suc, ◌+◌, ◌-◌, ◌<◌, ◌≤◌, inl, inr, List, [], ◌∷◌, take, drop, Bool, true, false, Option, Some, arith}
+use Rattle.std.specs.Prelude.{◌&&◌, ◌||◌, ◌==◌, not, nat_le, if◌then◌else◌, is_some, ℤ, pos, ◌+ℤ◌, ◌-ℤ◌}
+use Rattle.std.specs.List.{AllByRecursion, list_any, range_with_len}
 use Rattle.std.specs.Option.{option_map_or}
 use Rattle.pg_list.specs.GalleyValue.{GalleyValue}
 use Rattle.pg_list.specs.Shapes.{IsBlock, is_box}
@@ -9,27 +9,25 @@ use Rattle.pg_list.specs.declared.blocks.Block.{Block}
 use Rattle.pg_list.specs.declared.galley.Place.{Place}
 use Rattle.pg_list.specs.declared.item.Item.{Item}
 use Rattle.pg_plan.specs.Order.{columns}
-use Rattle.pg_plan.specs.declared.pages.PageMove.{PageMove}
-use Rattle.pg_plan.specs.declared.pages.Pagination.{Pagination}
 use Rattle.pg_style.specs.Values.{StyleValue}
 use Rattle.pg_flat.specs.Badness.{is_over, page_badness}
 use Rattle.pg_flat.specs.Break.{break_penalty, is_forced, is_spent, passes_between}
-use Rattle.pg_flat.specs.Flat.{FlatItem, end_of, flat, flat_items_at, is_same_place}
+use Rattle.pg_flat.specs.Flat.{FlatItem, is_same_place}
 use Rattle.pg_flat.specs.Totals.{shrink, total}
 use Rattle.pg_flat.specs.Whole.{square}
 use Rattle.pg_rules.specs.ColumnRules.{fitness_by, is_tolerable, is_well_formed, keeps_note_limits, passes_breaks, segment, text_badness, text_is_over, text_total, text_goal, text_fitness}
 use Rattle.pg_rules.specs.Cost.{column_demerits, penalty_demerits, text_demerits}
 use Rattle.pg_rules.specs.History.{column_fitness, context, place_of}
 use Rattle.pg_rules.specs.IsState.{IsPlace}
-use Rattle.pg_rules.specs.Legal.{document, is_chained}
-use Rattle.pg_rules.specs.Room.{are_notes_within_limits, at_size, ColumnContext, Document, flat_items_of, is_text, items_of, notes, room, size_of}
+use Rattle.pg_rules.specs.Legal.{document}
+use Rattle.pg_rules.specs.Room.{are_notes_within_limits, at_size, ColumnContext, flat_items_of, is_text, items_of, notes, room, size_of}
 use Rattle.pg_places.proofs.Among.{Among, all_same, both_of}
 use Rattle.pg_places.proofs.Places.{Leads, leads}
 use Rattle.pg_places.proofs.Splits.{StandsAt, stands_at}
 use Rattle.pg_places.proofs.Tests.{if_true, place_refl, same_place}
 use Rattle.pg_laws.specs.Ranges.{AreInRange}
 use Rattle.pg_laws.proofs.Waiting.{slot_below}
-use Rattle.pg_texts.specs.Texts.{Chained, KeepsFlatRules, ReadsFlat, RulesReadFlat, RulesReadTheFlatList, StandsInFlat, flat_badness, flat_goal, flat_is_over, flat_segment, flat_total, passes_behind, picks_of}
+use Rattle.pg_texts.specs.Texts.{Chained, ReadsFlat, RulesReadFlat, RulesReadTheFlatList, StandsInFlat, flat_badness, flat_goal, flat_is_over, flat_segment, flat_total, passes_behind, picks_of}
 use Rattle.pg_texts.proofs.Once.{Fits, chain_fits, chain_place, fits_of}
 use Rattle.pg_texts.proofs.Reading.{chained_tail, columns_read_flat}
 

@@ -12,8 +12,7 @@ use pg_style::Style;
 pub fn legal_plans_have_each_once(galley: &Galley, style: &Style)
     requires { AreInRange galley.now style.now }
     ensures { LegalHaveEachOnce galley.now style.now }
-{
-}
+{}
 
 /// Every column of a pagination whose columns fit reads from its own text what the one flat list
 /// of the galley, with all picks of the pagination, says between the column's places: its items and
@@ -23,5 +22,4 @@ pub fn columns_read_the_flat_list(galley: &Galley, style: &Style)
     requires { AreInRange galley.now style.now }
     ensures reads { ColumnsReadFlat galley.now style.now }
     ensures rules { RulesReadTheFlatList galley.now style.now }
-{
-}
+{}
