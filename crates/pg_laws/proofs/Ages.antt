@@ -1,21 +1,15 @@
 -- The ages of floats in the state behind columns are those by their pages.
 use Rattle.std.proofs.Common.{◌≡◌, refl, sym, ap, subst, ◌∙◌, ℕ, ◌+◌, ◌-◌, ◌≤◌, ◌<◌, inl, inr, List, [], ◌∷◌, map, length, Bool, true, false, arith}
-use Rattle.std.specs.Prelude.{if◌then◌else◌, ◌==◌, nat_lt}
-use Rattle.std.proofs.lemmas.Bool.Decides.{nat_tests}
+use Rattle.std.specs.Prelude.{if◌then◌else◌, ◌==◌}
 use Rattle.pg_plan.specs.declared.pages.PageMove.{PageMove}
 use Rattle.pg_rules.specs.Room.{Document}
 use Rattle.pg_rules.specs.Floats.{entry, called, float_numbers}
 use Rattle.pg_rules.specs.History.{next_column, next_page, place_of, placed_of, is_called, calling_page}
 use Rattle.pg_rules.specs.States.{age, waiting, state_at}
 use Rattle.pg_rules.specs.Follow.{is_same_float, age_among, age_in, turns}
-use Rattle.pg_laws.proofs.Among.{Among, by_bool, both, both_of}
+use Rattle.pg_places.proofs.Among.{Among, both, both_of, by_bool}
+use Rattle.pg_places.proofs.Tests.{eq_refl, eq_true, if_false, if_true, less_true}
 use Rattle.pg_laws.proofs.Waiting.{between_of, placed_more}
-
-pub eq_true : (a b : ℕ) → (a == b) ≡ true → a ≡ b
-eq_true a b h = grind (arith, nat_tests)
-
-pub eq_refl : (a : ℕ) → (a == a) ≡ true
-eq_refl a = grind (arith, nat_tests)
 
 pub same_float : (a b : ℕ × ℕ) → is_same_float a b ≡ true → a ≡ b
 same_float (a, b) (c, d) h =
@@ -26,14 +20,6 @@ same_float (a, b) (c, d) h =
 
 same_itself : (a : ℕ × ℕ) → is_same_float a a ≡ true
 same_itself (a, b) = both (a == a) (b == b) (eq_refl a) (eq_refl b)
-
-pub if_true : {X : Type 0} (b : Bool) (x y : X) → b ≡ true → (if b then x else y) ≡ x
-if_true true x y e = refl
-if_true false x y e = absurd cc
-
-pub if_false : {X : Type 0} (b : Bool) (x y : X) → b ≡ false → (if b then x else y) ≡ y
-if_false false x y e = refl
-if_false true x y e = absurd cc
 
 pub age_found : (g : ℕ × ℕ → ℕ) (xs : List (ℕ × ℕ)) (float : ℕ × ℕ) → Among float xs → age_among xs (map g xs) float ≡ g float
 age_found g [] float a = absurd a
@@ -46,9 +32,6 @@ age_found g (x ∷ xs) float (inr a) =
 step : (b : Bool) (x c n : ℕ) → (b ≡ true → x ≡ n - c) → (if b then x else 0) ≡ n - (if b then c else n)
 step true x c n h = h refl
 step false x c n h = omega arith
-
-pub less_true : (a b : ℕ) → nat_lt a b ≡ true → a < b
-less_true a b h = grind (arith, nat_tests)
 
 pub ages_agree : (doc : Document) (m : PageMove) (ms : List PageMove) (float : ℕ × ℕ) → float.0 < length (float_numbers doc.style) → entry (placed_of doc.style ms) float.0 ≤ float.1 →
     age_in doc (state_at doc ms) float ≡ next_page doc.style ms - calling_page doc (m ∷ ms) float

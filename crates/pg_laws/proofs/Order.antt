@@ -25,21 +25,21 @@ columns_total =
     (then_total (on_total (λ (a : PageMove). a.column.top) nat_list_cmp_total)
     (on_total (λ (a : PageMove). reverse a.column.picks) nat_list_cmp_total))))))
 
-then_equal : (o p : Ordering) → ordering_then o p ≡ Equal → (o ≡ Equal) × (p ≡ Equal)
+pub then_equal : (o p : Ordering) → ordering_then o p ≡ Equal → (o ≡ Equal) × (p ≡ Equal)
 then_equal Less p e = absurd cc
 then_equal Equal p e = (refl, e)
 then_equal Greater p e = absurd cc
 
-nat_equal : (a b : ℕ) → nat_cmp a b ≡ Equal → a ≡ b
+pub nat_equal : (a b : ℕ) → nat_cmp a b ≡ Equal → a ≡ b
 nat_equal a b e = by_ranked (a < b) (a ≡ b) (b < a) (nat_cmp a b) (ranked a b (nat_cmp a b) refl) (λ o _. absurd cc) (λ _ p. p) (λ o _. absurd cc)
 
-list_equal : (xs ys : List ℕ) → slice_cmp nat_cmp xs ys ≡ Equal → xs ≡ ys
+pub list_equal : (xs ys : List ℕ) → slice_cmp nat_cmp xs ys ≡ Equal → xs ≡ ys
 list_equal [] [] e = refl
 list_equal [] (y ∷ ys) e = absurd cc
 list_equal (x ∷ xs) [] e = absurd cc
 list_equal (x ∷ xs) (y ∷ ys) e = let t = then_equal (nat_cmp x y) (slice_cmp nat_cmp xs ys) e in let p : x ≡ y = nat_equal x y t.0 in let q : xs ≡ ys = list_equal xs ys t.1 in cc
 
-place_equal : (a b : Place) → place_cmp a b ≡ Equal → a ≡ b
+pub place_equal : (a b : Place) → place_cmp a b ≡ Equal → a ≡ b
 place_equal a b e =
     let t = then_equal (nat_cmp a.block b.block) (ordering_then (nat_cmp a.variant b.variant) (nat_cmp a.index b.index)) e in
     let s = then_equal (nat_cmp a.variant b.variant) (nat_cmp a.index b.index) t.1 in
@@ -48,7 +48,7 @@ place_equal a b e =
     make : (b v i b' v' i' : ℕ) → b ≡ b' → v ≡ v' → i ≡ i' → ◌≡◌ {A = Place} (record { block = b; variant = v; index = i }) (record { block = b'; variant = v'; index = i' })
     make b v i b' v' i' p q r = cc
 
-picks_equal : (a b : List ℕ) → picks_cmp a b ≡ Equal → a ≡ b
+pub picks_equal : (a b : List ℕ) → picks_cmp a b ≡ Equal → a ≡ b
 picks_equal a b e = sym (reverse-reverse a) ∙ (ap reverse (list_equal (reverse a) (reverse b) e) ∙ reverse-reverse b)
 
 same_column : (f t f' t' : Place) (a b p a' b' p' : List ℕ) (r r' : ℕ) (doc doc' : List ℕ) → f ≡ f' → t ≡ t' → a ≡ a' → b ≡ b' → p ≡ p' → r ≡ r' → doc ≡ doc' →

@@ -10,16 +10,16 @@ use Rattle.pg_plan.specs.Order.{page_moves, columns_of, columns, no_floats}
 use Rattle.pg_plan.specs.declared.pages.Column.{Column}
 use Rattle.pg_plan.specs.declared.pages.Page.{Page}
 use Rattle.pg_plan.specs.declared.pages.Pagination.{Pagination}
-use Rattle.pg_style.specs.declared.style.Style.{Style}
+use Rattle.pg_style.specs.Values.{StyleValue}
 use Rattle.pg_rules.specs.Room.{Document}
 use Rattle.pg_rules.specs.Floats.{float_numbers, total_count}
 use Rattle.pg_rules.specs.History.{next_column, next_run, next_side, is_right, last_run}
 use Rattle.pg_rules.specs.Legal.{underfilled, misfilled, has_run, has_wide_counts}
-use Rattle.pg_laws.specs.Pages.{page_with, add_column, pages_from, plan_of}
-use Rattle.pg_laws.specs.Stands.{StandsAfter, Stand}
-use Rattle.pg_laws.proofs.Among.{by_bool, both, both_of}
-use Rattle.pg_laws.proofs.Ages.{eq_true, eq_refl, if_true, if_false}
-use Rattle.pg_laws.proofs.Faults.{none_or, or_none, none_unless, unless_none}
+use Rattle.pg_places.proofs.Among.{both, both_of, by_bool}
+use Rattle.pg_places.proofs.Tests.{eq_refl, eq_true, if_false, if_true}
+use Rattle.pg_laws.specs.Pages.{add_column, page_with, pages_from, plan_of}
+use Rattle.pg_laws.specs.Stands.{Stand, StandsAfter}
+use Rattle.pg_laws.proofs.Faults.{none_or, none_unless, or_none, unless_none}
 
 abbrev pub later : ℕ → List ℕ → Column → PageMove
 later run wide column = record { column = column; run = run; wide = no_floats wide }
@@ -76,7 +76,7 @@ zeros (x ∷ xs) (y ∷ ys) l t =
     cc
 
 -- the pages of columns that stand
-pub record Built (style : Style) (ms : List PageMove) (page : Page) (rest : List Page) : Type 0 where
+pub record Built (style : StyleValue) (ms : List PageMove) (page : Page) (rest : List Page) : Type 0 where
   pub pages : pages_from style ms ≡ page ∷ rest
   pub columns : columns_of (page ∷ rest) ≡ ms
   pub rest_full : underfilled style.columns rest ≡ None
@@ -104,7 +104,7 @@ new_page doc m ms page rest some s first b =
       wide = wide_long doc (next_column doc.style ms) m s.stands.wide;
     }
 
-run_is : (style : Style) (ms : List PageMove) (m : PageMove) (run : ℕ) → (next_column style ms == 1) ≡ false → Some run ≡ last_run ms → has_run style (next_run style ms) m ≡ true → m.run ≡ run
+run_is : (style : StyleValue) (ms : List PageMove) (m : PageMove) (run : ℕ) → (next_column style ms == 1) ≡ false → Some run ≡ last_run ms → has_run style (next_run style ms) m ≡ true → m.run ≡ run
 run_is style ms m run f l h =
     let not_free : next_run style ms ≡ last_run ms = by (next_column style ms == 1) (not (is_right (next_side style ms))) (last_run ms) f in
     let t = both_of (is_some (slice_get style.runs m.run)) (option_map_or (λ (r : ℕ). m.run == r) (next_run style ms) true) h in
@@ -174,11 +174,11 @@ built doc some m (n ∷ ns) (s, rest) = step (built doc some n ns rest)
 
 -- ---- the pages come back
 
-pub record Comes (style : Style) (ms : List PageMove) (run : ℕ) (wide : List ℕ) (cs : List Column) (rest : List Page) : Type 0 where
+pub record Comes (style : StyleValue) (ms : List PageMove) (run : ℕ) (wide : List ℕ) (cs : List Column) (rest : List Page) : Type 0 where
   pub pages : pages_from style ms ≡ page_with run wide cs ∷ rest
   pub next : next_column style ms ≡ behind style.columns (length cs)
 
-grow : (style : Style) (ms : List PageMove) (run : ℕ) (wide : List ℕ) (done cs : List Column) (rest : List Page) → 1 ≤ length done → length done + length cs ≤ style.columns → Comes style ms run wide done rest → Comes style (reverse (map (later run wide) cs) ++ ms) run wide (done ++ cs) rest
+grow : (style : StyleValue) (ms : List PageMove) (run : ℕ) (wide : List ℕ) (done cs : List Column) (rest : List Page) → 1 ≤ length done → length done + length cs ≤ style.columns → Comes style ms run wide done rest → Comes style (reverse (map (later run wide) cs) ++ ms) run wide (done ++ cs) rest
 grow style ms run wide done [] rest some few c = subst (λ (ds : List Column). Comes style ms run wide ds rest) (sym (append_nil done)) c
 grow style ms run wide done (d ∷ cs) rest some few c =
     let less : length done < style.columns = omega arith in
@@ -201,7 +201,7 @@ grow style ms run wide done (d ∷ cs) rest some few c =
     more_than : (n : ℕ) → 1 ≤ n → (n + 1 == 1) ≡ false
     more_than n h = grind (arith, nat_tests)
 
-one_page : (style : Style) (ms : List PageMove) (run : ℕ) (wide : List ℕ) (cs : List Column) (rest : List Page) → 1 ≤ length cs → length cs ≤ style.columns → pages_from style ms ≡ rest → next_column style ms ≡ 1 → Comes style (reverse (page_moves (page_with run wide cs) cs) ++ ms) run wide cs rest
+one_page : (style : StyleValue) (ms : List PageMove) (run : ℕ) (wide : List ℕ) (cs : List Column) (rest : List Page) → 1 ≤ length cs → length cs ≤ style.columns → pages_from style ms ≡ rest → next_column style ms ≡ 1 → Comes style (reverse (page_moves (page_with run wide cs) cs) ++ ms) run wide cs rest
 one_page style ms run wide [] rest some few p n = absurd (omega arith)
 one_page style ms run wide (c ∷ cs) rest some few p n =
     let first : PageMove = record { column = c; run = run; wide = wide } in
@@ -215,7 +215,7 @@ one_page style ms run wide (c ∷ cs) rest some few p n =
     ap (λ (xs : List PageMove). xs ++ ms) (reverse-append (record { column = c; run = run; wide = wide } ∷ []) (map (later run wide) cs)) ∙ append_assoc (reverse (map (later run wide) cs)) (record { column = c; run = run; wide = wide } ∷ []) ms in
     subst (λ (xs : List PageMove). Comes style xs run wide (c ∷ cs) rest) (sym lists) there
 
-full_pages : (style : Style) (pages : List Page) → underfilled style.columns pages ≡ None → (pages_from style (columns_of pages) ≡ pages) × (next_column style (columns_of pages) ≡ 1)
+full_pages : (style : StyleValue) (pages : List Page) → underfilled style.columns pages ≡ None → (pages_from style (columns_of pages) ≡ pages) × (next_column style (columns_of pages) ≡ 1)
 full_pages style [] e = (refl, refl)
 full_pages style (page ∷ pages) e =
     let t = or_none (underfilled style.columns pages) _ e in
@@ -226,7 +226,7 @@ full_pages style (page ∷ pages) e =
     (c.pages, c.next ∙ if_true (length page.columns == style.columns) 1 (length page.columns + 1) s.1)
 
 -- pages that are filled come back from their columns
-pub pages_back : (style : Style) (pages : List Page) → misfilled style.columns pages ≡ None → pages_from style (columns_of pages) ≡ pages
+pub pages_back : (style : StyleValue) (pages : List Page) → misfilled style.columns pages ≡ None → pages_from style (columns_of pages) ≡ pages
 pages_back style [] e = refl
 pages_back style (page ∷ pages) e =
     let t = or_none (underfilled style.columns pages) _ e in
@@ -236,11 +236,11 @@ pages_back style (page ∷ pages) e =
     c.pages
 
 -- a filled pagination is that of its columns
-pub plan_back : (style : Style) (plan : Pagination) → misfilled style.columns (reverse plan.pages) ≡ None → plan_of style (columns plan) ≡ plan
+pub plan_back : (style : StyleValue) (plan : Pagination) → misfilled style.columns (reverse plan.pages) ≡ None → plan_of style (columns plan) ≡ plan
 plan_back style plan e = ap (λ (ps : List Page). record { pages = ps }) (ap reverse (pages_back style (reverse plan.pages) e) ∙ reverse-reverse plan.pages)
 
 -- the pagination of columns that stand has these columns, and fills its pages
-pub record IsPlanOf (style : Style) (ms : List PageMove) : Type 0 where
+pub record IsPlanOf (style : StyleValue) (ms : List PageMove) : Type 0 where
   pub columns : columns (plan_of style ms) ≡ ms
   pub filled : misfilled style.columns (reverse (plan_of style ms).pages) ≡ None
 

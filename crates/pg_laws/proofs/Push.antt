@@ -4,7 +4,7 @@ use Rattle.std.specs.Prelude.{if◌then◌else◌, ◌&&◌, ◌==◌, not, ◌%
 use Rattle.std.proofs.lemmas.Bool.Decides.{nat_tests}
 use Rattle.std.specs.List.{list_all}
 use Rattle.pg_list.specs.declared.galley.Place.{Place}
-use Rattle.pg_style.specs.declared.style.Style.{Style}
+use Rattle.pg_style.specs.Values.{StyleValue}
 use Rattle.pg_style.specs.declared.style.First.{First}
 use Rattle.pg_style.specs.declared.style.First.TheVariants.{Left, Right, Single}
 use Rattle.pg_plan.specs.declared.pages.PageMove.{PageMove}
@@ -18,10 +18,11 @@ use Rattle.pg_rules.specs.Legal.{added, distance, distance_table}
 use Rattle.pg_rules.specs.Cost.{column_cost, float_demerits}
 use Rattle.pg_rules.specs.States.{age, waiting, state_at, can_wait}
 use Rattle.pg_rules.specs.Follow.{age_in, turns, next_state, wide_in, context_in, other_side, keeps_run, may_turn, Follow, MayStand}
+use Rattle.pg_places.proofs.Among.{Among, all_at, all_of, all_same, map_same, sum_same}
+use Rattle.pg_places.proofs.Tests.{if_false, if_true, less_true}
 use Rattle.pg_laws.specs.Stands.{StandsAfter}
-use Rattle.pg_laws.proofs.Among.{Among, all_at, all_of, map_same, sum_same, all_same}
+use Rattle.pg_laws.proofs.Ages.{age_turned, ages_agree}
 use Rattle.pg_laws.proofs.Waiting.{IsBetween, between_at, between_of}
-use Rattle.pg_laws.proofs.Ages.{ages_agree, age_turned, if_true, if_false, less_true}
 
 -- ---- the parts of the next state
 
@@ -29,7 +30,7 @@ column_up : (b : Bool) (n : ℕ) → 1 ≤ (if b then 1 else n + 1)
 column_up true n = omega arith
 column_up false n = omega arith
 
-pub column_some : (style : Style) (ms : List PageMove) → 1 ≤ next_column style ms
+pub column_some : (style : StyleValue) (ms : List PageMove) → 1 ≤ next_column style ms
 column_some style [] = omega arith
 column_some style (m ∷ ms) = column_up (next_column style ms == style.columns) (next_column style ms)
 

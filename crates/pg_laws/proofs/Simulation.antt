@@ -1,6 +1,6 @@
 -- What follows a state follows each that is no worse, at no greater cost, to a state that is no worse.
 use Rattle.std.proofs.Common.{◌≡◌, refl, sym, ap, subst, ℕ, ◌+◌, ◌≤◌, ◌<◌, List, [], ◌∷◌, map, length, Bool, true, false, arith, Option, Some, None}
-use Rattle.std.specs.Prelude.{◌&&◌, ◌==◌, if◌then◌else◌, nat_lt, nat_le, ℤ, pos, ◌+ℤ◌, ◌≤ℤ◌, slice_index}
+use Rattle.std.specs.Prelude.{◌==◌, if◌then◌else◌, nat_lt, nat_le, ℤ, pos, ◌+ℤ◌, ◌≤ℤ◌, slice_index}
 use Rattle.std.proofs.lemmas.Bool.Decides.{nat_tests, Decides-int_eq}
 use Rattle.std.proofs.lemmas.Int.{ints}
 use Rattle.pg_list.specs.declared.galley.Place.{Place}
@@ -17,13 +17,13 @@ use Rattle.pg_rules.specs.Legal.{distance_table, added}
 use Rattle.pg_rules.specs.Cost.{column_cost, float_demerits, column_demerits, pick_demerits, run_demerits, fit_demerits}
 use Rattle.std.proofs.Common.{inl, inr}
 use Rattle.pg_rules.specs.Follow.{is_same_float, age_among, age_in, waiting_in, turns, waiting_behind, next_state, context_in, may_turn, Follow}
-use Rattle.pg_table.specs.Space.{Simulates}
 use Rattle.pg_rules.specs.NoWorse.{PageKey, key, is_same_key, is_same_side, is_same_number, is_same_whole, are_same_counts, are_no_older, is_no_worse}
-use Rattle.pg_laws.specs.PageSpace.{are_young, IsState, wide_meaning}
-use Rattle.pg_laws.proofs.Among.{Among, both, both_of, all_at, all_of}
+use Rattle.pg_rules.specs.IsState.{IsState, are_young}
+use Rattle.pg_places.proofs.Among.{Among, all_at, all_of, both, both_of}
+use Rattle.pg_places.proofs.Tests.{eq_refl, eq_true, less_of, less_true, place_refl, same_place}
+use Rattle.pg_laws.specs.FollowsToo.{FollowsToo}
+use Rattle.pg_laws.proofs.Ages.{same_float}
 use Rattle.pg_laws.proofs.Waiting.{IsBetween, between_at}
-use Rattle.pg_laws.proofs.Ages.{eq_true, eq_refl, less_true, same_float}
-use Rattle.pg_laws.proofs.Beginnings.{same_place, less_of}
 
 -- ---- the tests on keys
 
@@ -73,9 +73,6 @@ counts_refl : (a : List ℕ) → are_same_counts a a ≡ true
 counts_refl [] = refl
 counts_refl (x ∷ xs) = both (x == x) (are_same_counts xs xs) (eq_refl x) (counts_refl xs)
 
-pub place_refl : (a : Place) → is_same_place a a ≡ true
-place_refl a = both ((a.block == a.block) && (a.variant == a.variant)) (a.index == a.index) (both (a.block == a.block) (a.variant == a.variant) (eq_refl a.block) (eq_refl a.variant)) (eq_refl a.index)
-
 pub key_refl : (a : PageKey) → is_same_key a a ≡ true
 key_refl a = both (is_same_place a.place a.place) _ (place_refl a.place) (both (a.column == a.column) _ (eq_refl a.column) (both (is_same_side a.side a.side) _ (side_refl a.side) (both (is_same_number a.run a.run) _ (number_refl a.run) (both (is_same_whole a.wide a.wide) _ (whole_refl a.wide) (both (is_same_number a.fit a.fit) _ (number_refl a.fit) (counts_refl a.placed))))))
 
@@ -103,10 +100,10 @@ pub no_older_refl : (a : List ℕ) → are_no_older a a ≡ true
 no_older_refl [] = refl
 no_older_refl (x ∷ xs) = both (nat_le x x) (are_no_older xs xs) (let h : x ≤ x = omega arith in grind (arith, nat_tests)) (no_older_refl xs)
 
-le_true : (a b : ℕ) → nat_le a b ≡ true → a ≤ b
+pub le_true : (a b : ℕ) → nat_le a b ≡ true → a ≤ b
 le_true a b h = grind (arith, nat_tests)
 
-le_of : (a b : ℕ) → a ≤ b → nat_le a b ≡ true
+pub le_of : (a b : ℕ) → a ≤ b → nat_le a b ≡ true
 le_of a b h = grind (arith, nat_tests)
 
 pub no_older_chain : (a b c : List ℕ) → are_no_older a b ≡ true → are_no_older b c ≡ true → are_no_older a c ≡ true
@@ -196,7 +193,7 @@ cost_less it column fit f g floats h = add_less (column_demerits it +ℤ pick_de
     add_less a b x y c h = omega (arith, ints)
 
 module _ (doc : Document) (tables : Tables doc) (k : PageKey) (a b : List ℕ) (younger : are_no_older a b ≡ true) (young : are_young doc b (waiting_in doc (with_ages k b)) ≡ true) where
-  follow_too : (m : PageMove) (x : State) (c : ℤ) → Follow doc (with_ages k b) m x c → Simulates (wide_meaning doc) (with_ages k a) m x c
+  follow_too : (m : PageMove) (x : State) (c : ℤ) → Follow doc (with_ages k b) m x c → FollowsToo doc (with_ages k a) m x c
   follow_too m x c f = record {
     to = next_state doc (with_ages k a) m;
     cost = column_cost (context_in doc (with_ages k a) m) k.column k.fit (age_in doc (with_ages k a)) (added doc k.placed m);
@@ -211,9 +208,9 @@ module _ (doc : Document) (tables : Tables doc) (k : PageKey) (a b : List ℕ) (
   }
 
 -- the law of simulation
-pub simulates : (doc : Document) → Tables doc → (u v : State) (m : PageMove) (x : State) (c : ℤ) → IsState doc v → is_no_worse u v ≡ true → Follow doc v m x c → Simulates (wide_meaning doc) u m x c
+pub simulates : (doc : Document) → Tables doc → (u v : State) (m : PageMove) (x : State) (c : ℤ) → IsState doc v → is_no_worse u v ≡ true → Follow doc v m x c → FollowsToo doc u m x c
 simulates doc tables u v m x c own p f =
     let t = both_of (is_same_key (key u) (key v)) (are_no_older u.ages v.ages) p in
     let same : key v ≡ key u = sym (key_same (key u) (key v) t.0) in
     let back : with_ages (key v) u.ages ≡ u = ap (λ (k : PageKey). with_ages k u.ages) same in
-    subst (λ (z : State). Simulates (wide_meaning doc) z m x c) back (follow_too doc tables (key v) u.ages v.ages t.1 own.young m x c f)
+    subst (λ (z : State). FollowsToo doc z m x c) back (follow_too doc tables (key v) u.ages v.ages t.1 own.young m x c f)

@@ -1,0 +1,3 @@
+pub mod Once
+pub mod Reading
+pub mod Rules
