@@ -32,7 +32,14 @@ struct Start {
 }
 
 // Labels the place where a column may end, and tells whether a longer column may pass it.
-fn end_column(galley: &Galley, style: &Style, start: Start, to: usize, sums: &Sums, labels: &mut Vec<Option<Label>>) -> bool
+fn end_column(
+    galley: &Galley,
+    style: &Style,
+    start: Start,
+    to: usize,
+    sums: &Sums,
+    labels: &mut Vec<Option<Label>>,
+) -> bool
     requires onward { start.from < to }
     requires within { to ≤ length galley.now.blocks }
     requires sums { AreSums style.now.topskip style.now.maxdepth (items_between galley.now.blocks start.from to) sums.now }
@@ -47,11 +54,17 @@ fn end_column(galley: &Galley, style: &Style, start: Start, to: usize, sums: &Su
     }
     let badness = sums.page_badness(room, to >= galley.solid() as usize);
     if badness <= style.tolerance || to == galley.blocks().len() {
-        let cost = start.cost.saturating_add(demerits(style.line, badness) as u64);
-        relax(labels, to, Label {
-            cost,
-            from: start.from,
-        });
+        let cost = start
+            .cost
+            .saturating_add(demerits(style.line, badness) as u64);
+        relax(
+            labels,
+            to,
+            Label {
+                cost,
+                from: start.from,
+            },
+        );
     }
     true
 }
@@ -91,7 +104,6 @@ fn end_columns(galley: &Galley, style: &Style, start: Start, labels: &mut Vec<Op
         end_column(galley, style, start, to, &sums, labels);
     }
 }
-
 
 fn block_count(galley: &Galley) -> usize
     ensures len { result ≡ length galley.now.blocks }

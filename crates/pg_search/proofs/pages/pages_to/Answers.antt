@@ -12,7 +12,7 @@ back-preserved c =
     let last = vec_len c.back.back - 1 in
     let less : last < length c.back.back.items = search rules in
     let value : c.in-Some.page ≡ get_or c.back.back.items last c.in-Some.page =
-        some-same c.in-Some.page (get_or c.back.back.items last c.in-Some.page) (c.in-Some.ensures.value c.in-Some.page (search rules)) in
+    some-same c.in-Some.page (get_or c.back.back.items last c.in-Some.page) (c.in-Some.ensures.value c.in-Some.page (search rules)) in
     record {
       pages = λ doc entries. subst (λ (pages : List Page). ArePlainPages doc pages) (sym c.in_ok-push.ensures.ok)
           (page-push doc c.back.pages c.in-Some.page (c.back.invariant.pages doc entries) (all-at doc c.back.back.items last c.in-Some.page less value (c.back.invariant.back doc entries)));

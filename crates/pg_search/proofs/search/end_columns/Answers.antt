@@ -40,10 +40,10 @@ loop-block-preserved c =
     let rest = take (length c.as_slice.result.now - c.args.start.from) whole in
     let left = length-drop c.args.start.from c.as_slice.result.now in
     let sliced : rest ≡ blocks = take_whole whole (length c.as_slice.result.now - c.args.start.from) (omega (arith, left))
-        ∙ ap (drop c.args.start.from) (c.as_slice.ensures.blocks ∙ c.blocks-2.ensures.blocks) in
+    ∙ ap (drop c.args.start.from) (c.as_slice.ensures.blocks ∙ c.blocks-2.ensures.blocks) in
     let longer : take (i + 1) blocks ≡ take i blocks ++ c.block-item.result ∷ [] =
-        subst (λ (them : List Block). take (i + 1) them ≡ take i them ++ c.block-item.result ∷ []) sliced
-        (one_more rest i c.block-item.result c.loop-block-test.true c.block-item.is) in
+    subst (λ (them : List Block). take (i + 1) them ≡ take i them ++ c.block-item.result ∷ []) sliced
+    (one_more rest i c.block-item.result c.loop-block-test.true c.block-item.is) in
     let items = ap single_items longer ∙ singles_append (take i blocks) (c.block-item.result ∷ []) in
     record {
       sums = subst (λ (them : List Item). AreSums c.args.style.now.topskip c.args.style.now.maxdepth them c.add_block.new.sums) (sym items)
