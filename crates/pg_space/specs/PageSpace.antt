@@ -15,11 +15,14 @@ use Rattle.pg_rules.specs.NoWorse.{PageKey, key, is_no_worse}
 use Rattle.pg_table.specs.Space.{Meaning}
 use Rattle.pg_rules.specs.IsState.{IsState}
 
--- by place, and within one place by the floats that are placed; an idle column that ends its page comes before the next page
+-- by place, and within one place by the floats that are placed; an idle column that ends its page comes
+-- before the next page
 abbrev pub rank : Document → State → ℕ
-rank doc u = 2 * (2 ^ 20 * u.place.block + u.place.index + sum_by (λ (n : ℕ). n) u.placed) + (if u.column == 1 then 1 else 0)
+rank doc u = 2 * (2 ^ 20 * u.place.block + u.place.index + sum_by (λ (n : ℕ). n) u.placed)
+    + (if u.column == 1 then 1 else 0)
 
--- the picks of a text column are of least text and pick demerits among those with its end and fitness, and first among equals
+-- the picks of a text column are of least text and pick demerits among those with its end and fitness, and
+-- first among equals
 abbrev pub with_picks : ColumnContext → List ℕ → ColumnContext
 with_picks it picks = record it { column = record it.column { picks = picks } }
 
@@ -27,14 +30,19 @@ abbrev pub repicked : PageMove → List ℕ → PageMove
 repicked m picks = record m { column = record m.column { picks = picks } }
 
 abbrev pub keeps_text : ColumnContext → Bool
-keeps_text it = does_fit it && (is_well_formed it && (is_tolerable it && (passes_breaks it && (has_room it && (keeps_note_limits it && keeps_looseness it)))))
+keeps_text it = does_fit it &&
+    (is_well_formed it && (is_tolerable it
+    && (passes_breaks it && (has_room it && (keeps_note_limits it && keeps_looseness it)))))
 
 abbrev pub text_cost : ColumnContext → ℤ
 text_cost it = column_demerits it +ℤ pick_demerits it
 
 pub record IsLeast (it : ColumnContext) : Type 0 where
-  pub least : (picks : List ℕ) → is_text it ≡ true → keeps_text (with_picks it picks) ≡ true → column_fitness (with_picks it picks) ≡ column_fitness it →
-      (text_cost it <ℤ text_cost (with_picks it picks)) ⊎ ((text_cost it ≡ text_cost (with_picks it picks)) × (is_gt (picks_cmp it.column.picks picks) ≡ false))
+  pub least : (picks : List ℕ) → is_text it ≡ true → keeps_text (with_picks it picks) ≡ true →
+      column_fitness (with_picks it picks) ≡ column_fitness it →
+      (text_cost it <ℤ text_cost (with_picks it picks))
+      ⊎ ((text_cost it ≡ text_cost (with_picks it picks))
+      × (is_gt (picks_cmp it.column.picks picks) ≡ false))
 
 -- the column follows, with the best picks for its end and fitness
 pub record FollowBest (doc : Document) (u : State) (m : PageMove) (v : State) (cost : ℤ) : Type 0 where
