@@ -94,7 +94,7 @@ struct Search<'a, P: Space> {
     places: HashMap<P::Key, usize>,
     buckets: Vec<Vec<Entry<P::State, P::Move>>>,
     turns: BinaryHeap<Reverse<Turn>>,
-    opened: u64,
+    closed: Vec<usize>,
 }
 
 fn compare_runs<'a, P: Space>(
@@ -140,10 +140,12 @@ fn betters<P: Space>(
 
 impl<'a, P: Space> Search<'a, P> {
     fn insert(&mut self, label: Entry<P::State, P::Move>) {
-        let Search { space, entries, places, buckets, turns, .. } = self;
+        let Search { space, entries, places, buckets, turns, closed } = self;
         let place = *places.entry(space.key(&label.state)).or_insert_with(|| {
-            buckets.push(Vec::new());
-            buckets.len() - 1
+            closed.pop().unwrap_or_else(|| {
+                buckets.push(Vec::new());
+                buckets.len() - 1
+            })
         });
         let bucket = &mut buckets[place];
         if bucket.is_empty() {
@@ -161,14 +163,14 @@ impl<'a, P: Space> Search<'a, P> {
     }
 
     fn take_first(&mut self) -> Option<Entry<P::State, P::Move>> {
-        while let Some(Reverse(turn)) = self.turns.peek() {
-            if let Some(label) = self.buckets[turn.place].pop() {
-                return Some(label);
-            }
-            self.buckets[turn.place] = Vec::new();
+        let place = self.turns.peek()?.0.place;
+        let label = self.buckets[place].pop()?;
+        if self.buckets[place].is_empty() {
             self.turns.pop();
+            self.places.remove(&self.space.key(&label.state));
+            self.closed.push(place);
         }
-        None
+        Some(label)
     }
 
     fn add_steps(&mut self, at: usize, below: u32, steps: Vec<Step<P::State, P::Move>>) {
@@ -196,21 +198,17 @@ impl<'a, P: Space> Search<'a, P> {
         }
         for at in 0..kept {
             if self.entries[at].reach >= below {
-                self.opened += 1;
                 let (steps, reach) = space.expand(&self.entries[at].state);
                 self.entries[at].reach = reach;
                 self.add_steps(at, below, steps);
             }
         }
         while let Some(mut label) = self.take_first() {
-            self.opened += 1;
             let (steps, reach) = space.expand(&label.state);
             label.reach = reach;
             self.entries.push(label);
             self.add_steps(self.entries.len() - 1, below, steps);
         }
-        self.places.clear();
-        self.buckets.clear();
     }
 
     fn best(&self) -> Option<usize> {
@@ -235,7 +233,7 @@ fn main() {
         places: HashMap::new(),
         buckets: Vec::new(),
         turns: BinaryHeap::new(),
-        opened: 0,
+        closed: Vec::new(),
     };
     search.refill(0);
     for _ in 0..words[2] {

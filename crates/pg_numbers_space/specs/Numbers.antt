@@ -29,4 +29,8 @@ numbers last = record {
 
 -- the steps with that by m from u behind them, if it leads to one of the numbers
 abbrev pub with_step : ℕ → ℕ → ℕ → List (Step ℕ ℕ) → List (Step ℕ ℕ)
-with_step last u m steps = if nat_le (u + m) last then steps ++ record { to = u + m; by = m; cost = pos 1 } ∷ [] else steps
+with_step last u m steps = if nat_le (u + m) last then steps ++ record {
+  to = u + m;
+  by = m;
+  cost = pos 1;
+} ∷ [] else steps

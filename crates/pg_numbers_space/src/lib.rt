@@ -1,5 +1,5 @@
-//! A small space for the table: the numbers from 0 to a last one, where a move adds 1 or 2 at the cost 1 and only the
-//! last number is done. It counts the calls of `expand`. That it is lawful is proved; its meaning is
+//! A small space for the table: the numbers from 0 to a last one, where a move adds 1 or 2 at the cost 1 and
+//! only the last number is done. It counts the calls of `expand`. That it is lawful is proved; its meaning is
 //! `numbers` of specs/Numbers.antt.
 #![tactic(auto)]
 
@@ -8,7 +8,7 @@ ghost use Rattle.pg_table.specs.Label.{AreLabels};
 ghost use Rattle.pg_numbers_space.specs.Numbers.{numbers, with_step};
 
 use pg_steps::Steps;
-use pg_table::{Opened, Space, Step, StepList};
+use pg_table::{Narrowing, Opened, Space, Step, StepList};
 use std::alloc::{AllocError, Global};
 use std::cell::Cell;
 use std::cmp::Ordering;
@@ -115,10 +115,25 @@ impl Space for Numbers {
     }
 }
 
+/// All moves suffice.
+impl Narrowing for Numbers {
+    type State = u32;
+
+    type Move = u32;
+
+    type Key = u32;
+
+    ghost use Rattle.pg_numbers_space.specs.Numbers.{Adds, numbers};
+
+    ghost wide = { λ s. numbers s.last };
+
+    ghost Narrow = { λ s. Adds s.last };
+}
+
 #[cfg(test)]
 mod tests {
     use super::*;
-    use pg_table::{Table, laws};
+    use pg_table::Table;
     use std::marker::Brand;
     use std::sync::ledger::Blank;
     use std::test::Fail;
@@ -160,16 +175,18 @@ mod tests {
         let mut table = Table::<u32, u32, u32>::new(alloc);
         let first = {
             let space = Numbers::new(alloc, 100);
-            laws::empty_table_is_right_below_0(&space, &table);
+            pg_table::empty_table_is_right_below_0(&space, &table);
             table.fill(&space, &mut steps)?;
-            laws::table_begins_with_start(&space, &table);
-            laws::best_undercuts_done_runs(&space, &table);
-            laws::table_is_right_below(&space, &table);
+            pg_table::table_begins_with_start(&space, &table);
+            pg_table::best_undercuts_done_runs(&space, &table);
+            pg_table::table_is_right_below(&space, &table);
+            pg_table::narrower_is_lawful(&space);
+            pg_table::narrower_table_is_wide(&space, &table);
             look_at(&space, &table)
         };
         let space = Numbers::new(alloc, 100);
-        laws::right_below_goes_down(&space, &table);
-        laws::right_below_for_agreeing(&space, &space, &table);
+        pg_table::right_below_goes_down(&space, &table);
+        pg_table::right_below_for_agreeing(&space, &space, &table);
         table.refill(&space, 50, &mut steps)?;
         Ok((first, look_at(&space, &table)))
     }
@@ -185,7 +202,13 @@ mod tests {
             reach: 103,
         };
         assert_eq!(rt; filled, expected);
-        assert_eq!(rt; refilled, Found { calls: 54, ..expected });
+        assert_eq!(rt;
+            refilled,
+            Found {
+                calls: 54,
+                ..expected
+            }
+        );
         Ok(())
     }
 }

@@ -2,3 +2,5 @@ pub mod WorkedTexts
 pub mod Singles
 pub mod Plain
 pub mod PlainColumn
+pub mod Numbers
+pub mod PlainPages

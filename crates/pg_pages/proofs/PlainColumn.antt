@@ -29,7 +29,7 @@ use Rattle.pg_plain.proofs.Contexts.{bare, bare-is, with_style, first-column, pa
 use Rattle.pg_pages.specs.SetGlue.{glue_widths, stretching, shrinking, own_width}
 use Rattle.pg_pages.specs.Words.{line}
 use Rattle.pg_pages.specs.PageText.{floats_text, notes_text, area, text_column, column_text, column_body, float_column, column_line, page_line, page_head, set_line, text_area, end_penalty, items_text, top_line, top_area, bottom_area}
-use Rattle.pg_pages.specs.PlainText.{numbers_between, numbers_text, text_between, plain_page_text, own_items}
+use Rattle.pg_pages.specs.PlainText.{numbers_between, numbers_text, text_head, text_of_items, text_between, plain_page_text, own_items}
 use Rattle.pg_pages.proofs.Plain.{AllRigid, items-rigid, blocks-single, rigid-drop, rigid-take, rigid-trimmed, nothing-added, still, stretching-still, shrinking-still, stretching-widths, shrinking-widths, text-of-items}
 
 -- ---- no floats and no notes
@@ -107,11 +107,12 @@ parts set top text bottom notes set' text' a b c d e =
     rw (a, b, c, d, e) (append-nil (set' ++ [] ++ text' ++ []) ∙ append-nil (set' ++ [] ++ text') ∙ ap (λ (front : List ℕ). front ++ text') (append-nil set'))
 
 pub text-area-is : (doc : Document) → AreRigid doc.blocks → (from to : ℕ) → text_area (plain_context doc from to) (to - from) ≡ text_between doc from to
-unfolding text_area text_between
+unfolding text_area text_of_items text_head
 text-area-is doc rigid from to =
     rw (widths-are doc rigid from to, segment-is doc rigid from to)
     (ap (λ (text : List ℕ). line (codes "area text") ++ text)
-    (text-of-items doc.style.topskip (items_between doc.blocks from to) (rigid-take (to - from) (drop from (single_items doc.blocks)) (rigid-drop from (single_items doc.blocks) (items-rigid doc.blocks rigid)))))
+    (text-of-items doc.style.topskip (items_between doc.blocks from to) (rigid-take (to - from) (drop from (single_items doc.blocks)) (rigid-drop from (single_items doc.blocks) (items-rigid doc.blocks rigid))))
+    ∙ sym (append_assoc (line (codes "area text")) (top_line doc.style.topskip (trimmed (items_between doc.blocks from to))) (own_items (trimmed (items_between doc.blocks from to)))))
 
 pub text-is : (doc : Document) → IsPlainStyle doc.style → AreRigid doc.blocks → (from to : ℕ) → from ≤ to
     → text_column (plain_context doc from to) (to - from) ≡ numbers_text (numbers_between doc from to) ++ text_between doc from to

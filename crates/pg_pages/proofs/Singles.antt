@@ -1,5 +1,7 @@
 -- The items of blocks, one block more, and texts that grow.
 use Rattle.std.proofs.Common.{◌≡◌, ◌∙◌, sym, refl, ap, ◌+◌, ◌<◌, ◌≤◌, ℕ, zero, suc, arith, subst, List, [], ◌∷◌, ◌++◌, take, length}
+use Rattle.std.proofs.Common.{append_assoc}
+use Rattle.std.specs.Prelude.{OnOk, Result, Ok, Err}
 use Rattle.std.proofs.Math.Seq.{take-suc}
 use Rattle.std.proofs.Math.ListN.{get_or}
 use Rattle.std.proofs.lemmas.List.{take-take}
@@ -20,11 +22,24 @@ singles_length (One item ∷ xs) = omega (arith, singles_length xs)
 singles_length (Choice variants ∷ xs) = omega (arith, singles_length xs)
 
 -- the blocks up to and including the next
-pub one_more : (xs : List Block) (i : ℕ) (x : Block) → i < length xs → x ≡ get_or xs i x → take (i + 1) xs ≡ take i xs ++ x ∷ []
+pub one_more : {X : Type 0} (xs : List X) (i : ℕ) (x : X) → i < length xs → x ≡ get_or xs i x → take (i + 1) xs ≡ take i xs ++ x ∷ []
 one_more xs i x less is =
     let next : i + 1 ≡ suc i = omega arith in
-    ap (λ (k : ℕ). take k xs) next ∙ take-suc xs i x less ∙ ap (λ (y : Block). take i xs ++ y ∷ []) (sym is)
+    ap (λ (k : ℕ). take k xs) next ∙ take-suc xs i x less ∙ ap (λ y. take i xs ++ y ∷ []) (sym is)
 
 pub grows_on : (a b c : List ℕ) → Grows a b → Grows b c → Grows a c
 grows_on a b c one two =
     (omega (arith, one.0, two.0), sym (take-take (length a) (length b) c one.0) ∙ ap (λ (xs : List ℕ). take (length a) xs) two.1 ∙ one.1)
+
+pub on_ok : {T E : Type 0} (r : Result T E) (P Q : Type 0) → (P → Q) → OnOk r P → OnOk r Q
+on_ok (Ok x) P Q f p = f p
+on_ok (Err e) P Q f p = tt
+
+pub two_parts : (old mid new front end : List ℕ) → mid ≡ old ++ front → new ≡ mid ++ end → new ≡ old ++ (front ++ end)
+two_parts old mid new front end e f = f ∙ ap (λ (text : List ℕ). text ++ end) e ∙ append_assoc old front end
+
+pub take_whole : {X : Type 0} (xs : List X) (n : ℕ) → length xs ≤ n → take n xs ≡ xs
+take_whole [] zero less = refl
+take_whole [] (suc n) less = refl
+take_whole (x ∷ xs) zero less = absurd (omega (arith, less))
+take_whole (x ∷ xs) (suc n) less = ap (λ ys. x ∷ ys) (take_whole xs n (omega (arith, less)))

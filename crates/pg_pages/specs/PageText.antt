@@ -123,8 +123,14 @@ column_body it = if is_text it then option_map_or (text_column it) (size_of it) 
 
 -- ---- pages
 
+unfoldable pub page_side : ℕ → Side → List ℕ
+page_side number side = codes "page " ++ decimal number ++ codes " side " ++ side_text side
+
+unfoldable pub page_run : ℕ → List ℕ → List ℕ
+page_run run wide = codes " run " ++ decimal run ++ codes " wide " ++ counts_text wide
+
 unfoldable pub page_line : ℕ → Side → ℕ → List ℕ → List ℕ
-page_line number side run wide = line (codes "page " ++ decimal number ++ codes " side " ++ side_text side ++ codes " run " ++ decimal run ++ codes " wide " ++ counts_text wide)
+page_line number side run wide = page_side number side ++ line (page_run run wide)
 
 -- the first line of the page that a column begins, and its wide area
 abbrev pub page_head : Document → PageMove → List PageMove → List ℕ
@@ -139,8 +145,11 @@ abbrev pub columns_text : Document → List PageMove → List ℕ
 columns_text doc [] = []
 columns_text doc (m ∷ ms) = columns_text doc ms ++ column_text doc m ms
 
+unfoldable pub head_counts : ℕ → ℤ → List ℕ
+head_counts pages cost = codes "pages " ++ decimal pages ++ codes " cost " ++ whole_text cost
+
 unfoldable pub head_line : ℕ → ℤ → ℤ → List ℕ
-head_line pages cost width = line (codes "pages " ++ decimal pages ++ codes " cost " ++ whole_text cost ++ codes " width " ++ scaled_text width)
+head_line pages cost width = head_counts pages cost ++ line (codes " width " ++ scaled_text width)
 
 -- the text of a legal pagination with its cost
 unfoldable pub page_text : GalleyValue → StyleValue → Pagination → ℤ → List ℕ

@@ -1,6 +1,7 @@
 -- The page text of columns of text alone, in galleys of boxes and rigid glue.
-use Rattle.std.specs.Prelude.{◌≡◌, ℕ, ◌+◌, ◌<◌, ◌≤◌, Bool, false, List, [], ◌∷◌, ◌++◌, drop, length, codes, decimal, ℤ, pos, ◌+ℤ◌}
+use Rattle.std.specs.Prelude.{◌≡◌, ℕ, ◌+◌, ◌<◌, ◌≤◌, Bool, true, false, not, List, [], ◌∷◌, ◌++◌, drop, length, slice_get, codes, decimal, ℤ, pos, ◌+ℤ◌}
 use Rattle.std.specs.List.{flat_map, AllByRecursion}
+use Rattle.std.specs.Option.{option_map_or}
 use Rattle.pg_list.specs.declared.item.Item.{Item}
 use Rattle.pg_list.specs.declared.item.Item.TheVariants.{Glue}
 use Rattle.pg_list.specs.declared.blocks.Block.{Block}
@@ -12,10 +13,10 @@ use Rattle.pg_flat.specs.Whole.{square}
 use Rattle.pg_plan.specs.declared.pages.Column.{Column}
 use Rattle.pg_plan.specs.declared.pages.Page.{Page}
 use Rattle.pg_plan.specs.declared.states.Side.TheVariants.{S}
+use Rattle.pg_style.specs.Values.{StyleValue}
 use Rattle.pg_rules.specs.Room.{Document}
-use Rattle.pg_rules.specs.ColumnRules.{text_is_over}
 use Rattle.pg_scaled.specs.Scaled.{scaled_text}
-use Rattle.pg_plain.specs.Plain.{single_items, items_between, plain_move, plain_context, plain_room}
+use Rattle.pg_plain.specs.Plain.{single_items, items_between, plain_move, plain_room, fits_between}
 use Rattle.pg_pages.specs.declared.columns.TextNumbers.{TextNumbers}
 use Rattle.pg_pages.specs.Words.{line, whole_text, counts_text}
 use Rattle.pg_pages.specs.Bodies.{plain_text, set_text}
@@ -46,23 +47,40 @@ abbrev pub front_is_box : List Item → Bool
 front_is_box [] = false
 front_is_box (item ∷ items) = is_box item
 
--- the numbers of a column
+-- the numbers of a column of these items
+abbrev pub numbers_from : StyleValue → Bool → List Item → TextNumbers
+numbers_from style is_last items =
+    let size = total style.topskip style.maxdepth (trimmed items) in
+    let badness = page_badness is_last (plain_room style) size (trimmed items) in
+    record { goal = plain_room style; total = size; badness = badness; penalty = pos 0; demerits = square (pos (style.line + badness)) }
+
 abbrev pub numbers_between : Document → ℕ → ℕ → TextNumbers
-numbers_between doc from to =
-    let items = trimmed (items_between doc.blocks from to) in
-    let size = total doc.style.topskip doc.style.maxdepth items in
-    let badness = page_badness (is_spent (single_items doc.blocks) to) (plain_room doc.style) size items in
-    record { goal = plain_room doc.style; total = size; badness = badness; penalty = pos 0; demerits = square (pos (doc.style.line + badness)) }
+numbers_between doc from to = numbers_from doc.style (is_spent (single_items doc.blocks) to) (items_between doc.blocks from to)
 
-unfoldable pub text_between : Document → ℕ → ℕ → List ℕ
-text_between doc from to =
-    let items = trimmed (items_between doc.blocks from to) in
-    line (codes "area text") ++ top_line doc.style.topskip items ++ own_items items
+unfoldable pub text_head : ℤ → List Item → List ℕ
+text_head topskip items = line (codes "area text") ++ top_line topskip items
 
--- a page of one column
+-- the text area of a column of these items
+unfoldable pub text_of_items : ℤ → List Item → List ℕ
+text_of_items topskip items = text_head topskip items ++ own_items items
+
+abbrev pub text_between : Document → ℕ → ℕ → List ℕ
+text_between doc from to = text_of_items doc.style.topskip (trimmed (items_between doc.blocks from to))
+
+abbrev pub plain_page : ℕ → ℕ → Page
+plain_page from to = record { run = 0; wide = []; columns = (plain_move from to).column ∷ [] }
+
+-- a page with its one column of text
+abbrev pub text_with : Document → ℕ → Page → Column → List ℕ
+text_with doc number page column =
+    page_line number S page.run page.wide
+    ++ (column_line 1 column ++ (numbers_text (numbers_between doc column.from.block column.to.block) ++ text_between doc column.from.block column.to.block))
+
 abbrev pub plain_page_text : Document → ℕ → ℕ → ℕ → List ℕ
-plain_page_text doc number from to =
-    page_line number S 0 [] ++ (column_line 1 (plain_move from to).column ++ (numbers_text (numbers_between doc from to) ++ text_between doc from to))
+plain_page_text doc number from to = text_with doc number (plain_page from to) (plain_move from to).column
+
+abbrev pub text_of_page : Document → ℕ → Page → List ℕ
+text_of_page doc number page = option_map_or (text_with doc number page) (slice_get page.columns 0) []
 
 -- the page is one column of text from one block to a later one, and is not over
 pub record IsPlainPage (doc : Document) (page : Page) : Type 0 where
@@ -70,8 +88,8 @@ pub record IsPlainPage (doc : Document) (page : Page) : Type 0 where
   pub to : ℕ
   pub onward : from < to
   pub within : to ≤ length doc.blocks
-  pub is : page ≡ record { run = 0; wide = []; columns = (plain_move from to).column ∷ [] }
-  pub fits : text_is_over (plain_context doc from to) (length (items_between doc.blocks from to)) ≡ false
+  pub is : page ≡ plain_page from to
+  pub fits : fits_between doc from to ≡ true
 
 abbrev pub ArePlainPages : Document → List Page → Type 0
 ArePlainPages doc pages = AllByRecursion (IsPlainPage doc) pages

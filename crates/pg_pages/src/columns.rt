@@ -1,22 +1,28 @@
 //! A column of text: its numbers and its items.
-ghost use Rattle.std.specs.Prelude.{◌≡◌, ◌≤◌, ◌^◌, ◌<◌, ◌++◌, ◌∷◌, [], OnOk, length, List, ℤ, pos, ◌≤ℤ◌, ◌-ℤ◌};
+ghost use Rattle.std.specs.Prelude.{◌≡◌, ◌≤◌, ◌^◌, ◌<◌, ◌+◌, ◌++◌, ◌∷◌, [], OnOk, length, slice_get, List, ℤ, true, nat_abs, pos, ◌≤ℤ◌, ◌-ℤ◌};
 ghost use Rattle.std.specs.Int.{int_max};
+ghost use Rattle.std.specs.Option.{option_map_or};
 ghost use Rattle.std.specs.List.{AllByRecursion};
 ghost use Rattle.pg_list.specs.Shapes.{IsBlock};
 ghost use Rattle.pg_list.specs.Ranges.{IsScaled};
 ghost use Rattle.pg_list.specs.declared.item.Item.{Item as AnItem};
 ghost use Rattle.pg_flat.specs.Rigid.{AreRigid};
 ghost use Rattle.pg_flat.specs.Totals.{top_glue, trimmed};
+ghost use Rattle.pg_flat.specs.Whole.{square};
 ghost use Rattle.pg_scaled.specs.Scaled.{Grows, scaled_text};
 ghost use Rattle.pg_sums.specs.AreSums.{AreSums};
-ghost use Rattle.pg_plain.specs.Plain.{single_items};
+ghost use Rattle.pg_rules.specs.Legal.{document};
+ghost use Rattle.pg_plain.specs.Plain.{IsPlainStyle, plain_room, single_items};
 ghost use Rattle.pg_pages.specs.Words.{whole_text};
-ghost use Rattle.pg_pages.specs.PlainText.{numbers_text, sizes_text, costs_text, demerits_line, own_items, own_text, front_is_box};
+ghost use Rattle.pg_pages.specs.PlainText.{numbers_text, sizes_text, costs_text, demerits_line, own_items, own_text, front_is_box, numbers_from, numbers_between as numbers_of_column};
+ghost use Rattle.pg_plain.specs.Plain.{not_over, fits_between};
 
 use crate::bodies::{print_body, print_set};
 use crate::words::print_whole;
-use pg_list::{Block, Item, item_is_box};
+use pg_list::{Block, Galley, Item, item_is_box};
 use pg_scaled::print_scaled;
+use pg_plain::{add_block, demerits, room};
+use pg_style::Style;
 use pg_sums::Sums;
 use pg_whole::{minus, wide};
 use std::alloc::AllocError;
@@ -33,7 +39,7 @@ pub struct TextNumbers {
 }
 
 // A name, and a scaled number behind it.
-fn print_length(name: &[u8], length: i64, out: &mut Vec<u8>) -> Result<(), AllocError>
+pub fn print_length(name: &[u8], length: i64, out: &mut Vec<u8>) -> Result<(), AllocError>
     ensures ok { OnOk result (out.new.items ≡ out.old.items ++ name.now ++ scaled_text length) }
     ensures grows { Grows out.old.items out.new.items }
 {
@@ -132,6 +138,7 @@ fn begins_with_box(blocks: &[Block]) -> bool
 pub fn without_front(blocks: &[Block]) -> &[Block]
     requires { AreRigid blocks.now }
     ensures items { single_items result.now ≡ trimmed (single_items blocks.now) }
+    ensures rigid { AreRigid result.now }
 {
     let mut rest = blocks;
     'rest: while !begins_with_box(rest) {
@@ -163,18 +170,6 @@ pub fn space_above(topskip: i32, blocks: &[Block]) -> i64
     0
 }
 
-// Adds the item of a block.
-fn add_block(sums: &mut Sums, block: &Block)
-    requires few { sums.old.count < 2 ^ 20 }
-    requires in_range { IsBlock block.now }
-    ensures { (topskip maxdepth : ℤ) (items : List AnItem) → AreSums topskip maxdepth items sums.old
-        → AreSums topskip maxdepth (items ++ single_items (block.now ∷ [])) sums.new }
-{
-    if let Block::One(item) = block {
-        sums.add(item);
-    }
-}
-
 // The sums of the blocks' items.
 #[tactic(auto, using(crate::proofs::Singles::singles_append, crate::proofs::Singles::singles_length))]
 pub fn sums_of(topskip: i32, maxdepth: i32, blocks: &[Block]) -> Sums
@@ -190,4 +185,37 @@ pub fn sums_of(topskip: i32, maxdepth: i32, blocks: &[Block]) -> Sums
         add_block(&mut sums, block);
     }
     sums
+}
+
+// The numbers of a column of these blocks that is not over.
+fn numbers_of(style: &Style, blocks: &[Block], is_last: bool) -> TextNumbers
+    requires plain { IsPlainStyle style.now }
+    requires few { length blocks.now ≤ 2 ^ 20 }
+    requires ranges { AllByRecursion IsBlock blocks.now }
+    requires fits { not_over style.now (single_items blocks.now) ≡ true }
+    ensures { result ≡ numbers_from style.now is_last (single_items blocks.now) }
+{
+    let sums = sums_of(style.topskip, style.maxdepth, blocks);
+    let goal = room(style);
+    let badness = sums.page_badness(goal, is_last);
+    TextNumbers {
+        goal,
+        total: sums.total(),
+        badness,
+        penalty: 0,
+        demerits: demerits(style.line, badness),
+    }
+}
+
+/// The numbers of the column from one block to another, which is not over.
+pub fn numbers_between(galley: &Galley, style: &Style, from: usize, to: usize) -> TextNumbers
+    requires plain { IsPlainStyle style.now }
+    requires rigid { AreRigid galley.now.blocks }
+    requires onward { from ≤ to }
+    requires within { to ≤ length galley.now.blocks }
+    requires fits { fits_between (document galley.now style.now) from to ≡ true }
+    ensures { result ≡ numbers_of_column (document galley.now style.now) from to }
+{
+    let blocks = &galley.blocks().as_slice()[from..to];
+    numbers_of(style, blocks, to >= galley.solid() as usize)
 }

@@ -7,8 +7,11 @@
 
 mod bodies;
 mod columns;
+mod pages;
 
 
 mod words;
+
+pub use pages::{print_none, print_pages};
 
 

@@ -8,7 +8,7 @@ ghost use Rattle.std.specs.Prelude.{◌≡◌, ◌≤◌, ◌^◌};
 use anyhow::{Context, anyhow};
 use pg_numbers_space::Numbers;
 use pg_steps::Steps;
-use pg_table::{Table, laws};
+use pg_table::{Table, table_is_right_below};
 use std::alloc::{AllocError, Global};
 use std::env;
 use std::marker::Brand;
@@ -38,7 +38,7 @@ fn filled<L: Ledger>(
     let mut table = Table::<u32, u32, u32>::new(alloc);
     table.fill(&space, &mut steps)?;
     for _ in 0..load.rounds {
-        laws::table_is_right_below(&space, &table);
+        table_is_right_below(&space, &table);
         table.refill(&space, load.below, &mut steps)?;
     }
     let best = match table.best(&space) {
