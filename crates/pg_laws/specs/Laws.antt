@@ -28,8 +28,7 @@ pub record IsPushed (galley : GalleyValue) (style : StyleValue) (plan : Paginati
   pub state : state_of galley style longer ≡ v
   pub cost : cost galley style longer ≡ cost galley style plan +ℤ c
 
--- a column that follows a beginning's state makes a longer beginning, in the state and at the cost that it
--- gives
+-- a column that follows a beginning's state makes a longer beginning, in the state and at the cost that it gives
 abbrev pub FollowersArePushed : GalleyValue → StyleValue → Type 0
 FollowersArePushed galley style = (plan : Pagination) (m : PageMove) (v : State) (c : ℤ) →
     Prefix galley style plan → Follow (document galley style) (state_of galley style plan) m v c →
@@ -77,8 +76,8 @@ PrefixesKeepRules galley style = (plan : Pagination) →
 -- a pagination is legal exactly where it is a beginning with nothing left to do
 abbrev pub LegalAreDone : GalleyValue → StyleValue → Type 0
 LegalAreDone galley style = (plan : Pagination) →
-    Legal galley style plan ↔ (Prefix galley style plan
-    × (is_done (document galley style) (state_of galley style plan) ≡ true))
+    Legal galley style plan
+    ↔ (Prefix galley style plan × (is_done (document galley style) (state_of galley style plan) ≡ true))
 
 -- ---- order
 

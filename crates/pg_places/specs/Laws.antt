@@ -24,15 +24,13 @@ abbrev pub LeadsGoOn : List Block → Type 0
 LeadsGoOn blocks = (from to : Place) (picks : List ℕ) (n : ℕ) → Lead blocks from to picks n →
     LeadOn blocks from to n
 
--- whatever picks come behind, the items from the first place on are the n ones, and then those from the other
--- place on
+-- whatever picks come behind, the items from the first place on are the n ones, and then those from the other on
 abbrev pub LeadsCut : List Block → Type 0
 LeadsCut blocks = (from to : Place) (picks later : List ℕ) (n : ℕ) → Lead blocks from to picks n →
-    flat_items_at blocks from (picks ++ later) ≡ take n (flat_items_at blocks from picks) ++ flat_items_at
-    blocks to later
+    flat_items_at blocks from (picks ++ later)
+    ≡ take n (flat_items_at blocks from picks) ++ flat_items_at blocks to later
 
--- more items lie before a place behind, and no fewer callouts of a class, of which there are never more than
--- in all
+-- more items lie before a place behind, and no fewer callouts of a class
 pub record BehindHasMore (blocks : List Block) (from to : Place) : Type 0 where
   pub items : far blocks from < far blocks to
   pub callouts : (number : ℕ) → length (sizes_of number (items_before blocks from))
@@ -42,6 +40,7 @@ abbrev pub PlacesBehindHaveMore : List Block → Type 0
 PlacesBehindHaveMore blocks = (from to : Place) → IsPlace blocks from → IsPast blocks from to →
     BehindHasMore blocks from to
 
+-- before no place are there more than in all
 abbrev pub CalloutsAreAmongAll : List Block → Type 0
 CalloutsAreAmongAll blocks = (at : Place) (number : ℕ) →
     length (sizes_of number (items_before blocks at)) ≤ length (sizes_of number (flat blocks []))

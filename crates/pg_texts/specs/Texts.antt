@@ -1,5 +1,4 @@
--- The texts of columns, their segments and their floats, joined; and what the flat list of all picks says of
--- a column.
+-- The texts of columns, their segments and their floats, joined; and what the flat list says of a column.
 use Rattle.std.specs.Prelude.{◌≡◌, ℕ, ◌+◌, ◌-◌, ◌≤◌, Bool, true, ◌&&◌, ◌||◌, ◌==◌, not, nat_le, if◌then◌else◌, List, [], ◌∷◌, ◌++◌, take, drop, Some, slice_get, ℤ, pos, ◌+ℤ◌, ◌-ℤ◌, is_some}
 use Rattle.std.specs.List.{filter, list_all, list_any, range_with_len}
 use Rattle.std.specs.Option.{option_map_or}
@@ -59,26 +58,24 @@ is_kept item = not (is_discardable item)
 abbrev pub next_floats : List ℤ → ℕ → List ℕ → List ℕ → List ℤ
 next_floats sizes slot before counts = take (entry counts slot) (drop (entry before slot) sizes)
 
--- the floats of a class that a column deals out: those of its page's wide area, and then of its top and its
--- bottom area
+-- the floats of a class that a column deals out: of its page's wide area, and then of its top and bottom areas
 abbrev pub column_floats : StyleValue → List ℤ → ℕ → List ℕ → PageMove → List ℤ
 column_floats style sizes slot placed m =
     next_floats sizes slot placed m.wide
-    ++ (next_floats sizes slot (with_wide style placed m) m.column.top ++ next_floats sizes slot
-    (plus_counts style (with_wide style placed m) m.column.top) m.column.bottom)
+    ++ (next_floats sizes slot (with_wide style placed m) m.column.top
+    ++ next_floats sizes slot (plus_counts style (with_wide style placed m) m.column.top) m.column.bottom)
 
 abbrev pub dealt_floats : StyleValue → List ℤ → ℕ → List PageMove → List ℤ
 dealt_floats style sizes slot [] = []
 dealt_floats style sizes slot (m ∷ ms) =
     dealt_floats style sizes slot ms ++ column_floats style sizes slot (placed_of style ms) m
 
--- the texts, joined, are the flat list, but for discardable items at its end; each box, rule, insert and
--- carry of the flat list stands
--- once in the segments, in order; and the floats of each class are dealt out once, in order
+-- the texts, joined, are the flat list, but for discardable items at its end; each box, rule, insert and carry
+-- of the flat list stands once in the segments, in order; and each class's floats are dealt out once, in order
 pub record EachOnce (galley : GalleyValue) (style : StyleValue) (plan : Pagination) : Type 0 where
   pub rest : List Item
-  pub whole : flat galley.blocks (picks_of (columns plan)) ≡ texts (document galley style)
-      (columns plan) ++ rest
+  pub whole :
+      flat galley.blocks (picks_of (columns plan)) ≡ texts (document galley style) (columns plan) ++ rest
   pub spent : list_all is_discardable rest ≡ true
   pub kept : filter is_kept (segments (document galley style) (columns plan))
       ≡ filter is_kept (flat galley.blocks (picks_of (columns plan)))
@@ -108,16 +105,15 @@ pub record ReadsFlat (it : ColumnContext) (flat : List Item) (start n : ℕ) : T
   pub passes : (is_over_at : ℕ → Bool) →
       passes_between (items_of it) is_over_at n ≡ passes_behind flat start is_over_at n
 
--- a column with those before it and those behind it, in a pagination: where it starts and ends in the flat
--- list, and what that list says
+-- a column between those before and those behind it: where it starts and ends in the flat list, and what that says
 pub record StandsInFlat (galley : GalleyValue) (style : StyleValue) (behind : List PageMove) (m : PageMove)
     (ms : List PageMove) (picks : List ℕ) : Type 0 where
   pub start : ℕ
   pub n : ℕ
-  pub starts : drop start (flat_items galley.blocks picks) ≡ flat_items_at galley.blocks m.column.from
-      (m.column.picks ++ picks_of behind)
-  pub ends : drop (start + n) (flat_items galley.blocks picks) ≡ flat_items_at galley.blocks m.column.to
-      (picks_of behind)
+  pub starts : drop start (flat_items galley.blocks picks)
+      ≡ flat_items_at galley.blocks m.column.from (m.column.picks ++ picks_of behind)
+  pub ends : drop (start + n) (flat_items galley.blocks picks)
+      ≡ flat_items_at galley.blocks m.column.to (picks_of behind)
   pub reads : ReadsFlat (context (document galley style) m ms) (flat galley.blocks picks) start n
 
 -- every column of a pagination whose columns fit reads the flat list of all picks
@@ -134,8 +130,8 @@ abbrev pub flat_segment : List Item → ℕ → ℕ → List Item
 flat_segment flat start j = trimmed (take j (drop start flat))
 
 abbrev pub flat_total : ColumnContext → List Item → ℕ → ℕ → ℤ
-flat_total it flat start j = total it.document.style.topskip it.document.style.maxdepth
-    (flat_segment flat start j)
+flat_total it flat start j =
+    total it.document.style.topskip it.document.style.maxdepth (flat_segment flat start j)
 
 abbrev pub flat_goal : ColumnContext → List Item → ℕ → ℕ → ℤ
 flat_goal it flat start j = room it -ℤ notes it.document.style (flat_segment flat start j)
@@ -164,8 +160,7 @@ pub record RulesReadFlat (it : ColumnContext) (flat : List Item) (start n : ℕ)
   pub demerits : column_demerits it ≡ square (pos (it.document.style.line + flat_badness it flat start n)) +ℤ
       option_map_or penalty_demerits (break_penalty flat (start + n)) (pos 0)
 
--- a text column in a pagination whose columns fit keeps the rules that its part of the flat list keeps, at
--- the same demerits
+-- a text column keeps the rules that its part of the flat list keeps, at the same demerits
 pub record KeepsFlatRules (galley : GalleyValue) (style : StyleValue) (behind : List PageMove) (m : PageMove)
     (ms : List PageMove) (picks : List ℕ) : Type 0 where
   pub stands : StandsInFlat galley style behind m ms picks
