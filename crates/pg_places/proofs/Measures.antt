@@ -209,7 +209,7 @@ module _ (number : ℕ) where
       (map (λ (flat_item : FlatItem). flat_item.item) (flat_items_from (n + 1) blocks []))
       ∙ (ap (λ (k : ℕ). inserted (picked_items (Choice variants) 0) + k) r ∙ sym s))
 
-  inserted_inserts : (xs : List Item) → inserted (inserts xs) ≡ inserted xs
+  pub inserted_inserts : (xs : List Item) → inserted (inserts xs) ≡ inserted xs
   inserted_inserts [] = refl
   inserted_inserts (BoxItem h d body ∷ xs) = inserted_inserts xs
   inserted_inserts (Rule h d body ∷ xs) = inserted_inserts xs

@@ -34,13 +34,13 @@ module _ (all : List Block) where
   StandsAt xs k to = ((x : FlatItem) × ((slice_get xs k ≡ Some x) × (x.place ≡ to)))
       ⊎ ((k ≡ length xs) × (to ≡ end_of all))
 
-  next_stands : (x : FlatItem) (xs : List FlatItem) (k : ℕ) (to : Place) → StandsAt (x ∷ xs) (suc k) to →
+  pub next_stands : (x : FlatItem) (xs : List FlatItem) (k : ℕ) (to : Place) → StandsAt (x ∷ xs) (suc k) to →
       StandsAt xs k to
   next_stands x xs k to (inl s) = inl s
   next_stands x xs k to (inr (e, t)) = inr (omega arith, t)
 
   -- the first item stands at the place
-  first_stands : (x : FlatItem) (xs : List FlatItem) (to : Place) → StandsAt (x ∷ xs) 0 to → x.place ≡ to
+  pub first_stands : (x : FlatItem) (xs : List FlatItem) (to : Place) → StandsAt (x ∷ xs) 0 to → x.place ≡ to
   first_stands x xs to (inl (y, (at, is))) = ap (λ (z : FlatItem). z.place) (some_same x y at) ∙ is
   first_stands x xs to (inr (e, t)) = absurd (omega arith)
 

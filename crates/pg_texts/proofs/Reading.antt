@@ -143,7 +143,7 @@ reads_flat it flat start n size r = record {
 
 -- ---- the columns behind
 
-picks_split : (ls ns : List PageMove) → picks_of (ls ++ ns) ≡ picks_of ns ++ picks_of ls
+pub picks_split : (ls ns : List PageMove) → picks_of (ls ++ ns) ≡ picks_of ns ++ picks_of ls
 picks_split [] ns = sym (append-nil (picks_of ns))
 picks_split (l ∷ ls) ns = ap (λ (xs : List ℕ). xs ++ l.column.picks) (picks_split ls ns)
     ∙ append_assoc (picks_of ns) (picks_of ls) l.column.picks

@@ -1,5 +1,5 @@
 -- The texts of columns, their segments and their floats, joined; and what the flat list says of a column.
-use Rattle.std.specs.Prelude.{◌≡◌, ℕ, ◌+◌, ◌-◌, ◌≤◌, Bool, true, ◌&&◌, ◌||◌, ◌==◌, not, nat_le, if◌then◌else◌, List, [], ◌∷◌, ◌++◌, take, drop, Some, slice_get, ℤ, pos, ◌+ℤ◌, ◌-ℤ◌, is_some}
+use Rattle.std.specs.Prelude.{◌≡◌, ℕ, ◌+◌, ◌-◌, ◌≤◌, Bool, true, ◌&&◌, ◌||◌, ◌==◌, not, nat_le, if◌then◌else◌, length, List, [], ◌∷◌, ◌++◌, take, drop, Some, slice_get, ℤ, pos, ◌+ℤ◌, ◌-ℤ◌, is_some}
 use Rattle.std.specs.List.{filter, list_all, list_any, range_with_len}
 use Rattle.std.specs.Option.{option_map_or}
 use Rattle.pg_list.specs.GalleyValue.{GalleyValue}
@@ -10,14 +10,14 @@ use Rattle.pg_plan.specs.declared.pages.PageMove.{PageMove}
 use Rattle.pg_plan.specs.declared.pages.Pagination.{Pagination}
 use Rattle.pg_style.specs.Values.{StyleValue}
 use Rattle.pg_flat.specs.Break.{break_penalty, is_forced, is_spent, passes_between}
-use Rattle.pg_flat.specs.Flat.{flat, flat_items, flat_items_at}
+use Rattle.pg_flat.specs.Flat.{flat, flat_items, flat_items_at, items_before}
 use Rattle.pg_flat.specs.Badness.{is_over, page_badness}
 use Rattle.pg_flat.specs.Totals.{shrink, total, trimmed}
 use Rattle.pg_flat.specs.Whole.{square}
 use Rattle.pg_rules.specs.ColumnRules.{fitness_by, is_tolerable, is_well_formed, keeps_note_limits, passes_breaks, segment}
 use Rattle.pg_rules.specs.Cost.{column_demerits, penalty_demerits}
-use Rattle.pg_rules.specs.Floats.{entry, floats, plus_counts}
-use Rattle.pg_rules.specs.History.{column_fitness, context, placed_of, with_wide}
+use Rattle.pg_rules.specs.Floats.{entry, floats, plus_counts, sizes_of}
+use Rattle.pg_rules.specs.History.{column_fitness, context, placed_of, with_wide, place_of}
 use Rattle.pg_rules.specs.Legal.{Legal, document, is_chained}
 use Rattle.pg_rules.specs.Room.{are_notes_within_limits, ColumnContext, Document, is_text, items_of, notes, room, size_of}
 
@@ -172,3 +172,12 @@ RulesReadTheFlatList galley style =
     (plan : Pagination) (behind : List PageMove) (m : PageMove) (ms : List PageMove) →
     Chained (document galley style) (columns plan) → columns plan ≡ behind ++ m ∷ ms →
     KeepsFlatRules galley style behind m ms (picks_of (columns plan))
+
+-- the callouts of a class before a column's end are the inserts of the class that stand before it in the flat list
+abbrev pub CalloutsReadFlat : GalleyValue → StyleValue → Type 0
+CalloutsReadFlat galley style =
+    (plan : Pagination) (behind ms : List PageMove) (number : ℕ) →
+    Chained (document galley style) (columns plan) → columns plan ≡ behind ++ ms →
+    length (sizes_of number (items_before galley.blocks (place_of ms)))
+    ≡ length (sizes_of number
+    (take (length (texts (document galley style) ms)) (flat galley.blocks (picks_of (columns plan)))))
