@@ -105,7 +105,8 @@ pub record ReadsFlat (it : ColumnContext) (flat : List Item) (start n : ℕ) : T
   pub passes : (is_over_at : ℕ → Bool) →
       passes_between (items_of it) is_over_at n ≡ passes_behind flat start is_over_at n
 
--- a column between those before and those behind it: where it starts and ends in the flat list, and what that says
+-- a column between those before and those behind it: where it starts and ends in the flat list, and what that
+-- says
 pub record StandsInFlat (galley : GalleyValue) (style : StyleValue) (behind : List PageMove) (m : PageMove)
     (ms : List PageMove) (picks : List ℕ) : Type 0 where
   pub start : ℕ
@@ -173,7 +174,8 @@ RulesReadTheFlatList galley style =
     Chained (document galley style) (columns plan) → columns plan ≡ behind ++ m ∷ ms →
     KeepsFlatRules galley style behind m ms (picks_of (columns plan))
 
--- the callouts of a class before a column's end are the inserts of the class that stand before it in the flat list
+-- the callouts of a class before a column's end are the inserts of the class that stand before it in the flat
+-- list
 abbrev pub CalloutsReadFlat : GalleyValue → StyleValue → Type 0
 CalloutsReadFlat galley style =
     (plan : Pagination) (behind ms : List PageMove) (number : ℕ) →
