@@ -18,7 +18,8 @@ use Rattle.pg_bounds.specs.Laws.{ColumnsCostLittle, StatesLeadToStates}
 use Rattle.pg_bounds.proofs.Owned.{own_next, own_start}
 use Rattle.pg_bounds.proofs.Prices.{cost_few, picked_limits}
 
-each_drop : (n : ℕ) (blocks : List Block) → AllByRecursion IsBlock blocks → AllByRecursion IsBlock (drop n blocks)
+each_drop : (n : ℕ) (blocks : List Block) → AllByRecursion IsBlock blocks →
+    AllByRecursion IsBlock (drop n blocks)
 each_drop zero blocks a = a
 each_drop (suc n) [] a = tt
 each_drop (suc n) (x ∷ xs) a = each_drop n xs a.1
@@ -32,8 +33,12 @@ module _ (g : GalleyValue) (s : StyleValue) (range : AreInRange g s) where
 
   pub columns_cost : ColumnsCostLittle g s
   columns_cost u m v c f =
-      subst (λ (z : ℤ). nat_abs z ≤ 700000000 + 100000000 * (length (column_variants (context_in (document g s) u m)) + length (added (document g s) u.placed m))) (sym f.pays)
-      (cost_few (context_in (document g s) u m) range.style_in u.column u.fit (age_in (document g s) u) (added (document g s) u.placed m) (picked_limits (blocks_at g.blocks m.column.from) m.column.picks (limits m.column.from)))
+      subst (λ (z : ℤ). nat_abs z ≤ 700000000
+      + 100000000 * (length (column_variants (context_in (document g s) u m))
+      + length (added (document g s) u.placed m))) (sym f.pays)
+      (cost_few (context_in (document g s) u m) range.style_in u.column u.fit (age_in (document g s) u)
+      (added (document g s) u.placed m)
+      (picked_limits (blocks_at g.blocks m.column.from) m.column.picks (limits m.column.from)))
     where
       limits : (at : Place) → AllByRecursion IsBlock (blocks_at g.blocks at)
       limits at = each_drop (if at.index == 0 then at.block else at.block + 1) g.blocks range.blocks

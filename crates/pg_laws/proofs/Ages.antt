@@ -21,9 +21,12 @@ same_float (a, b) (c, d) h =
 same_itself : (a : ℕ × ℕ) → is_same_float a a ≡ true
 same_itself (a, b) = both (a == a) (b == b) (eq_refl a) (eq_refl b)
 
-pub age_found : (g : ℕ × ℕ → ℕ) (xs : List (ℕ × ℕ)) (float : ℕ × ℕ) → Among float xs → age_among xs (map g xs) float ≡ g float
+pub age_found : (g : ℕ × ℕ → ℕ) (xs : List (ℕ × ℕ)) (float : ℕ × ℕ) → Among float xs →
+    age_among xs (map g xs) float ≡ g float
 age_found g [] float a = absurd a
-age_found g (x ∷ xs) float (inl e) = if_true (is_same_float x float) (g x) (age_among xs (map g xs) float) (subst (λ z. is_same_float x z ≡ true) e (same_itself x)) ∙ ap g e
+age_found g (x ∷ xs) float (inl e) =
+    if_true (is_same_float x float) (g x) (age_among xs (map g xs) float)
+    (subst (λ z. is_same_float x z ≡ true) e (same_itself x)) ∙ ap g e
 age_found g (x ∷ xs) float (inr a) =
     by_bool (is_same_float x float)
     (λ t. if_true (is_same_float x float) (g x) (age_among xs (map g xs) float) t ∙ ap g (same_float x float t))
@@ -33,11 +36,16 @@ step : (b : Bool) (x c n : ℕ) → (b ≡ true → x ≡ n - c) → (if b then 
 step true x c n h = h refl
 step false x c n h = omega arith
 
-pub ages_agree : (doc : Document) (m : PageMove) (ms : List PageMove) (float : ℕ × ℕ) → float.0 < length (float_numbers doc.style) → entry (placed_of doc.style ms) float.0 ≤ float.1 →
+pub ages_agree : (doc : Document) (m : PageMove) (ms : List PageMove) (float : ℕ × ℕ) →
+    float.0 < length (float_numbers doc.style) → entry (placed_of doc.style ms) float.0 ≤ float.1 →
     age_in doc (state_at doc ms) float ≡ next_page doc.style ms - calling_page doc (m ∷ ms) float
 ages_agree doc m ms float h p =
-    step (is_called doc (place_of ms) float) (age_among (waiting doc ms) (map (age doc ms) (waiting doc ms)) float) (calling_page doc ms float) (next_page doc.style ms)
-    (λ t. age_found (age doc ms) (waiting doc ms) float (between_of doc.style (placed_of doc.style ms) (called doc.blocks doc.style (place_of ms)) float (record { slot = h; from = p; to = less_true _ _ t })))
+    step (is_called doc (place_of ms) float)
+    (age_among (waiting doc ms) (map (age doc ms) (waiting doc ms)) float) (calling_page doc ms float)
+    (next_page doc.style ms)
+    (λ t. age_found (age doc ms) (waiting doc ms) float
+    (between_of doc.style (placed_of doc.style ms) (called doc.blocks doc.style (place_of ms)) float
+    (record { slot = h; from = p; to = less_true _ _ t })))
 
 page_step : (b : Bool) (c n : ℕ) → c ≤ n → (if b then c else n) ≤ n
 page_step true c n h = h
@@ -47,11 +55,17 @@ page_up : (b : Bool) (n : ℕ) → n ≤ (if b then n + 1 else n)
 page_up true n = omega arith
 page_up false n = omega arith
 
-pub calling_le : (doc : Document) (ms : List PageMove) (float : ℕ × ℕ) → calling_page doc ms float ≤ next_page doc.style ms
+pub calling_le : (doc : Document) (ms : List PageMove) (float : ℕ × ℕ) →
+    calling_page doc ms float ≤ next_page doc.style ms
 calling_le doc [] float = omega arith
 calling_le doc (m ∷ ms) float =
-    let a : (if is_called doc (place_of ms) float then calling_page doc ms float else next_page doc.style ms) ≤ next_page doc.style ms = page_step (is_called doc (place_of ms) float) (calling_page doc ms float) (next_page doc.style ms) (calling_le doc ms float) in
-    let b : next_page doc.style ms ≤ (if next_column doc.style ms == doc.style.columns then next_page doc.style ms + 1 else next_page doc.style ms) = page_up (next_column doc.style ms == doc.style.columns) (next_page doc.style ms) in
+    let a : (if is_called doc (place_of ms) float then calling_page doc ms float else next_page doc.style ms)
+    ≤ next_page doc.style ms = page_step (is_called doc (place_of ms) float) (calling_page doc ms float)
+    (next_page doc.style ms) (calling_le doc ms float) in
+    let b : next_page doc.style ms
+    ≤ (if next_column doc.style ms == doc.style.columns then next_page doc.style ms
+    + 1 else next_page doc.style ms) =
+    page_up (next_column doc.style ms == doc.style.columns) (next_page doc.style ms) in
     omega arith
 
 turn_step : (b : Bool) (c n : ℕ) → c ≤ n → (if b then n + 1 else n) - c ≡ (n - c) + (if b then 1 else 0)
@@ -59,10 +73,15 @@ turn_step true c n h = omega arith
 turn_step false c n h = omega arith
 
 -- the age on the next page, of a float that waits behind the column
-pub age_turned : (doc : Document) (m : PageMove) (ms : List PageMove) (float : ℕ × ℕ) → float.0 < length (float_numbers doc.style) → entry (placed_of doc.style (m ∷ ms)) float.0 ≤ float.1 →
+pub age_turned : (doc : Document) (m : PageMove) (ms : List PageMove) (float : ℕ × ℕ) →
+    float.0 < length (float_numbers doc.style) → entry (placed_of doc.style (m ∷ ms)) float.0 ≤ float.1 →
     age_in doc (state_at doc ms) float + turns doc.style (state_at doc ms) ≡ age doc (m ∷ ms) float
 age_turned doc m ms float h p =
-    let q : entry (placed_of doc.style ms) float.0 ≤ entry (placed_of doc.style (m ∷ ms)) float.0 = placed_more doc.style (placed_of doc.style ms) m float.0 h in
-    let le : (if is_called doc (place_of ms) float then calling_page doc ms float else next_page doc.style ms) ≤ next_page doc.style ms = page_step (is_called doc (place_of ms) float) (calling_page doc ms float) (next_page doc.style ms) (calling_le doc ms float) in
+    let q : entry (placed_of doc.style ms) float.0 ≤ entry (placed_of doc.style (m ∷ ms)) float.0 =
+    placed_more doc.style (placed_of doc.style ms) m float.0 h in
+    let le : (if is_called doc (place_of ms) float then calling_page doc ms float else next_page doc.style ms)
+    ≤ next_page doc.style ms = page_step (is_called doc (place_of ms) float) (calling_page doc ms float)
+    (next_page doc.style ms) (calling_le doc ms float) in
     ap (λ (z : ℕ). z + turns doc.style (state_at doc ms)) (ages_agree doc m ms float h (omega arith))
-    ∙ sym (turn_step (next_column doc.style ms == doc.style.columns) (calling_page doc (m ∷ ms) float) (next_page doc.style ms) le)
+    ∙ sym (turn_step (next_column doc.style ms == doc.style.columns) (calling_page doc (m ∷ ms) float)
+    (next_page doc.style ms) le)

@@ -44,8 +44,10 @@ module _ (g : GalleyValue) (s : StyleValue) (range : AreInRange g s) where
   unfolding state_of cost
   pushed plan m v c prefix follow =
       let b : IsBeginning (document g s) (columns plan) = columns_begin g s facts some plan prefix in
-      let t = stands (document g s) m (columns plan) v c (has_tables (document g s) range.style_in) b.waits follow in
-      let p : IsPlanOfColumns g s facts some (m ∷ columns plan) = columns_plan g s facts some (m ∷ columns plan) (record { stand = (t.0, b.stand); waits = t.1.0 }) in
+      let t = stands (document g s) m (columns plan) v c (has_tables (document g s) range.style_in) b.waits
+      follow in
+      let p : IsPlanOfColumns g s facts some (m ∷ columns plan) =
+      columns_plan g s facts some (m ∷ columns plan) (record { stand = (t.0, b.stand); waits = t.1.0 }) in
       record {
         longer = plan_of s (m ∷ columns plan);
         prefix = p.prefix;
@@ -64,17 +66,24 @@ module _ (g : GalleyValue) (s : StyleValue) (range : AreInRange g s) where
       by : (ms : List PageMove) → ms ≡ columns longer → (longer.pages ≡ []) ⊎ Follows g s longer
       by [] e = inl (ap (λ (p : Pagination). p.pages) (sym (plan_parts longer [] (sym e) prefix)))
       by (m ∷ ms) e =
-          let b : IsBeginning (document g s) (m ∷ ms) = subst (IsBeginning (document g s)) (sym e) (columns_begin g s facts some longer prefix) in
-          let p : IsPlanOfColumns g s facts some ms = columns_plan g s facts some ms (beginning_before (document g s) facts m ms b) in
-          let f : Follow (document g s) (state_at (document g s) ms) m (state_at (document g s) (m ∷ ms)) (column_pays (document g s) m ms) = follows (document g s) m ms b.stand.0 b.waits in
+          let b : IsBeginning (document g s) (m ∷ ms) =
+          subst (IsBeginning (document g s)) (sym e) (columns_begin g s facts some longer prefix) in
+          let p : IsPlanOfColumns g s facts some ms =
+          columns_plan g s facts some ms (beginning_before (document g s) facts m ms b) in
+          let f : Follow (document g s) (state_at (document g s) ms) m (state_at (document g s) (m ∷ ms))
+          (column_pays (document g s) m ms) = follows (document g s) m ms b.stand.0 b.waits in
           inr (record {
             plan = plan_of s ms;
             prefix = p.prefix;
             last = m;
             pays = column_pays (document g s) m ms;
             columns = sym e ∙ ap (λ (ns : List PageMove). m ∷ ns) (sym p.columns_are);
-            follow = subst (λ (u : State). Follow (document g s) u m (state_at (document g s) (columns longer)) (column_pays (document g s) m ms)) (sym p.state) (subst (λ (ns : List PageMove). Follow (document g s) (state_at (document g s) ms) m (state_at (document g s) ns) (column_pays (document g s) m ms)) e f);
-            cost = ap (cost_of (document g s)) (sym e) ∙ ap (λ (z : ℤ). z +ℤ column_pays (document g s) m ms) (sym p.price);
+            follow = subst (λ (u : State). Follow (document g s) u m
+                (state_at (document g s) (columns longer)) (column_pays (document g s) m ms)) (sym p.state)
+                (subst (λ (ns : List PageMove). Follow (document g s) (state_at (document g s) ms) m
+                (state_at (document g s) ns) (column_pays (document g s) m ms)) e f);
+            cost = ap (cost_of (document g s)) (sym e) ∙ ap (λ (z : ℤ). z +ℤ column_pays (document g s) m ms)
+                (sym p.price);
           })
 
   -- ---- faults
@@ -85,34 +94,59 @@ module _ (g : GalleyValue) (s : StyleValue) (range : AreInRange g s) where
     where
       to : breach g s plan ≡ None → KeepsRules g s plan
       to e =
-          let a : Sound (document g s) (reverse plan.pages) (columns plan) _ _ = sound_of (document g s) (reverse plan.pages) (columns plan) _ _ e in
-          record { filled = a.filled; stand = a.stand; spent = unless_none _ _ a.ended; dealt = unless_none _ _ a.dealt }
+          let a : Sound (document g s) (reverse plan.pages) (columns plan) _ _ =
+          sound_of (document g s) (reverse plan.pages) (columns plan) _ _ e in
+          record {
+            filled = a.filled;
+            stand = a.stand;
+            spent = unless_none _ _ a.ended;
+            dealt =
+                unless_none _ _ a.dealt;
+          }
 
       back : KeepsRules g s plan → breach g s plan ≡ None
-      back k = of_sound (document g s) (reverse plan.pages) (columns plan) _ _ (record { filled = k.filled; stand = k.stand; ended = none_unless _ _ k.spent; dealt = none_unless _ _ k.dealt })
+      back k = of_sound (document g s) (reverse plan.pages) (columns plan) _ _
+          (record {
+            filled = k.filled;
+            stand = k.stand;
+            ended = none_unless _ _ k.spent;
+            dealt =
+                none_unless _ _ k.dealt;
+          })
 
   pub prefixes_keep_rules : PrefixesKeepRules g s
   unfolding prefix_breach
   prefixes_keep_rules plan = (to, back)
     where
       to : Prefix g s plan → KeepsBeginningRules g s plan
-      to p = let a : Sound (document g s) (reverse plan.pages) (columns plan) None None = prefix_sound g s facts some plan p in record { filled = a.filled; stand = a.stand; waits = p.can_wait }
+      to p = let a : Sound (document g s) (reverse plan.pages) (columns plan) None None =
+          prefix_sound g s facts some plan p in
+          record { filled = a.filled; stand = a.stand; waits = p.can_wait }
 
       back : KeepsBeginningRules g s plan → Prefix g s plan
-      back k = record { unbroken = of_sound (document g s) (reverse plan.pages) (columns plan) None None (record { filled = k.filled; stand = k.stand; ended = refl; dealt = refl }); can_wait = k.waits }
+      back k = record {
+        unbroken = of_sound (document g s) (reverse plan.pages) (columns plan) None None
+            (record { filled = k.filled; stand = k.stand; ended = refl; dealt = refl });
+        can_wait = k.waits;
+      }
 
   pub legal_are_done : LegalAreDone g s
-  legal_are_done plan = (λ l. (legal_prefix g s facts some plan l, legal_done g s facts some plan l), λ p. done_is_legal g s facts some plan p.0 p.1)
+  legal_are_done plan = (
+    λ l. (legal_prefix g s facts some plan l, legal_done g s facts some plan l),
+    λ p. done_is_legal g s facts some plan p.0 p.1,
+  )
 
   -- ---- simulation
 
   pub no_worse_follow : NoWorseFollow g s
-  no_worse_follow u v m x c own p f = simulates (document g s) (tables_of (document g s) range.style_in) u v m x c own p f
+  no_worse_follow u v m x c own p f =
+      simulates (document g s) (tables_of (document g s) range.style_in) u v m x c own p f
 
   pub no_worse_done : NoWorseDone g s
   no_worse_done u v p d =
       let t = both_of (is_same_key (key u) (key v)) (are_no_older u.ages v.ages) p in
-      subst (λ (k : PageKey). is_done (document g s) (with_ages k []) ≡ true) (sym (key_same (key u) (key v) t.0)) d
+      subst (λ (k : PageKey). is_done (document g s) (with_ages k []) ≡ true)
+      (sym (key_same (key u) (key v) t.0)) d
 
 -- ---- order
 
@@ -123,7 +157,8 @@ lists_equal : (xs ys : List PageMove) → slice_cmp column_cmp xs ys ≡ Equal �
 lists_equal [] [] e = refl
 lists_equal [] (y ∷ ys) e = absurd cc
 lists_equal (x ∷ xs) [] e = absurd cc
-lists_equal (x ∷ xs) (y ∷ ys) e = let t = then_equal (column_cmp x y) (slice_cmp column_cmp xs ys) e in let p : x ≡ y = column_equal x y t.0 in let q : xs ≡ ys = lists_equal xs ys t.1 in cc
+lists_equal (x ∷ xs) (y ∷ ys) e = let t = then_equal (column_cmp x y) (slice_cmp column_cmp xs ys) e in
+    let p : x ≡ y = column_equal x y t.0 in let q : xs ≡ ys = lists_equal xs ys t.1 in cc
 
 pub tells_apart : (s : StyleValue) → OrderTellsApart s
 tells_apart s p q fp fq e =

@@ -20,20 +20,28 @@ use Rattle.pg_laws.proofs.PagesLaws.{IsPlanOf, plan_back, plan_there}
 use Rattle.pg_laws.proofs.Waiting.{IsBetween, between_at}
 
 module _ (g : GalleyValue) (s : StyleValue) (facts : Facts (document g s)) (some : 1 ≤ s.columns) where
-  all_placed : (ms : List PageMove) → has_dealt_all (document g s) (placed_of s ms) ≡ true → can_wait (document g s) ms ≡ true
-  all_placed ms h = all_of (λ (x : ℕ × ℕ). nat_lt (age (document g s) ms x) (length (distance_table s x.0))) (waiting (document g s) ms)
+  all_placed : (ms : List PageMove) → has_dealt_all (document g s) (placed_of s ms) ≡ true →
+      can_wait (document g s) ms ≡ true
+  all_placed ms h = all_of (λ (x : ℕ × ℕ). nat_lt (age (document g s) ms x) (length (distance_table s x.0)))
+      (waiting (document g s) ms)
       (λ x a.
-      let r : IsBetween s (placed_of s ms) (called g.blocks s (place_of ms)) x = between_at s (placed_of s ms) (called g.blocks s (place_of ms)) x a in
-      let t : entry (called g.blocks s (place_of ms)) x.0 ≤ entry (placed_of s ms) x.0 = facts.total (place_of ms) (placed_of s ms) x.0 r.slot h in
+      let r : IsBetween s (placed_of s ms) (called g.blocks s (place_of ms)) x =
+      between_at s (placed_of s ms) (called g.blocks s (place_of ms)) x a in
+      let t : entry (called g.blocks s (place_of ms)) x.0 ≤ entry (placed_of s ms) x.0 =
+      facts.total (place_of ms) (placed_of s ms) x.0 r.slot h in
       let p : entry (placed_of s ms) x.0 ≤ x.1 = r.from in
       let q : x.1 < entry (called g.blocks s (place_of ms)) x.0 = r.to in
       absurd (omega arith))
 
-  pub prefix_sound : (plan : Pagination) → Prefix g s plan → Sound (document g s) (reverse plan.pages) (columns plan) None None
+  pub prefix_sound : (plan : Pagination) → Prefix g s plan →
+      Sound (document g s) (reverse plan.pages) (columns plan) None None
   unfolding prefix_breach
   prefix_sound plan p = sound_of (document g s) (reverse plan.pages) (columns plan) None None p.unbroken
 
-  legal_sound : (plan : Pagination) → Legal g s plan → Sound (document g s) (reverse plan.pages) (columns plan) (unless (ends_spent (document g s) (columns plan)) (length (columns plan))) (unless (has_dealt_all (document g s) (placed_of s (columns plan))) (length (columns plan)))
+  legal_sound : (plan : Pagination) → Legal g s plan →
+      Sound (document g s) (reverse plan.pages) (columns plan)
+      (unless (ends_spent (document g s) (columns plan)) (length (columns plan)))
+      (unless (has_dealt_all (document g s) (placed_of s (columns plan))) (length (columns plan)))
   unfolding breach
   legal_sound plan l = sound_of (document g s) (reverse plan.pages) (columns plan) _ _ l.unbroken
 
@@ -41,17 +49,26 @@ module _ (g : GalleyValue) (s : StyleValue) (facts : Facts (document g s)) (some
   pub legal_prefix : (plan : Pagination) → Legal g s plan → Prefix g s plan
   unfolding prefix_breach
   legal_prefix plan l =
-      let a : Sound (document g s) (reverse plan.pages) (columns plan) (unless (ends_spent (document g s) (columns plan)) (length (columns plan))) (unless (has_dealt_all (document g s) (placed_of s (columns plan))) (length (columns plan))) = legal_sound plan l in
+      let a : Sound (document g s) (reverse plan.pages) (columns plan)
+      (unless (ends_spent (document g s) (columns plan)) (length (columns plan)))
+      (unless (has_dealt_all (document g s) (placed_of s (columns plan))) (length (columns plan))) =
+      legal_sound plan l in
       record {
-        unbroken = of_sound (document g s) (reverse plan.pages) (columns plan) None None (record { filled = a.filled; stand = a.stand; ended = refl; dealt = refl });
+        unbroken = of_sound (document g s) (reverse plan.pages) (columns plan) None None
+            (record { filled = a.filled; stand = a.stand; ended = refl; dealt = refl });
         can_wait = all_placed (columns plan) (unless_none _ _ a.dealt);
       }
 
   pub legal_done : (plan : Pagination) → Legal g s plan → is_done (document g s) (state_of g s plan) ≡ true
   unfolding state_of
   legal_done plan l =
-      let a : Sound (document g s) (reverse plan.pages) (columns plan) (unless (ends_spent (document g s) (columns plan)) (length (columns plan))) (unless (has_dealt_all (document g s) (placed_of s (columns plan))) (length (columns plan))) = legal_sound plan l in
-      both (is_spent_at (document g s) (place_of (columns plan))) (has_dealt_all (document g s) (placed_of s (columns plan))) (unless_none _ _ a.ended) (unless_none _ _ a.dealt)
+      let a : Sound (document g s) (reverse plan.pages) (columns plan)
+      (unless (ends_spent (document g s) (columns plan)) (length (columns plan)))
+      (unless (has_dealt_all (document g s) (placed_of s (columns plan))) (length (columns plan))) =
+      legal_sound plan l in
+      both (is_spent_at (document g s) (place_of (columns plan)))
+      (has_dealt_all (document g s) (placed_of s (columns plan))) (unless_none _ _ a.ended)
+      (unless_none _ _ a.dealt)
 
   -- the pagination of columns that are a beginning
   pub record IsPlanOfColumns (ms : List PageMove) : Type 0 where
@@ -67,7 +84,13 @@ module _ (g : GalleyValue) (s : StyleValue) (facts : Facts (document g s)) (some
       record {
         columns_are = p.columns;
         prefix = record {
-          unbroken = of_sound (document g s) (reverse (plan_of s ms).pages) (columns (plan_of s ms)) None None (record { filled = p.filled; stand = subst (Stand (document g s)) (sym p.columns) b.stand; ended = refl; dealt = refl });
+          unbroken = of_sound (document g s) (reverse (plan_of s ms).pages) (columns (plan_of s ms)) None None
+              (record {
+                filled = p.filled;
+                stand = subst (Stand (document g s)) (sym p.columns) b.stand;
+                ended = refl;
+                dealt = refl;
+              });
           can_wait = subst (λ (ns : List PageMove). can_wait (document g s) ns ≡ true) (sym p.columns) b.waits;
         };
         state = ap (state_at (document g s)) p.columns;
@@ -75,12 +98,23 @@ module _ (g : GalleyValue) (s : StyleValue) (facts : Facts (document g s)) (some
       }
 
   -- a beginning that is done is legal
-  pub done_is_legal : (plan : Pagination) → Prefix g s plan → is_done (document g s) (state_of g s plan) ≡ true → Legal g s plan
+  pub done_is_legal : (plan : Pagination) → Prefix g s plan →
+      is_done (document g s) (state_of g s plan) ≡ true → Legal g s plan
   unfolding breach state_of
   done_is_legal plan p done =
       let a : Sound (document g s) (reverse plan.pages) (columns plan) None None = prefix_sound plan p in
-      let d = both_of (is_spent_at (document g s) (place_of (columns plan))) (has_dealt_all (document g s) (placed_of s (columns plan))) done in
-      record { unbroken = of_sound (document g s) (reverse plan.pages) (columns plan) _ _ (record { filled = a.filled; stand = a.stand; ended = none_unless _ _ d.0; dealt = none_unless _ _ d.1 }) }
+      let d = both_of (is_spent_at (document g s) (place_of (columns plan)))
+      (has_dealt_all (document g s) (placed_of s (columns plan))) done in
+      record {
+        unbroken = of_sound (document g s) (reverse plan.pages) (columns plan) _ _
+            (record {
+              filled = a.filled;
+              stand = a.stand;
+              ended = none_unless _ _ d.0;
+              dealt =
+                  none_unless _ _ d.1;
+            });
+      }
 
   pub plan_is : (plan : Pagination) → Prefix g s plan → plan_of s (columns plan) ≡ plan
   plan_is plan p = plan_back s plan (prefix_sound plan p).filled

@@ -21,7 +21,8 @@ module _ {X : Type 0} (cmp : X → X → Ordering) (total : IsTotalOrder cmp) wh
   option_back (Some x) None = refl
   option_back (Some x) (Some y) = total.antisymm x y
 
-  option_trans : (a b c : Option X) → option_cmp cmp a b ≡ Less → option_cmp cmp b c ≡ Less → option_cmp cmp a c ≡ Less
+  option_trans : (a b c : Option X) → option_cmp cmp a b ≡ Less → option_cmp cmp b c ≡ Less →
+      option_cmp cmp a c ≡ Less
   option_trans None None c p q = q
   option_trans None (Some y) None p q = absurd cc
   option_trans None (Some y) (Some z) p q = refl
@@ -46,7 +47,8 @@ module _ {X : Type 0} (cmp : X → X → Ordering) (total : IsTotalOrder cmp) wh
   option_equal h (Some x) (Some y) e = ap (λ (z : X). Some z) (h x y e)
 
 int_equal : (a b : ℤ) → int_cmp a b ≡ Equal → a ≡ b
-int_equal a b e = by_ranked (a <ℤ b) (a ≡ b) (b <ℤ a) (int_cmp a b) (int_ranked a b (int_cmp a b) refl) (λ o _. absurd cc) (λ _ p. p) (λ o _. absurd cc)
+int_equal a b e = by_ranked (a <ℤ b) (a ≡ b) (b <ℤ a) (int_cmp a b) (int_ranked a b (int_cmp a b) refl)
+    (λ o _. absurd cc) (λ _ p. p) (λ o _. absurd cc)
 
 side_equal : (a b : Side) → nat_cmp (side_rank a) (side_rank b) ≡ Equal → a ≡ b
 side_equal L L e = refl
@@ -70,8 +72,29 @@ states_total =
     (then_total (on_total (λ (a : State). a.placed) nat_list_cmp_total)
     (on_total (λ (a : State). a.ages) nat_list_cmp_total)))))))
 
-same_state : (p p' : Place) (c c' : ℕ) (s s' : Side) (r r' : Option ℕ) (w w' : Option ℤ) (f f' : Option ℕ) (d d' a a' : List ℕ) → p ≡ p' → c ≡ c' → s ≡ s' → r ≡ r' → w ≡ w' → f ≡ f' → d ≡ d' → a ≡ a' →
-    ◌≡◌ {A = State} (record { place = p; column = c; side = s; run = r; wide = w; fit = f; placed = d; ages = a }) (record { place = p'; column = c'; side = s'; run = r'; wide = w'; fit = f'; placed = d'; ages = a' })
+same_state : (p p' : Place) (c c' : ℕ) (s s' : Side) (r r' : Option ℕ) (w w' : Option ℤ) (f f' : Option ℕ)
+    (d d' a a' : List ℕ) → p ≡ p' → c ≡ c' → s ≡ s' → r ≡ r' → w ≡ w' → f ≡ f' → d ≡ d' → a ≡ a' →
+    ◌≡◌ {A = State} (record {
+      place = p;
+      column = c;
+      side = s;
+      run = r;
+      wide = w;
+      fit = f;
+      placed = d;
+      ages =
+          a;
+    }) (record {
+      place = p';
+      column = c';
+      side = s';
+      run = r';
+      wide = w';
+      fit = f';
+      placed = d';
+      ages =
+          a';
+    })
 same_state p p' c c' s s' r r' w w' f f' d d' a a' h1 h2 h3 h4 h5 h6 h7 h8 = cc
 
 pub state_equal : (a b : State) → state_cmp a b ≡ Equal → a ≡ b
@@ -83,5 +106,9 @@ state_equal a b e =
     let t5 = then_equal (option_cmp int_cmp a.wide b.wide) _ t4.1 in
     let t6 = then_equal (option_cmp nat_cmp a.fit b.fit) _ t5.1 in
     let t7 = then_equal (counts_cmp a.placed b.placed) (counts_cmp a.ages b.ages) t6.1 in
-    same_state a.place b.place a.column b.column a.side b.side a.run b.run a.wide b.wide a.fit b.fit a.placed b.placed a.ages b.ages
-    (place_equal _ _ t1.0) (nat_equal _ _ t2.0) (side_equal _ _ t3.0) (option_equal nat_cmp nat_cmp_total nat_equal _ _ t4.0) (option_equal int_cmp int_cmp_total int_equal _ _ t5.0) (option_equal nat_cmp nat_cmp_total nat_equal _ _ t6.0) (list_equal _ _ t7.0) (list_equal _ _ t7.1)
+    same_state a.place b.place a.column b.column a.side b.side a.run b.run a.wide b.wide a.fit b.fit a.placed
+    b.placed a.ages b.ages
+    (place_equal _ _ t1.0) (nat_equal _ _ t2.0) (side_equal _ _ t3.0)
+    (option_equal nat_cmp nat_cmp_total nat_equal _ _ t4.0)
+    (option_equal int_cmp int_cmp_total int_equal _ _ t5.0)
+    (option_equal nat_cmp nat_cmp_total nat_equal _ _ t6.0) (list_equal _ _ t7.0) (list_equal _ _ t7.1)

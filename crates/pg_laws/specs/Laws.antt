@@ -20,7 +20,8 @@ use Rattle.pg_laws.specs.Stands.{Stand}
 -- ---- a column more
 
 -- the beginning with one column more is a beginning, in this state and at so much more
-pub record IsPushed (galley : GalleyValue) (style : StyleValue) (plan : Pagination) (m : PageMove) (v : State) (c : ℤ) : Type 0 where
+pub record IsPushed (galley : GalleyValue) (style : StyleValue) (plan : Pagination) (m : PageMove) (v : State)
+    (c : ℤ) : Type 0 where
   pub longer : Pagination
   pub prefix : Prefix galley style longer
   pub columns : columns longer ≡ m ∷ columns plan
@@ -29,7 +30,9 @@ pub record IsPushed (galley : GalleyValue) (style : StyleValue) (plan : Paginati
 
 -- a column that follows a beginning's state makes a longer beginning, in the state and at the cost that it gives
 abbrev pub FollowersArePushed : GalleyValue → StyleValue → Type 0
-FollowersArePushed galley style = (plan : Pagination) (m : PageMove) (v : State) (c : ℤ) → Prefix galley style plan → Follow (document galley style) (state_of galley style plan) m v c → IsPushed galley style plan m v c
+FollowersArePushed galley style = (plan : Pagination) (m : PageMove) (v : State) (c : ℤ) →
+    Prefix galley style plan → Follow (document galley style) (state_of galley style plan) m v c →
+    IsPushed galley style plan m v c
 
 -- the last column follows the state of the beginning before it
 pub record Follows (galley : GalleyValue) (style : StyleValue) (longer : Pagination) : Type 0 where
@@ -38,12 +41,14 @@ pub record Follows (galley : GalleyValue) (style : StyleValue) (longer : Paginat
   pub last : PageMove
   pub pays : ℤ
   pub columns : columns longer ≡ last ∷ columns plan
-  pub follow : Follow (document galley style) (state_of galley style plan) last (state_of galley style longer) pays
+  pub follow : Follow (document galley style) (state_of galley style plan) last (state_of galley style longer)
+      pays
   pub cost : cost galley style longer ≡ cost galley style plan +ℤ pays
 
 -- each beginning has no page, or its last column follows the beginning before it
 abbrev pub BeginningsFollow : GalleyValue → StyleValue → Type 0
-BeginningsFollow galley style = (longer : Pagination) → Prefix galley style longer → (longer.pages ≡ []) ⊎ Follows galley style longer
+BeginningsFollow galley style = (longer : Pagination) → Prefix galley style longer →
+    (longer.pages ≡ []) ⊎ Follows galley style longer
 
 -- ---- faults
 
@@ -61,27 +66,35 @@ pub record KeepsBeginningRules (galley : GalleyValue) (style : StyleValue) (plan
   pub waits : can_wait (document galley style) (columns plan) ≡ true
 
 abbrev pub UnbrokenKeepRules : GalleyValue → StyleValue → Type 0
-UnbrokenKeepRules galley style = (plan : Pagination) → (breach galley style plan ≡ None) ↔ KeepsRules galley style plan
+UnbrokenKeepRules galley style = (plan : Pagination) →
+    (breach galley style plan ≡ None) ↔ KeepsRules galley style plan
 
 abbrev pub PrefixesKeepRules : GalleyValue → StyleValue → Type 0
-PrefixesKeepRules galley style = (plan : Pagination) → Prefix galley style plan ↔ KeepsBeginningRules galley style plan
+PrefixesKeepRules galley style = (plan : Pagination) →
+    Prefix galley style plan ↔ KeepsBeginningRules galley style plan
 
 -- a pagination is legal exactly where it is a beginning with nothing left to do
 abbrev pub LegalAreDone : GalleyValue → StyleValue → Type 0
-LegalAreDone galley style = (plan : Pagination) → Legal galley style plan ↔ (Prefix galley style plan × (is_done (document galley style) (state_of galley style plan) ≡ true))
+LegalAreDone galley style = (plan : Pagination) →
+    Legal galley style plan
+    ↔ (Prefix galley style plan × (is_done (document galley style) (state_of galley style plan) ≡ true))
 
 -- ---- order
 
 -- paginations that fill their pages are equal where the order says so
 abbrev pub OrderTellsApart : StyleValue → Type 0
-OrderTellsApart style = (p q : Pagination) → misfilled style.columns (reverse p.pages) ≡ None → misfilled style.columns (reverse q.pages) ≡ None → plan_cmp p q ≡ Equal → p ≡ q
+OrderTellsApart style = (p q : Pagination) → misfilled style.columns (reverse p.pages) ≡ None →
+    misfilled style.columns (reverse q.pages) ≡ None → plan_cmp p q ≡ Equal → p ≡ q
 
 -- ---- simulation
 
 -- what follows a state follows each that is no worse
 abbrev pub NoWorseFollow : GalleyValue → StyleValue → Type 0
-NoWorseFollow galley style = (u v : State) (m : PageMove) (x : State) (c : ℤ) → IsState (document galley style) v → is_no_worse u v ≡ true → Follow (document galley style) v m x c → FollowsToo (document galley style) u m x c
+NoWorseFollow galley style = (u v : State) (m : PageMove) (x : State) (c : ℤ) →
+    IsState (document galley style) v → is_no_worse u v ≡ true → Follow (document galley style) v m x c →
+    FollowsToo (document galley style) u m x c
 
 -- nothing is left to do in a state that is no worse than one with nothing left
 abbrev pub NoWorseDone : GalleyValue → StyleValue → Type 0
-NoWorseDone galley style = (u v : State) → is_no_worse u v ≡ true → is_done (document galley style) v ≡ true → is_done (document galley style) u ≡ true
+NoWorseDone galley style = (u v : State) → is_no_worse u v ≡ true → is_done (document galley style) v ≡ true →
+    is_done (document galley style) u ≡ true

@@ -17,7 +17,8 @@ add_column column (page ∷ pages) = page_with page.run page.wide (page.columns 
 -- from the last page to the first
 abbrev pub pages_from : StyleValue → List PageMove → List Page
 pages_from style [] = []
-pages_from style (m ∷ ms) = if next_column style ms == 1 then page_with m.run m.wide (m.column ∷ []) ∷ pages_from style ms else add_column m.column (pages_from style ms)
+pages_from style (m ∷ ms) = if next_column style ms == 1 then page_with m.run m.wide
+    (m.column ∷ []) ∷ pages_from style ms else add_column m.column (pages_from style ms)
 
 abbrev pub plan_of : StyleValue → List PageMove → Pagination
 plan_of style ms = record { pages = reverse (pages_from style ms) }

@@ -14,7 +14,8 @@ use Rattle.pg_style.specs.Values.{StyleValue}
 -- each item of the block, or of its variants, is within its range
 abbrev pub AreItemsInRange : Block → Type 0
 AreItemsInRange (One item) = IsItemInRange item
-AreItemsInRange (Choice variants) = AllByRecursion (λ (variant : Variant). AllByRecursion IsItemInRange variant.items) variants
+AreItemsInRange (Choice variants) =
+    AllByRecursion (λ (variant : Variant). AllByRecursion IsItemInRange variant.items) variants
 
 -- each block and each number of the style is within its range, and the galley within its limit
 pub record AreInRange (galley : GalleyValue) (style : StyleValue) : Type 0 where

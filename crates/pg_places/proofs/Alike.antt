@@ -88,11 +88,14 @@ boxes_alike : (xs ys : List Item) → Alike xs ys → list_any is_box xs ≡ lis
 boxes_alike [] [] a = refl
 boxes_alike [] (y ∷ ys) a = absurd a
 boxes_alike (x ∷ xs) [] a = absurd a
-boxes_alike (x ∷ xs) (y ∷ ys) (inl (e, a)) = let r : list_any is_box xs ≡ list_any is_box ys = boxes_alike xs ys a in let s : is_box x ≡ is_box y = ap is_box e in or_same (is_box x) (is_box y) (list_any is_box xs) (list_any is_box ys) s r
+boxes_alike (x ∷ xs) (y ∷ ys) (inl (e, a)) = let r : list_any is_box xs ≡ list_any is_box ys =
+    boxes_alike xs ys a in let s : is_box x ≡ is_box y = ap is_box e in
+    or_same (is_box x) (is_box y) (list_any is_box xs) (list_any is_box ys) s r
   where
     or_same : (a b c d : Bool) → a ≡ b → c ≡ d → (a || c) ≡ (b || d)
     or_same a b c d p q = cc
-boxes_alike (x ∷ xs) (y ∷ ys) (inr (p, q)) = yes (is_box x) (list_any is_box xs) p ∙ sym (yes (is_box y) (list_any is_box ys) q)
+boxes_alike (x ∷ xs) (y ∷ ys) (inr (p, q)) =
+    yes (is_box x) (list_any is_box xs) p ∙ sym (yes (is_box y) (list_any is_box ys) q)
   where
     yes : (a b : Bool) → a ≡ true → (a || b) ≡ true
     yes true b e = refl
@@ -102,17 +105,23 @@ pub spent_alike : (xs ys : List Item) → Alike xs ys → list_all is_discardabl
 spent_alike [] [] a = refl
 spent_alike [] (y ∷ ys) a = absurd a
 spent_alike (x ∷ xs) [] a = absurd a
-spent_alike (x ∷ xs) (y ∷ ys) (inl (e, a)) = let r : list_all is_discardable xs ≡ list_all is_discardable ys = spent_alike xs ys a in let s : is_discardable x ≡ is_discardable y = ap is_discardable e in and_same (is_discardable x) (is_discardable y) (list_all is_discardable xs) (list_all is_discardable ys) s r
+spent_alike (x ∷ xs) (y ∷ ys) (inl (e, a)) = let r : list_all is_discardable xs ≡ list_all is_discardable ys =
+    spent_alike xs ys a in let s : is_discardable x ≡ is_discardable y = ap is_discardable e in
+    and_same (is_discardable x) (is_discardable y) (list_all is_discardable xs) (list_all is_discardable ys) s
+    r
   where
     and_same : (a b c d : Bool) → a ≡ b → c ≡ d → (a && c) ≡ (b && d)
     and_same a b c d p q = cc
-spent_alike (x ∷ xs) (y ∷ ys) (inr (p, q)) = none (is_discardable x) (list_all is_discardable xs) (box_kept x p) ∙ sym (none (is_discardable y) (list_all is_discardable ys) (box_kept y q))
+spent_alike (x ∷ xs) (y ∷ ys) (inr (p, q)) =
+    none (is_discardable x) (list_all is_discardable xs) (box_kept x p)
+    ∙ sym (none (is_discardable y) (list_all is_discardable ys) (box_kept y q))
   where
     none : (a b : Bool) → a ≡ false → (a && b) ≡ false
     none false b e = refl
     none true b e = absurd cc
 
-break_same : (solid : Bool) (x : Item) (xs ys : List Item) → has_at is_glue xs 0 ≡ has_at is_glue ys 0 → break_of solid (x ∷ xs) ≡ break_of solid (x ∷ ys)
+break_same : (solid : Bool) (x : Item) (xs ys : List Item) → has_at is_glue xs 0 ≡ has_at is_glue ys 0 →
+    break_of solid (x ∷ xs) ≡ break_of solid (x ∷ ys)
 break_same solid (BoxItem h d body) xs ys e = refl
 break_same solid (Rule h d body) xs ys e = refl
 break_same solid (Glue w s o k body) xs ys e = refl
@@ -125,7 +134,8 @@ pub break_alike : (solid : Bool) (xs ys : List Item) → Alike xs ys → break_o
 break_alike solid [] [] a = refl
 break_alike solid [] (y ∷ ys) a = absurd a
 break_alike solid (x ∷ xs) [] a = absurd a
-break_alike solid (x ∷ xs) (y ∷ ys) (inl (e, a)) = break_same solid x xs ys (glue_alike xs ys a) ∙ ap (λ (z : Item). break_of solid (z ∷ ys)) e
+break_alike solid (x ∷ xs) (y ∷ ys) (inl (e, a)) =
+    break_same solid x xs ys (glue_alike xs ys a) ∙ ap (λ (z : Item). break_of solid (z ∷ ys)) e
 break_alike solid (x ∷ xs) (y ∷ ys) (inr (p, q)) = box_no_break solid x xs p ∙ sym (box_no_break solid y ys q)
 
 abbrev pub forced_of : List Item → Bool
@@ -136,11 +146,15 @@ pub forced_alike : (xs ys : List Item) → Alike xs ys → forced_of xs ≡ forc
 forced_alike [] [] a = refl
 forced_alike [] (y ∷ ys) a = absurd a
 forced_alike (x ∷ xs) [] a = absurd a
-forced_alike (x ∷ xs) (y ∷ ys) (inl (e, a)) = let r : list_any is_box xs ≡ list_any is_box ys = boxes_alike xs ys a in let s : is_forcing x ≡ is_forcing y = ap is_forcing e in and_same (is_forcing x) (is_forcing y) (list_any is_box xs) (list_any is_box ys) s r
+forced_alike (x ∷ xs) (y ∷ ys) (inl (e, a)) = let r : list_any is_box xs ≡ list_any is_box ys =
+    boxes_alike xs ys a in let s : is_forcing x ≡ is_forcing y = ap is_forcing e in
+    and_same (is_forcing x) (is_forcing y) (list_any is_box xs) (list_any is_box ys) s r
   where
     and_same : (a b c d : Bool) → a ≡ b → c ≡ d → (a && c) ≡ (b && d)
     and_same a b c d p q = cc
-forced_alike (x ∷ xs) (y ∷ ys) (inr (p, q)) = none (is_forcing x) (list_any is_box xs) (box_no_forcing x p) ∙ sym (none (is_forcing y) (list_any is_box ys) (box_no_forcing y q))
+forced_alike (x ∷ xs) (y ∷ ys) (inr (p, q)) =
+    none (is_forcing x) (list_any is_box xs) (box_no_forcing x p)
+    ∙ sym (none (is_forcing y) (list_any is_box ys) (box_no_forcing y q))
   where
     none : (a b : Bool) → a ≡ false → (a && b) ≡ false
     none false b e = refl
@@ -167,29 +181,35 @@ drop_more (suc k) [] ys y e = absurd cc
 drop_more (suc k) (x ∷ xs) ys y e = let r : k < length xs = drop_more k xs ys y e in omega arith
 
 -- what stands right behind an item
-pub next_at : (test : Item → Bool) (k : ℕ) (xs ys : List Item) → drop k xs ≡ ys → has_at test xs k ≡ has_at test ys 0
+pub next_at : (test : Item → Bool) (k : ℕ) (xs ys : List Item) → drop k xs ≡ ys →
+    has_at test xs k ≡ has_at test ys 0
 next_at test zero xs ys e = ap (λ (zs : List Item). has_at test zs 0) e
 next_at test (suc k) [] ys e = ap (λ (zs : List Item). has_at test zs 0) e
 next_at test (suc k) (x ∷ xs) ys e = next_at test k xs ys e
 
-item_break_is : (flat : List Item) (k : ℕ) (x : Item) (xs : List Item) → drop (k + 1) flat ≡ xs → item_break flat k x ≡ break_of (follows_solid flat k) (x ∷ xs)
+item_break_is : (flat : List Item) (k : ℕ) (x : Item) (xs : List Item) → drop (k + 1) flat ≡ xs →
+    item_break flat k x ≡ break_of (follows_solid flat k) (x ∷ xs)
 item_break_is flat k (BoxItem h d body) xs e = refl
 item_break_is flat k (Rule h d body) xs e = refl
 item_break_is flat k (Glue w s o g body) xs e = refl
-item_break_is flat k (Kern w body) xs e = ap (λ (b : Bool). if b then Some (pos 0) else None) (next_at is_glue (k + 1) flat xs e)
+item_break_is flat k (Kern w body) xs e =
+    ap (λ (b : Bool). if b then Some (pos 0) else None) (next_at is_glue (k + 1) flat xs e)
 item_break_is flat k (Penalty v body) xs e = refl
 item_break_is flat k (Insert c z body) xs e = refl
 item_break_is flat k (Carry body) xs e = refl
 
-pub break_by_rest : (flat : List Item) (k : ℕ) → k ≤ length flat → break_penalty flat k ≡ break_of (follows_solid flat k) (drop k flat)
+pub break_by_rest : (flat : List Item) (k : ℕ) → k ≤ length flat →
+    break_penalty flat k ≡ break_of (follows_solid flat k) (drop k flat)
 break_by_rest flat k h = by (drop k flat) refl
   where
     by : (rest : List Item) → drop k flat ≡ rest → break_penalty flat k ≡ break_of (follows_solid flat k) rest
     by [] e = if_true (k == length flat) (Some (pos 0)) _ (eq_yes k (length flat) (drop_end k flat h e))
     by (x ∷ xs) e =
         let r = drop_head k flat xs x e in
-        if_false (k == length flat) (Some (pos 0)) (option_map_or (item_break flat k) (slice_get flat k) None) (eq_no k (length flat) (drop_more k flat xs x e))
-        ∙ (ap (λ (o : Option Item). option_map_or (item_break flat k) o None) r.0 ∙ item_break_is flat k x xs r.1)
+        if_false (k == length flat) (Some (pos 0)) (option_map_or (item_break flat k) (slice_get flat k) None)
+        (eq_no k (length flat) (drop_more k flat xs x e))
+        ∙ (ap (λ (o : Option Item). option_map_or (item_break flat k) o None) r.0 ∙ item_break_is flat k x xs
+        r.1)
 
 pub forced_by_rest : (flat : List Item) (k : ℕ) → k ≤ length flat → is_forced flat k ≡ forced_of (drop k flat)
 forced_by_rest flat k h = by (drop k flat) refl
@@ -206,22 +226,29 @@ forced_by_rest flat k h = by (drop k flat) refl
     by [] e = yes (k == length flat) _ (eq_yes k (length flat) (drop_end k flat h e))
     by (x ∷ xs) e =
         let r = drop_head k flat xs x e in
-        or_else (k == length flat) (has_at is_forcing flat k) (list_any is_box (drop (k + 1) flat)) (is_forcing x) (list_any is_box xs) true (eq_no k (length flat) (drop_more k flat xs x e)) (next_at is_forcing k flat (x ∷ xs) e) (ap (list_any is_box) r.1)
+        or_else (k == length flat) (has_at is_forcing flat k) (list_any is_box (drop (k + 1) flat))
+        (is_forcing x) (list_any is_box xs) true (eq_no k (length flat) (drop_more k flat xs x e))
+        (next_at is_forcing k flat (x ∷ xs) e) (ap (list_any is_box) r.1)
 
 -- ---- the items from a place on, by two lists of picks
 
 abbrev pub item_of : FlatItem → Item
 item_of x = x.item
 
-later_alike : (n v i : ℕ) (items : List Item) (xs ys : List FlatItem) → Alike (map item_of xs) (map item_of ys) → Alike (map item_of (later_flat_items n v i items ++ xs)) (map item_of (later_flat_items n v i items ++ ys))
+later_alike : (n v i : ℕ) (items : List Item) (xs ys : List FlatItem) →
+    Alike (map item_of xs) (map item_of ys) →
+    Alike (map item_of (later_flat_items n v i items ++ xs))
+    (map item_of (later_flat_items n v i items ++ ys))
 later_alike n v i [] xs ys a = a
 later_alike n v i (item ∷ items) xs ys a = inl (refl, later_alike n v (i + 1) items xs ys a)
 
-pub same_alike : (ts xs ys : List FlatItem) → Alike (map item_of xs) (map item_of ys) → Alike (map item_of (ts ++ xs)) (map item_of (ts ++ ys))
+pub same_alike : (ts xs ys : List FlatItem) → Alike (map item_of xs) (map item_of ys) →
+    Alike (map item_of (ts ++ xs)) (map item_of (ts ++ ys))
 same_alike [] xs ys a = a
 same_alike (t ∷ ts) xs ys a = inl (refl, same_alike ts xs ys a)
 
-variant_at : (variants : List Variant) (n : ℕ) (v : Variant) → AllByRecursion IsVariant variants → slice_get variants n ≡ Some v → IsVariant v
+variant_at : (variants : List Variant) (n : ℕ) (v : Variant) → AllByRecursion IsVariant variants →
+    slice_get variants n ≡ Some v → IsVariant v
 variant_at [] n v a e = absurd cc
 variant_at (x ∷ xs) zero v a e = let s : x ≡ v = same x v e in subst IsVariant s a.0
   where
@@ -230,36 +257,58 @@ variant_at (x ∷ xs) zero v a e = let s : x ≡ v = same x v e in subst IsVaria
 variant_at (x ∷ xs) (suc n) v a e = variant_at xs n v a.1 e
 
 -- two lists that begin with a box
-fronts_alike : (n v w : ℕ) (items others : List Item) (xs ys : List FlatItem) → BeginsWithBox items → BeginsWithBox others → Alike (map item_of (variant_flat_items n v items ++ xs)) (map item_of (variant_flat_items n w others ++ ys))
+fronts_alike : (n v w : ℕ) (items others : List Item) (xs ys : List FlatItem) → BeginsWithBox items →
+    BeginsWithBox others → Alike (map item_of (variant_flat_items n v items ++ xs))
+    (map item_of (variant_flat_items n w others ++ ys))
 fronts_alike n v w [] others xs ys b c = absurd b
 fronts_alike n v w (x ∷ items) [] xs ys b c = absurd c
 fronts_alike n v w (x ∷ items) (y ∷ others) xs ys b c = inr (b, c)
 
-picked_begins : (variants : List Variant) (pick : ℕ) (v : Variant) → AllByRecursion IsVariant variants → slice_get variants pick ≡ Some v → BeginsWithBox (picked_items (Choice variants) pick)
-picked_begins variants pick v each e = subst (λ (o : Option Variant). BeginsWithBox (unwrap_or (option_map (λ (x : Variant). x.items) o) [])) (sym e) (variant_at variants pick v each e).begins
+picked_begins : (variants : List Variant) (pick : ℕ) (v : Variant) → AllByRecursion IsVariant variants →
+    slice_get variants pick ≡ Some v → BeginsWithBox (picked_items (Choice variants) pick)
+picked_begins variants pick v each e =
+    subst (λ (o : Option Variant). BeginsWithBox (unwrap_or (option_map (λ (x : Variant). x.items) o) []))
+    (sym e) (variant_at variants pick v each e).begins
 
-first_begins : (variants : List Variant) → AllByRecursion IsVariant variants → 1 ≤ length variants → BeginsWithBox (picked_items (Choice variants) 0)
+first_begins : (variants : List Variant) → AllByRecursion IsVariant variants → 1 ≤ length variants →
+    BeginsWithBox (picked_items (Choice variants) 0)
 first_begins [] a h = absurd (omega arith)
 first_begins (v ∷ variants) a h = a.0.begins
 
 -- no picks, and picks of which the first names a variant
-pub picks_alike : (n : ℕ) (blocks : List Block) (y : ℕ) (p q : List ℕ) → AllByRecursion IsBlock blocks → length (picked_variants blocks (y ∷ p)) ≡ suc (length p) → Alike (map item_of (flat_items_from n blocks [])) (map item_of (flat_items_from n blocks (y ∷ q)))
+pub picks_alike : (n : ℕ) (blocks : List Block) (y : ℕ) (p q : List ℕ) → AllByRecursion IsBlock blocks →
+    length (picked_variants blocks (y ∷ p)) ≡ suc (length p) →
+    Alike (map item_of (flat_items_from n blocks [])) (map item_of (flat_items_from n blocks (y ∷ q)))
 picks_alike n [] y p q a h = tt
 picks_alike n (One item ∷ blocks) y p q a h = inl (refl, picks_alike (n + 1) blocks y p q a.1 h)
 picks_alike n (Choice variants ∷ blocks) y p q a h =
     let v = pick_named variants blocks y p h in
-    fronts_alike n 0 y (picked_items (Choice variants) 0) (picked_items (Choice variants) y) (flat_items_from (n + 1) blocks []) (flat_items_from (n + 1) blocks q) (first_begins variants a.0.shape.each a.0.shape.some) (picked_begins variants y v.0 a.0.shape.each v.1)
+    fronts_alike n 0 y (picked_items (Choice variants) 0) (picked_items (Choice variants) y)
+    (flat_items_from (n + 1) blocks []) (flat_items_from (n + 1) blocks q)
+    (first_begins variants a.0.shape.each a.0.shape.some)
+    (picked_begins variants y v.0 a.0.shape.each v.1)
 
-each_drop : (n : ℕ) (blocks : List Block) → AllByRecursion IsBlock blocks → AllByRecursion IsBlock (drop n blocks)
+each_drop : (n : ℕ) (blocks : List Block) → AllByRecursion IsBlock blocks →
+    AllByRecursion IsBlock (drop n blocks)
 each_drop zero blocks a = a
 each_drop (suc n) [] a = tt
 each_drop (suc n) (x ∷ xs) a = each_drop n xs a.1
 
-pub at_alike : (all : List Block) (at : Place) (y : ℕ) (p q : List ℕ) → AllByRecursion IsBlock all → length (picked_variants (blocks_at all at) (y ∷ p)) ≡ suc (length p) → Alike (map item_of (flat_items_at all at [])) (map item_of (flat_items_at all at (y ∷ q)))
+pub at_alike : (all : List Block) (at : Place) (y : ℕ) (p q : List ℕ) → AllByRecursion IsBlock all →
+    length (picked_variants (blocks_at all at) (y ∷ p)) ≡ suc (length p) →
+    Alike (map item_of (flat_items_at all at [])) (map item_of (flat_items_at all at (y ∷ q)))
 at_alike all at y p q a h = by (at.index == 0) h
   where
-    by : (b : Bool) → length (picked_variants (drop (if b then at.block else at.block + 1) all) (y ∷ p)) ≡ suc (length p) →
-        Alike (map item_of (if b then flat_items_from at.block (drop at.block all) [] else drop at.index (variant_flat_items at.block at.variant (items_around all at)) ++ flat_items_from (at.block + 1) (drop (at.block + 1) all) []))
-        (map item_of (if b then flat_items_from at.block (drop at.block all) (y ∷ q) else drop at.index (variant_flat_items at.block at.variant (items_around all at)) ++ flat_items_from (at.block + 1) (drop (at.block + 1) all) (y ∷ q)))
+    by : (b : Bool) → length (picked_variants (drop (if b then at.block else at.block + 1) all) (y ∷ p))
+        ≡ suc (length p) →
+        Alike (map item_of (if b then flat_items_from at.block (drop at.block all) [] else drop at.index
+        (variant_flat_items at.block at.variant (items_around all at)) ++ flat_items_from (at.block + 1)
+        (drop (at.block + 1) all) []))
+        (map item_of (if b then flat_items_from at.block (drop at.block all) (y ∷ q) else drop at.index
+        (variant_flat_items at.block at.variant (items_around all at)) ++ flat_items_from (at.block + 1)
+        (drop (at.block + 1) all) (y ∷ q)))
     by true h = picks_alike at.block (drop at.block all) y p q (each_drop at.block all a) h
-    by false h = same_alike (drop at.index (variant_flat_items at.block at.variant (items_around all at))) (flat_items_from (at.block + 1) (drop (at.block + 1) all) []) (flat_items_from (at.block + 1) (drop (at.block + 1) all) (y ∷ q)) (picks_alike (at.block + 1) (drop (at.block + 1) all) y p q (each_drop (at.block + 1) all a) h)
+    by false h = same_alike (drop at.index (variant_flat_items at.block at.variant (items_around all at)))
+        (flat_items_from (at.block + 1) (drop (at.block + 1) all) [])
+        (flat_items_from (at.block + 1) (drop (at.block + 1) all) (y ∷ q))
+        (picks_alike (at.block + 1) (drop (at.block + 1) all) y p q (each_drop (at.block + 1) all a) h)

@@ -27,14 +27,18 @@ entry_zero [] slot = refl
 entry_zero (x ∷ xs) zero = refl
 entry_zero (x ∷ xs) (suc n) = entry_zero xs n
 
-pub entry_less : (f g : ℕ → ℕ) (xs : List ℕ) (slot : ℕ) → ((number : ℕ) → f number ≤ g number) → entry (map f xs) slot ≤ entry (map g xs) slot
+pub entry_less : (f g : ℕ → ℕ) (xs : List ℕ) (slot : ℕ) → ((number : ℕ) → f number ≤ g number) →
+    entry (map f xs) slot ≤ entry (map g xs) slot
 entry_less f g [] slot h = omega arith
 entry_less f g (x ∷ xs) zero h = h x
 entry_less f g (x ∷ xs) (suc n) h = entry_less f g xs n h
 
 -- where a column that fits starts at a place of the galley, it ends at its start or at a place behind it
-pub fit_ends : (doc : Document) (it : ColumnContext) → it.document ≡ doc → AllByRecursion IsBlock doc.blocks → IsPlace doc.blocks it.column.from → does_fit it ≡ true → (it.column.to ≡ it.column.from) ⊎ IsPast doc.blocks it.column.from it.column.to
-fit_ends doc it e a p h = subst (λ (x : Document). (it.column.to ≡ it.column.from) ⊎ IsPast x.blocks it.column.from it.column.to) e (by (size_of it) refl h)
+pub fit_ends : (doc : Document) (it : ColumnContext) → it.document ≡ doc → AllByRecursion IsBlock doc.blocks →
+    IsPlace doc.blocks it.column.from → does_fit it ≡ true →
+    (it.column.to ≡ it.column.from) ⊎ IsPast doc.blocks it.column.from it.column.to
+fit_ends doc it e a p h = subst (λ (x : Document). (it.column.to ≡ it.column.from)
+    ⊎ IsPast x.blocks it.column.from it.column.to) e (by (size_of it) refl h)
   where
     a' : AllByRecursion IsBlock it.document.blocks
     a' = subst (λ (x : Document). AllByRecursion IsBlock x.blocks) (sym e) a
@@ -42,9 +46,13 @@ fit_ends doc it e a p h = subst (λ (x : Document). (it.column.to ≡ it.column.
     p' : IsPlace it.document.blocks it.column.from
     p' = subst (λ (x : Document). IsPlace x.blocks it.column.from) (sym e) p
 
-    by : (o : Option ℕ) → o ≡ size_of it → option_map_or (λ (n : ℕ). (fronts (flat_items_of it) n == length it.column.picks) && (length (column_variants it) == length it.column.picks)) o false ≡ true → (it.column.to ≡ it.column.from) ⊎ IsPast it.document.blocks it.column.from it.column.to
+    by : (o : Option ℕ) → o ≡ size_of it →
+        option_map_or (λ (n : ℕ). (fronts (flat_items_of it) n == length it.column.picks)
+        && (length (column_variants it) == length it.column.picks)) o false ≡ true →
+        (it.column.to ≡ it.column.from) ⊎ IsPast it.document.blocks it.column.from it.column.to
     by None q t = absurd cc
-    by (Some n) q t = ends_at it.document.blocks it.column.from it.column.to it.column.picks n a' p' (eq_true _ _ (both_of (fronts (flat_items_of it) n == length it.column.picks) _ t).1) (sym q)
+    by (Some n) q t = ends_at it.document.blocks it.column.from it.column.to it.column.picks n a' p'
+        (eq_true _ _ (both_of (fronts (flat_items_of it) n == length it.column.picks) _ t).1) (sym q)
 
 pub start_place : (blocks : List Block) → AllByRecursion IsBlock blocks → IsPlace blocks (place 0 0 0)
 start_place [] a = record { within = inl refl; front = λ z. refl }
@@ -65,16 +73,20 @@ sum_take f (suc n) (x ∷ xs) =
     omega arith
 
 -- no place has more callouts before it than there are
-pub few_in_all : (blocks : List Block) → AllByRecursion IsBlock blocks → (number : ℕ) (at : Place) → length (sizes_of number (items_before blocks at)) ≤ length (sizes_of number (flat blocks []))
+pub few_in_all : (blocks : List Block) → AllByRecursion IsBlock blocks → (number : ℕ) (at : Place) →
+    length (sizes_of number (items_before blocks at)) ≤ length (sizes_of number (flat blocks []))
 few_in_all blocks a number at = by (slice_get blocks at.block) refl
   where
     flat_count : length (sizes_of number (flat blocks [])) ≡ sum_by (block_inserts number) blocks
     flat_count = inserted_flat number 0 blocks
 
-    before : length (sizes_of number (items_before blocks at)) ≡ sum_by (block_inserts number) (take at.block blocks) + (if at.index == 0 then 0 else inserted number (take at.index (items_around blocks at)))
+    before : length (sizes_of number (items_before blocks at)) ≡ sum_by (block_inserts number)
+        (take at.block blocks) + (if at.index == 0 then 0 else inserted number
+        (take at.index (items_around blocks at)))
     before = count_before number blocks at
 
-    none : (t : Bool) (items : List Item) → items ≡ [] → (if t then 0 else inserted number (take at.index items)) ≡ 0
+    none : (t : Bool) (items : List Item) → items ≡ [] →
+        (if t then 0 else inserted number (take at.index items)) ≡ 0
     none true items e = refl
     none false items e = ap (λ (xs : List Item). inserted number (take at.index xs)) e ∙ empty at.index
       where
@@ -82,17 +94,27 @@ few_in_all blocks a number at = by (slice_get blocks at.block) refl
         empty zero = refl
         empty (suc n) = refl
 
-    by : (o : Option Block) → o ≡ slice_get blocks at.block → length (sizes_of number (items_before blocks at)) ≤ length (sizes_of number (flat blocks []))
+    by : (o : Option Block) → o ≡ slice_get blocks at.block →
+        length (sizes_of number (items_before blocks at)) ≤ length (sizes_of number (flat blocks []))
     by None e =
-        let z : (if at.index == 0 then 0 else inserted number (take at.index (items_around blocks at))) ≡ 0 = none (at.index == 0) (items_around blocks at) (none_around blocks at.block at.variant at.index (sym e)) in
-        let s : sum_by (block_inserts number) (take at.block blocks) ≤ sum_by (block_inserts number) blocks = sum_take (block_inserts number) at.block blocks in
+        let z : (if at.index == 0 then 0 else inserted number (take at.index (items_around blocks at))) ≡ 0 =
+        none (at.index == 0) (items_around blocks at)
+        (none_around blocks at.block at.variant at.index (sym e)) in
+        let s : sum_by (block_inserts number) (take at.block blocks) ≤ sum_by (block_inserts number) blocks =
+        sum_take (block_inserts number) at.block blocks in
         omega (arith, before, flat_count)
     by (Some b) e =
         let l : at.block < length blocks = slice_get_within blocks at.block b (sym e) in
-        let s : sum_by (block_inserts number) (take at.block blocks) + block_inserts number b ≤ sum_by (block_inserts number) (take (length blocks) blocks) = sum_more (block_inserts number) blocks at.block (length blocks) b l (sym e) in
-        let t : sum_by (block_inserts number) (take (length blocks) blocks) ≡ sum_by (block_inserts number) blocks = ap (sum_by (block_inserts number)) (take_all blocks) in
-        let k : (if at.index == 0 then 0 else inserted number (take at.index (items_around blocks at))) ≤ block_inserts number b = part_few number blocks at b (block_at number blocks at.block b a (sym e)) (sym e) in
+        let s : sum_by (block_inserts number) (take at.block blocks) + block_inserts number b
+        ≤ sum_by (block_inserts number) (take (length blocks) blocks) =
+        sum_more (block_inserts number) blocks at.block (length blocks) b l (sym e) in
+        let t : sum_by (block_inserts number) (take (length blocks) blocks) ≡ sum_by (block_inserts number)
+        blocks = ap (sum_by (block_inserts number)) (take_all blocks) in
+        let k : (if at.index == 0 then 0 else inserted number (take at.index (items_around blocks at)))
+        ≤ block_inserts number b = part_few number blocks at b
+        (block_at number blocks at.block b a (sym e)) (sym e) in
         omega (arith, before, flat_count)
 
-pub called_total : (doc : Document) → AllByRecursion IsBlock doc.blocks → (number : ℕ) (at : Place) → length (sizes_of number (items_before doc.blocks at)) ≤ length (sizes_of number (flat doc.blocks []))
+pub called_total : (doc : Document) → AllByRecursion IsBlock doc.blocks → (number : ℕ) (at : Place) →
+    length (sizes_of number (items_before doc.blocks at)) ≤ length (sizes_of number (flat doc.blocks []))
 called_total doc a number at = few_in_all doc.blocks a number at

@@ -7,3 +7,4 @@ pub mod Splits
 pub mod Steps
 pub mod Alike
 pub mod Contracts
+pub mod Counted

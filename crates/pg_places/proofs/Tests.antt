@@ -33,7 +33,9 @@ same_place a b h =
     let r : a.index ≡ b.index = eq_true a.index b.index t.1 in
     make a.block a.variant a.index b.block b.variant b.index p q r
   where
-    make : (b v i b' v' i' : ℕ) → b ≡ b' → v ≡ v' → i ≡ i' → ◌≡◌ {A = Place} (record { block = b; variant = v; index = i }) (record { block = b'; variant = v'; index = i' })
+    make : (b v i b' v' i' : ℕ) → b ≡ b' → v ≡ v' → i ≡ i' →
+        ◌≡◌ {A = Place} (record { block = b; variant = v; index = i })
+        (record { block = b'; variant = v'; index = i' })
     make b v i b' v' i' p q r = cc
 
 pub less_of : (a b : ℕ) → a < b → nat_lt a b ≡ true
@@ -43,7 +45,9 @@ pub not_less : (a b : ℕ) → nat_lt a b ≡ false → b ≤ a
 not_less a b h = grind (arith, nat_tests)
 
 pub place_refl : (a : Place) → is_same_place a a ≡ true
-place_refl a = both ((a.block == a.block) && (a.variant == a.variant)) (a.index == a.index) (both (a.block == a.block) (a.variant == a.variant) (eq_refl a.block) (eq_refl a.variant)) (eq_refl a.index)
+place_refl a = both ((a.block == a.block) && (a.variant == a.variant)) (a.index == a.index)
+    (both (a.block == a.block) (a.variant == a.variant) (eq_refl a.block) (eq_refl a.variant))
+    (eq_refl a.index)
 
 true_of : (b : Bool) → T b → b ≡ true
 true_of true t = refl

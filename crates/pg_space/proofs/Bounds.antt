@@ -49,14 +49,16 @@ sizes_few : (number : ℕ) (items : List Item) → length (sizes_of number items
 sizes_few number [] = omega arith
 sizes_few number (item ∷ items) = by (insert_size number item) (sizes_few number items)
   where
-    by : (o : Option ℤ) → length (sizes_of number items) ≤ length items → length (cons_option o (sizes_of number items)) ≤ suc (length items)
+    by : (o : Option ℤ) → length (sizes_of number items) ≤ length items →
+        length (cons_option o (sizes_of number items)) ≤ suc (length items)
     by None h = omega arith
     by (Some z) h = omega arith
 
 inserts_few : (number : ℕ) (blocks : List Block) → sum_by (block_inserts number) blocks ≤ item_count blocks
 inserts_few number [] = omega arith
 inserts_few number (b ∷ blocks) =
-    let s : sum_by (block_inserts number) (b ∷ blocks) ≡ block_inserts number b + sum_by (block_inserts number) blocks = sum_by-cons (block_inserts number) b blocks in
+    let s : sum_by (block_inserts number) (b ∷ blocks) ≡ block_inserts number b
+    + sum_by (block_inserts number) blocks = sum_by-cons (block_inserts number) b blocks in
     let t : item_count (b ∷ blocks) ≡ block_size b + item_count blocks = sum_by-cons block_size b blocks in
     let k : block_inserts number b ≤ length (picked_items b 0) = sizes_few number (picked_items b 0) in
     let l : length (picked_items b 0) ≤ block_size b = picked_size b 0 in
@@ -71,18 +73,23 @@ entry_map_few f n (x ∷ xs) (suc k) h = entry_map_few f n xs k h
 slot_among : (f k i : ℕ) → i < k → Among (f + i) (range_with_len f k)
 slot_among f zero i h = absurd (omega arith)
 slot_among f (suc k) zero h = inl (let e : f ≡ f + 0 = omega arith in e)
-slot_among f (suc k) (suc i) h = inr (let e : f + 1 + i ≡ f + suc i = omega arith in subst (λ (z : ℕ). Among z (range_with_len (f + 1) k)) e (slot_among (f + 1) k i (omega arith)))
+slot_among f (suc k) (suc i) h =
+    inr (let e : f + 1 + i ≡ f + suc i = omega arith in
+    subst (λ (z : ℕ). Among z (range_with_len (f + 1) k)) e (slot_among (f + 1) k i (omega arith)))
 
 filter_few : (p : ℕ → Bool) (xs : List ℕ) → length (filter p xs) ≤ length xs
 filter_few p [] = omega arith
 filter_few p (x ∷ xs) = by (p x) (filter_few p xs)
   where
-    by : (b : Bool) → length (filter p xs) ≤ length xs → length (cond b (x ∷ filter p xs) (filter p xs)) ≤ suc (length xs)
+    by : (b : Bool) → length (filter p xs) ≤ length xs →
+        length (cond b (x ∷ filter p xs) (filter p xs)) ≤ suc (length xs)
     by true h = omega arith
     by false h = omega arith
 
 classes_few : (style : StyleValue) → length (float_numbers style) ≤ 255
-classes_few style = filter_few (λ number. option_map_or (λ (kind : Area × List ℕ). true) (float_class style number) false) (range_with_len 0 255)
+classes_few style = filter_few
+    (λ number. option_map_or (λ (kind : Area × List ℕ). true) (float_class style number) false)
+    (range_with_len 0 255)
 
 -- ---- the bounds
 
@@ -102,15 +109,24 @@ module _ (g : GalleyValue) (s : StyleValue) (range : AreInRange g s) where
           let l : length u.placed ≡ length (float_numbers s) = own.placed in
           let a : Among (0 + i) (slots s) = slot_among 0 (length (float_numbers s)) i (omega arith) in
           let z : 0 + i ≡ i = omega arith in
-          let k : entry u.placed i ≤ entry (called g.blocks s u.place) i = le_true _ _ (all_at (λ (slot : ℕ). nat_le (entry u.placed slot) (entry (called g.blocks s u.place) slot)) (slots s) i own.called (subst (λ (n : ℕ). Among n (slots s)) z a)) in
-          let m : entry (called g.blocks s u.place) i ≤ 1048576 = entry_map_few (λ (number : ℕ). length (sizes_of number (items_before g.blocks u.place))) 1048576 (float_numbers s) i few in
+          let k : entry u.placed i ≤ entry (called g.blocks s u.place) i =
+          le_true _ _ (all_at (λ (slot : ℕ). nat_le (entry u.placed slot)
+          (entry (called g.blocks s u.place) slot)) (slots s) i own.called
+          (subst (λ (n : ℕ). Among n (slots s)) z a)) in
+          let m : entry (called g.blocks s u.place) i ≤ 1048576 =
+          entry_map_few (λ (number : ℕ). length (sizes_of number (items_before g.blocks u.place))) 1048576
+          (float_numbers s) i few in
           omega arith
         where
           few : (number : ℕ) → length (sizes_of number (items_before g.blocks u.place)) ≤ 1048576
           few number =
-              let a : length (sizes_of number (items_before g.blocks u.place)) ≤ length (sizes_of number (flat g.blocks [])) = called_total (document g s) range.blocks number u.place in
-              let b : length (sizes_of number (flat g.blocks [])) ≡ sum_by (block_inserts number) g.blocks = inserted_flat number 0 g.blocks in
-              let c : sum_by (block_inserts number) g.blocks ≤ item_count g.blocks = inserts_few number g.blocks in
+              let a : length (sizes_of number (items_before g.blocks u.place))
+              ≤ length (sizes_of number (flat g.blocks [])) =
+              called_total (document g s) range.blocks number u.place in
+              let b : length (sizes_of number (flat g.blocks [])) ≡ sum_by (block_inserts number) g.blocks =
+              inserted_flat number 0 g.blocks in
+              let c : sum_by (block_inserts number) g.blocks ≤ item_count g.blocks =
+              inserts_few number g.blocks in
               let d : item_count g.blocks ≤ 1048576 = range.limit in
               omega arith
 
@@ -133,9 +149,11 @@ module _ (g : GalleyValue) (s : StyleValue) (range : AreInRange g s) where
     where
       by : Past from to → near from < near to
       by (inl l) = let h : from.index < 1048576 = index_few from p in omega arith
-      by (inr r) = let e : from.block ≡ to.block = r.block in let h : from.index < to.index = r.index in omega arith
+      by (inr r) = let e : from.block ≡ to.block = r.block in let h : from.index < to.index = r.index in
+          omega arith
 
-  far_climbs : (from to : Place) → IsPlace g.blocks from → IsPast g.blocks from to → far g.blocks from < far g.blocks to
+  far_climbs : (from to : Place) → IsPlace g.blocks from → IsPast g.blocks from to →
+      far g.blocks from < far g.blocks to
   far_climbs from to p q = far_rises g.blocks from to p q (past_within g.blocks from to q)
 
   blocks_few : (blocks : List Block) → AllByRecursion IsBlock blocks → length blocks ≤ item_count blocks
@@ -150,7 +168,8 @@ module _ (g : GalleyValue) (s : StyleValue) (range : AreInRange g s) where
       some (One item) h = omega arith
       some (Choice variants) h =
           let l : 0 < length (picked_items (Choice variants) 0) = begins variants h in
-          let m : length (picked_items (Choice variants) 0) ≤ block_size (Choice variants) = picked_size (Choice variants) 0 in
+          let m : length (picked_items (Choice variants) 0) ≤ block_size (Choice variants) =
+          picked_size (Choice variants) 0 in
           omega arith
 
   rank_low : (u : State) → IsState (document g s) u → rank (document g s) u < 2 ^ 64
@@ -178,46 +197,77 @@ module _ (g : GalleyValue) (s : StyleValue) (range : AreInRange g s) where
       last false n h = omega arith
 
   -- a column has no more picks than items
-  picks_few : (u : State) (m : PageMove) (v : State) (c : ℤ) → IsState (document g s) u → Follow (document g s) u m v c → far g.blocks u.place + length (column_variants (context_in (document g s) u m)) ≤ far g.blocks m.column.to
+  picks_few : (u : State) (m : PageMove) (v : State) (c : ℤ) → IsState (document g s) u →
+      Follow (document g s) u m v c →
+      far g.blocks u.place + length (column_variants (context_in (document g s) u m))
+      ≤ far g.blocks m.column.to
   picks_few u m v c own f =
       let e : far g.blocks m.column.from ≡ far g.blocks u.place = ap (far g.blocks) from in
-      let k : far g.blocks m.column.from + length (column_variants (context_in (document g s) u m)) ≤ far g.blocks m.column.to = by (size_of (context_in (document g s) u m)) refl f.stands.rules.fits in
+      let k : far g.blocks m.column.from + length (column_variants (context_in (document g s) u m))
+      ≤ far g.blocks m.column.to = by (size_of (context_in (document g s) u m)) refl
+      f.stands.rules.fits in
       omega arith
     where
       from : m.column.from ≡ u.place
       from = same_place m.column.from u.place f.starts
 
-      by : (o : Option ℕ) → o ≡ size_of (context_in (document g s) u m) → option_map_or (λ n. (fronts (flat_items_of (context_in (document g s) u m)) n == length m.column.picks) && (length (column_variants (context_in (document g s) u m)) == length m.column.picks)) o false ≡ true → far g.blocks m.column.from + length (column_variants (context_in (document g s) u m)) ≤ far g.blocks m.column.to
+      by : (o : Option ℕ) → o ≡ size_of (context_in (document g s) u m) →
+          option_map_or (λ n. (fronts (flat_items_of (context_in (document g s) u m)) n == length
+          m.column.picks) && (length (column_variants (context_in (document g s) u m)) == length
+          m.column.picks)) o false ≡ true →
+          far g.blocks m.column.from + length (column_variants (context_in (document g s) u m))
+          ≤ far g.blocks m.column.to
       by None q t = absurd cc
       by (Some n) q t =
-          let p = both_of (fronts (flat_items_of (context_in (document g s) u m)) n == length m.column.picks) _ t in
-          let a : fronts (flat_items_of (context_in (document g s) u m)) n ≡ length m.column.picks = eq_true _ _ p.0 in
-          let b : length (column_variants (context_in (document g s) u m)) ≡ length m.column.picks = eq_true _ _ p.1 in
-          let h : fronts (flat_items_of (context_in (document g s) u m)) n ≤ n = fronts_few (flat_items_of (context_in (document g s) u m)) n in
-          let r : far g.blocks m.column.from + n ≤ far g.blocks m.column.to = steps_far g.blocks m.column.from m.column.to m.column.picks n (subst (IsPlace g.blocks) (sym from) own.place) (sym q) in
+          let p = both_of (fronts (flat_items_of (context_in (document g s) u m)) n == length m.column.picks)
+          _ t in
+          let a : fronts (flat_items_of (context_in (document g s) u m)) n ≡ length m.column.picks =
+          eq_true _ _ p.0 in
+          let b : length (column_variants (context_in (document g s) u m)) ≡ length m.column.picks =
+          eq_true _ _ p.1 in
+          let h : fronts (flat_items_of (context_in (document g s) u m)) n ≤ n =
+          fronts_few (flat_items_of (context_in (document g s) u m)) n in
+          let r : far g.blocks m.column.from + n ≤ far g.blocks m.column.to =
+          steps_far g.blocks m.column.from m.column.to m.column.picks n
+          (subst (IsPlace g.blocks) (sym from) own.place) (sym q) in
           omega arith
 
-  cheap_step : (b b' : Bool) (cost x y n k p q : ℕ) → cost ≤ 700000000 + 100000000 * (n + k) → x + n ≤ y → k + p ≡ q → 2 * (x + p) + (if b then 1 else 0) < 2 * (y + q) + (if b' then 1 else 0) →
-      cost + 1000000000 * (2 * (x + p) + (if b then 1 else 0)) ≤ 1000000000 * (2 * (y + q) + (if b' then 1 else 0))
+  cheap_step : (b b' : Bool) (cost x y n k p q : ℕ) → cost ≤ 700000000 + 100000000 * (n + k) → x + n ≤ y →
+      k + p ≡ q → 2 * (x + p) + (if b then 1 else 0) < 2 * (y + q) + (if b' then 1 else 0) →
+      cost + 1000000000 * (2 * (x + p) + (if b then 1 else 0))
+      ≤ 1000000000 * (2 * (y + q) + (if b' then 1 else 0))
   cheap_step true true cost x y n k p q h i j l = omega arith
   cheap_step true false cost x y n k p q h i j l = omega arith
   cheap_step false true cost x y n k p q h i j l = omega arith
   cheap_step false false cost x y n k p q h i j l = omega arith
 
-  heavier : (u : State) (m : PageMove) (v : State) (c : ℤ) → IsState (document g s) u → Follow (document g s) u m v c → ranked (far g.blocks) u < ranked (far g.blocks) v
+  heavier : (u : State) (m : PageMove) (v : State) (c : ℤ) → IsState (document g s) u →
+      Follow (document g s) u m v c → ranked (far g.blocks) u < ranked (far g.blocks) v
   heavier = rises (document g s) range.blocks range.style_in.columns_to (far g.blocks) far_climbs
 
-  cheap : (u : State) (m : PageMove) (v : State) (c : ℤ) → IsState (document g s) u → Follow (document g s) u m v c → nat_abs c + 1000000000 * ranked (far g.blocks) u ≤ 1000000000 * ranked (far g.blocks) v
+  cheap : (u : State) (m : PageMove) (v : State) (c : ℤ) → IsState (document g s) u →
+      Follow (document g s) u m v c →
+      nat_abs c + 1000000000 * ranked (far g.blocks) u ≤ 1000000000 * ranked (far g.blocks) v
   cheap u m v c own f =
-      subst (λ (x : State). nat_abs c + 1000000000 * ranked (far g.blocks) u ≤ 1000000000 * ranked (far g.blocks) x) (sym f.leads)
-      (cheap_step (u.column == 1) ((next_state (document g s) u m).column == 1) (nat_abs c) (far g.blocks u.place) (far g.blocks m.column.to) (length (column_variants (context_in (document g s) u m))) (length (added (document g s) u.placed m)) (total_count u.placed) (total_count (placed_after s u.placed m))
-      (subst (λ (z : ℤ). nat_abs z ≤ 700000000 + 100000000 * (length (column_variants (context_in (document g s) u m)) + length (added (document g s) u.placed m))) (sym f.pays)
-      (cost_few (context_in (document g s) u m) range.style_in u.column u.fit (age_in (document g s) u) (added (document g s) u.placed m) (picked_limits _ m.column.picks (limits m.column.from))))
+      subst (λ (x : State). nat_abs c + 1000000000 * ranked (far g.blocks) u
+      ≤ 1000000000 * ranked (far g.blocks) x) (sym f.leads)
+      (cheap_step (u.column == 1) ((next_state (document g s) u m).column == 1) (nat_abs c)
+      (far g.blocks u.place) (far g.blocks m.column.to)
+      (length (column_variants (context_in (document g s) u m)))
+      (length (added (document g s) u.placed m)) (total_count u.placed)
+      (total_count (placed_after s u.placed m))
+      (subst (λ (z : ℤ). nat_abs z ≤ 700000000
+      + 100000000 * (length (column_variants (context_in (document g s) u m))
+      + length (added (document g s) u.placed m))) (sym f.pays)
+      (cost_few (context_in (document g s) u m) range.style_in u.column u.fit (age_in (document g s) u)
+      (added (document g s) u.placed m) (picked_limits _ m.column.picks (limits m.column.from))))
       (picks_few u m v c own f)
       (added_long (document g s) u.placed m own.placed)
-      (subst (λ (x : State). ranked (far g.blocks) u < ranked (far g.blocks) x) f.leads (heavier u m v c own f)))
+      (subst (λ (x : State). ranked (far g.blocks) u < ranked (far g.blocks) x) f.leads
+      (heavier u m v c own f)))
     where
-      dropped : (n : ℕ) (blocks : List Block) → AllByRecursion IsBlock blocks → AllByRecursion IsBlock (drop n blocks)
+      dropped : (n : ℕ) (blocks : List Block) → AllByRecursion IsBlock blocks →
+          AllByRecursion IsBlock (drop n blocks)
       dropped zero blocks a = a
       dropped (suc n) [] a = tt
       dropped (suc n) (x ∷ xs) a = dropped n xs a.1

@@ -43,30 +43,46 @@ use Rattle.pg_table.proofs.Narrow.{narrow_lawful, bettered}
 use Rattle.pg_table.proofs.Runs.{own}
 
 -- best picks exist for each column that may follow
-pub best_exist : (doc : Document) (u : State) (m : PageMove) (v : State) (c : ℤ) → Follow doc u m v c → Instead (wide_meaning doc) (FollowBest doc) u m v c
-best_exist doc u m v c f = by_bool (is_text (context_in doc u m)) (λ t. instead_text doc u m v c f t) (λ n. instead_other doc u m v c f n)
+pub best_exist : (doc : Document) (u : State) (m : PageMove) (v : State) (c : ℤ) → Follow doc u m v c →
+    Instead (wide_meaning doc) (FollowBest doc) u m v c
+best_exist doc u m v c f = by_bool (is_text (context_in doc u m)) (λ t. instead_text doc u m v c f t)
+    (λ n. instead_other doc u m v c f n)
 
 module _ (g : GalleyValue) (s : StyleValue) (range : AreInRange g s) where
   pub best_lawful : Lawful is_same_key (page_meaning (document g s))
-  best_lawful = narrow_lawful is_same_key (wide_meaning (document g s)) (pages_lawful g s range) (FollowBest (document g s)) (best_narrower (document g s))
+  best_lawful = narrow_lawful is_same_key (wide_meaning (document g s)) (pages_lawful g s range)
+      (FollowBest (document g s)) (best_narrower (document g s))
 
-  pub best_betters : (r : Reached State PageMove) → IsRun (wide_meaning (document g s)) r → BetteredBy (wide_meaning (document g s)) (FollowBest (document g s)) r
-  best_betters r run = bettered is_same_key (wide_meaning (document g s)) (pages_lawful g s range) (FollowBest (document g s)) (best_narrower (document g s)) r.moves r.state r.cost run
+  pub best_betters : (r : Reached State PageMove) → IsRun (wide_meaning (document g s)) r →
+      BetteredBy (wide_meaning (document g s)) (FollowBest (document g s)) r
+  best_betters r run = bettered is_same_key (wide_meaning (document g s)) (pages_lawful g s range)
+      (FollowBest (document g s)) (best_narrower (document g s)) r.moves r.state r.cost run
 
   pub runs_are_beginnings : RunsAreBeginnings g s
-  runs_are_beginnings ms v c run = let p : IsPlanOfRun g s (facts g s range) (some g s range) ms v c = run_plan g s (facts g s range) (some g s range) ms v c run in record { columns = p.columns_are; prefix = p.prefix; state = p.state; cost = p.price }
+  runs_are_beginnings ms v c run = let p : IsPlanOfRun g s (facts g s range) (some g s range) ms v c =
+      run_plan g s (facts g s range) (some g s range) ms v c run in
+      record { columns = p.columns_are; prefix = p.prefix; state = p.state; cost = p.price }
 
   pub beginnings_are_runs : BeginningsAreRuns g s
-  beginnings_are_runs plan prefix = record { run = prefix_run g s (facts g s range) (some g s range) plan prefix; plan_is = plan_is g s (facts g s range) (some g s range) plan prefix }
+  beginnings_are_runs plan prefix =
+      record {
+        run = prefix_run g s (facts g s range) (some g s range) plan prefix;
+        plan_is =
+            plan_is g s (facts g s range) (some g s range) plan prefix;
+      }
 
   -- ---- the better goes on
 
   prefix_own : (plan : Pagination) → Prefix g s plan → IsState (document g s) (state_of g s plan)
-  prefix_own plan prefix = own is_same_key (wide_meaning (document g s)) (pages_lawful g s range) (columns plan) (state_of g s plan) (cost g s plan) (prefix_run g s (facts g s range) (some g s range) plan prefix)
+  prefix_own plan prefix = own is_same_key (wide_meaning (document g s)) (pages_lawful g s range)
+      (columns plan) (state_of g s plan) (cost g s plan)
+      (prefix_run g s (facts g s range) (some g s range) plan prefix)
 
   pub better_go_on : BetterGoOn g s
   better_go_on a b m v c pa pb better follow =
-      let t : FollowsToo (document g s) (state_of g s a) m v c = no_worse_follow g s range (state_of g s a) (state_of g s b) m v c (prefix_own b pb) better.state follow in
+      let t : FollowsToo (document g s) (state_of g s a) m v c =
+      no_worse_follow g s range (state_of g s a) (state_of g s b) m v c (prefix_own b pb) better.state
+      follow in
       let l : IsPushed g s a m t.to t.cost = pushed g s range a m t.to t.cost pa t.follow in
       let r : IsPushed g s b m v c = pushed g s range b m v c pb follow in
       record {
@@ -77,21 +93,30 @@ module _ (g : GalleyValue) (s : StyleValue) (range : AreInRange g s) where
         left_prefix = l.prefix;
         right_prefix = r.prefix;
         better = record {
-          state = subst (λ (x : State). is_no_worse x (state_of g s r.longer) ≡ true) (sym l.state) (subst (λ (x : State). is_no_worse t.to x ≡ true) (sym r.state) t.no_worse);
-          cost = dear (cost g s a) (cost g s b) t.cost c (cost g s l.longer) (cost g s r.longer) l.longer r.longer l.columns r.columns l.cost r.cost t.cheap better.cost;
+          state = subst (λ (x : State). is_no_worse x (state_of g s r.longer) ≡ true) (sym l.state)
+              (subst (λ (x : State). is_no_worse t.to x ≡ true) (sym r.state) t.no_worse);
+          cost = dear (cost g s a) (cost g s b) t.cost c (cost g s l.longer) (cost g s r.longer) l.longer
+              r.longer l.columns r.columns l.cost r.cost t.cheap better.cost;
         };
       }
     where
-      then_equal_same : (ms ns : List PageMove) → slice_cmp column_cmp (m ∷ ms) (m ∷ ns) ≡ slice_cmp column_cmp ms ns
-      then_equal_same ms ns = ap (λ o. ordering_then o (slice_cmp column_cmp ms ns)) (tied_itself columns_total m)
+      then_equal_same : (ms ns : List PageMove) →
+          slice_cmp column_cmp (m ∷ ms) (m ∷ ns) ≡ slice_cmp column_cmp ms ns
+      then_equal_same ms ns = ap (λ o. ordering_then o (slice_cmp column_cmp ms ns))
+          (tied_itself columns_total m)
 
-      same_order : (p q : Pagination) → columns p ≡ m ∷ columns a → columns q ≡ m ∷ columns b → plan_cmp p q ≡ plan_cmp a b
-      same_order p q e f = ap (λ ns. slice_cmp column_cmp ns (columns q)) e ∙ (ap (slice_cmp column_cmp (m ∷ columns a)) f ∙ then_equal_same (columns a) (columns b))
+      same_order : (p q : Pagination) → columns p ≡ m ∷ columns a → columns q ≡ m ∷ columns b →
+          plan_cmp p q ≡ plan_cmp a b
+      same_order p q e f = ap (λ ns. slice_cmp column_cmp ns (columns q)) e
+          ∙ (ap (slice_cmp column_cmp (m ∷ columns a)) f ∙ then_equal_same (columns a) (columns b))
 
       split_le : (k l : ℤ) → k ≤ℤ l → (k <ℤ l) ⊎ (k ≡ l)
-      split_le k l h = by_ranked (k <ℤ l) (k ≡ l) (l <ℤ k) (int_cmp k l) (int_ranked k l (int_cmp k l) refl) (λ _ p. inl p) (λ _ p. inr p) (λ _ p. absurd (omega (arith, ints)))
+      split_le k l h = by_ranked (k <ℤ l) (k ≡ l) (l <ℤ k) (int_cmp k l) (int_ranked k l (int_cmp k l) refl)
+          (λ _ p. inl p) (λ _ p. inr p) (λ _ p. absurd (omega (arith, ints)))
 
-      dear : (x y j k d e : ℤ) (p q : Pagination) → columns p ≡ m ∷ columns a → columns q ≡ m ∷ columns b → d ≡ x +ℤ j → e ≡ y +ℤ k → j ≤ℤ k → (x <ℤ y) ⊎ ((x ≡ y) × (is_gt (plan_cmp a b) ≡ false)) → (d <ℤ e) ⊎ ((d ≡ e) × (is_gt (plan_cmp p q) ≡ false))
+      dear : (x y j k d e : ℤ) (p q : Pagination) → columns p ≡ m ∷ columns a → columns q ≡ m ∷ columns b →
+          d ≡ x +ℤ j → e ≡ y +ℤ k → j ≤ℤ k → (x <ℤ y) ⊎ ((x ≡ y) × (is_gt (plan_cmp a b) ≡ false)) →
+          (d <ℤ e) ⊎ ((d ≡ e) × (is_gt (plan_cmp p q) ≡ false))
       dear x y j k d e p q cp cq h i l (inl u) = inl (omega (arith, ints))
       dear x y j k d e p q cp cq h i l (inr u) = elim (split_le j k l) [
         | inl w ↦ inl (let z : x ≡ y = u.0 in omega (arith, ints))
@@ -105,12 +130,14 @@ module _ (g : GalleyValue) (s : StyleValue) (range : AreInRange g s) where
     best_labels i e ms b at of =
         let same : e ≡ b.entry = some_same e b.entry (sym at ∙ b.is) in
         let of' : RunOf es b.entry ms = subst (λ (x : Entry State PageMove). RunOf es x ms) same of in
-        let r = solve_best g s (facts g s range) (some g s range) (pages_lawful g s range) (best_narrower (document g s)) es table i b (contains_at es i b.entry b.is) ms of' in
+        let r = solve_best g s (facts g s range) (some g s range) (pages_lawful g s range)
+        (best_narrower (document g s)) es table i b (contains_at es i b.entry b.is) ms of' in
         (r.0, r.1 ∙ ap (λ (x : Entry State PageMove). x.cost) (sym same))
 
     frontier : SortedLabelsAreFrontier g s es
     frontier labels p sorted = record {
-      rises = labels_rise es labels (states_apart g s (facts g s range) (some g s range) (pages_lawful g s range) (best_narrower (document g s)) es table) p sorted;
+      rises = labels_rise es labels (states_apart g s (facts g s range) (some g s range)
+          (pages_lawful g s range) (best_narrower (document g s)) es table) p sorted;
       complete = λ label. (to label, back label);
     }
       where
@@ -118,17 +145,23 @@ module _ (g : GalleyValue) (s : StyleValue) (range : AreInRange g s) where
         to label c = by (label_entry es labels label p c)
           where
             by : (e : Entry State PageMove) × (Contains es e × (label_of e ≡ label)) → IsLabel g s label
-            by (e, (among, is)) = subst (IsLabel g s) is (label_on g s (facts g s range) (some g s range) (pages_lawful g s range) (best_narrower (document g s)) es table e among)
+            by (e, (among, is)) = subst (IsLabel g s) is
+                (label_on g s (facts g s range) (some g s range) (pages_lawful g s range)
+                (best_narrower (document g s)) es table e among)
 
         back : (label : Label) → IsLabel g s label → Contains labels label
-        back label l = by (on_label g s (facts g s range) (some g s range) (pages_lawful g s range) (best_narrower (document g s)) es table label l)
+        back label l = by (on_label g s (facts g s range) (some g s range) (pages_lawful g s range)
+            (best_narrower (document g s)) es table label l)
           where
-            by : (e : Entry State PageMove) × (Contains es e × (record { state = e.state; cost = e.cost } ≡ label)) → Contains labels label
+            by : (e : Entry State PageMove)
+                × (Contains es e × (record { state = e.state; cost = e.cost } ≡ label)) →
+                Contains labels label
             by (e, (among, is)) = subst (Contains labels) is (entry_label es labels e p among)
 
     pub tells_all : TellsAll g s es
     tells_all = record {
       best = best_labels;
-      none = solve_none g s (facts g s range) (some g s range) (pages_lawful g s range) (best_narrower (document g s)) es table;
+      none = solve_none g s (facts g s range) (some g s range) (pages_lawful g s range)
+          (best_narrower (document g s)) es table;
       frontier = frontier;
     }

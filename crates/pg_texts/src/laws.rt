@@ -1,7 +1,7 @@
 //! Each law is the contract of a function that does nothing. Their premises are what the types of a
 //! galley and of a style keep.
 ghost use Rattle.pg_laws.specs.Ranges.{AreInRange};
-ghost use Rattle.pg_texts.specs.Texts.{ColumnsReadFlat, LegalHaveEachOnce, RulesReadTheFlatList};
+ghost use Rattle.pg_texts.specs.Texts.{CalloutsReadFlat, ColumnsReadFlat, LegalHaveEachOnce, RulesReadTheFlatList};
 
 use pg_list::Galley;
 use pg_style::Style;
@@ -17,9 +17,11 @@ pub fn legal_plans_have_each_once(galley: &Galley, style: &Style)
 /// Every column of a pagination whose columns fit reads from its own text what the one flat list
 /// of the galley, with all picks of the pagination, says between the column's places: its items and
 /// segments, the penalties of its breaks, which of them are forced, and what is spent. So each rule
-/// on a text column, its fitness and its demerits are those of that part of the flat list.
+/// on a text column, its fitness and its demerits are those of that part of the flat list; and the
+/// callouts before a column's end are the inserts that stand before it in the flat list.
 pub fn columns_read_the_flat_list(galley: &Galley, style: &Style)
     requires { AreInRange galley.now style.now }
     ensures reads { ColumnsReadFlat galley.now style.now }
     ensures rules { RulesReadTheFlatList galley.now style.now }
+    ensures callouts { CalloutsReadFlat galley.now style.now }
 {}
