@@ -4,7 +4,7 @@ use Rattle.pg_plan.specs.declared.pages.PageMove.{PageMove}
 use Rattle.pg_plan.specs.declared.pages.Column.{Column}
 use Rattle.pg_plan.specs.declared.pages.Page.{Page}
 use Rattle.pg_plan.specs.declared.pages.Pagination.{Pagination}
-use Rattle.pg_style.specs.declared.style.Style.{Style}
+use Rattle.pg_style.specs.Values.{StyleValue}
 use Rattle.pg_rules.specs.History.{next_column}
 
 abbrev pub page_with : ℕ → List ℕ → List Column → Page
@@ -15,9 +15,10 @@ add_column column [] = []
 add_column column (page ∷ pages) = page_with page.run page.wide (page.columns ++ column ∷ []) ∷ pages
 
 -- from the last page to the first
-abbrev pub pages_from : Style → List PageMove → List Page
+abbrev pub pages_from : StyleValue → List PageMove → List Page
 pages_from style [] = []
-pages_from style (m ∷ ms) = if next_column style ms == 1 then page_with m.run m.wide (m.column ∷ []) ∷ pages_from style ms else add_column m.column (pages_from style ms)
+pages_from style (m ∷ ms) = if next_column style ms == 1 then page_with m.run m.wide
+    (m.column ∷ []) ∷ pages_from style ms else add_column m.column (pages_from style ms)
 
-abbrev pub plan_of : Style → List PageMove → Pagination
+abbrev pub plan_of : StyleValue → List PageMove → Pagination
 plan_of style ms = record { pages = reverse (pages_from style ms) }

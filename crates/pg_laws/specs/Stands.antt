@@ -11,7 +11,8 @@ use Rattle.pg_rules.specs.States.{can_wait}
 -- the column may stand after these
 pub record StandsAfter (doc : Document) (m : PageMove) (ms : List PageMove) : Type 0 where
   pub starts : is_same_place m.column.from (place_of ms) ≡ true
-  pub stands : MayStand doc (next_column doc.style ms) (next_run doc.style ms) (placed_of doc.style ms) m (context doc m ms)
+  pub stands : MayStand doc (next_column doc.style ms) (next_run doc.style ms) (placed_of doc.style ms) m
+      (context doc m ms)
   pub near : is_near doc m ms ≡ true
 
 abbrev pub Stand : Document → List PageMove → Type 0

@@ -6,9 +6,9 @@ use Rattle.pg_list.specs.declared.item.Item.{Item}
 use Rattle.pg_list.specs.declared.item.Item.TheVariants.{Glue}
 use Rattle.pg_list.specs.declared.blocks.Block.{Block}
 use Rattle.pg_list.specs.Shapes.{is_box}
-use Rattle.pg_flat.specs.Badness.{page_badness, is_over}
+use Rattle.pg_flat.specs.Badness.{page_badness}
 use Rattle.pg_flat.specs.Break.{is_spent}
-use Rattle.pg_flat.specs.Totals.{total, trimmed, shrink}
+use Rattle.pg_flat.specs.Totals.{total, trimmed}
 use Rattle.pg_flat.specs.Whole.{square}
 use Rattle.pg_plan.specs.declared.pages.Column.{Column}
 use Rattle.pg_plan.specs.declared.pages.Page.{Page}
@@ -16,7 +16,7 @@ use Rattle.pg_plan.specs.declared.states.Side.TheVariants.{S}
 use Rattle.pg_style.specs.Values.{StyleValue}
 use Rattle.pg_rules.specs.Room.{Document}
 use Rattle.pg_scaled.specs.Scaled.{scaled_text}
-use Rattle.pg_plain.specs.Plain.{single_items, items_between, plain_move, plain_room}
+use Rattle.pg_plain.specs.Plain.{single_items, items_between, plain_move, plain_room, fits_between}
 use Rattle.pg_pages.specs.declared.columns.TextNumbers.{TextNumbers}
 use Rattle.pg_pages.specs.Words.{line, whole_text, counts_text}
 use Rattle.pg_pages.specs.Bodies.{plain_text, set_text}
@@ -81,13 +81,6 @@ plain_page_text doc number from to = text_with doc number (plain_page from to) (
 
 abbrev pub text_of_page : Document → ℕ → Page → List ℕ
 text_of_page doc number page = option_map_or (text_with doc number page) (slice_get page.columns 0) []
-
--- a column of these items is not over
-abbrev pub not_over : StyleValue → List Item → Bool
-not_over style items = not (is_over (total style.topskip style.maxdepth (trimmed items)) (shrink (trimmed items)) (plain_room style))
-
-abbrev pub fits_between : Document → ℕ → ℕ → Bool
-fits_between doc from to = not_over doc.style (items_between doc.blocks from to)
 
 -- the page is one column of text from one block to a later one, and is not over
 pub record IsPlainPage (doc : Document) (page : Page) : Type 0 where

@@ -14,15 +14,17 @@ ghost use Rattle.pg_sums.specs.AreSums.{AreSums};
 ghost use Rattle.pg_rules.specs.Legal.{document};
 ghost use Rattle.pg_plain.specs.Plain.{IsPlainStyle, plain_room, single_items};
 ghost use Rattle.pg_pages.specs.Words.{whole_text};
-ghost use Rattle.pg_pages.specs.PlainText.{numbers_text, sizes_text, costs_text, demerits_line, own_items, own_text, front_is_box, not_over, numbers_from, fits_between, numbers_between as numbers_of_column};
+ghost use Rattle.pg_pages.specs.PlainText.{numbers_text, sizes_text, costs_text, demerits_line, own_items, own_text, front_is_box, numbers_from, numbers_between as numbers_of_column};
+ghost use Rattle.pg_plain.specs.Plain.{not_over, fits_between};
 
 use crate::bodies::{print_body, print_set};
 use crate::words::print_whole;
 use pg_list::{Block, Galley, Item, item_is_box};
+use pg_plain::{add_block, demerits, room};
 use pg_scaled::print_scaled;
-use pg_style::{Run, Style};
+use pg_style::Style;
 use pg_sums::Sums;
-use pg_whole::{minus, plus, wide};
+use pg_whole::{minus, wide};
 use std::alloc::AllocError;
 
 /// The numbers of a text column, lengths in scaled points: what its text is set to, its natural size, TeX's badness of the
@@ -168,18 +170,6 @@ pub fn space_above(topskip: i32, blocks: &[Block]) -> i64
     0
 }
 
-// Adds the item of a block.
-fn add_block(sums: &mut Sums, block: &Block)
-    requires few { sums.old.count < 2 ^ 20 }
-    requires in_range { IsBlock block.now }
-    ensures { (topskip maxdepth : ℤ) (items : List AnItem) → AreSums topskip maxdepth items sums.old
-        → AreSums topskip maxdepth (items ++ single_items (block.now ∷ [])) sums.new }
-{
-    if let Block::One(item) = block {
-        sums.add(item);
-    }
-}
-
 // The sums of the blocks' items.
 #[tactic(auto, using(crate::proofs::Singles::singles_append, crate::proofs::Singles::singles_length))]
 pub fn sums_of(topskip: i32, maxdepth: i32, blocks: &[Block]) -> Sums
@@ -195,33 +185,6 @@ pub fn sums_of(topskip: i32, maxdepth: i32, blocks: &[Block]) -> Sums
         add_block(&mut sums, block);
     }
     sums
-}
-
-// The demerits of a text column without a penalty at its end.
-fn demerits(line: u16, badness: u16) -> i64
-    ensures { result ≡ square (pos (line + badness)) }
-{
-    let sum = i64::from(line) + i64::from(badness);
-    sum * sum
-}
-
-// What a run adds to the height; a run that is not there adds nothing.
-fn extra(runs: &[Run], run: usize) -> i64
-    ensures value { result ≡ option_map_or (λ it. it.extra) (slice_get runs.now run) (pos 0) }
-    ensures size { nat_abs result ≤ 2 ^ 31 }
-{
-    match runs.get(run) {
-        Some(run) => wide(run.extra),
-        None => 0,
-    }
-}
-
-// The room of each column.
-pub fn room(style: &Style) -> i64
-    ensures value { result ≡ plain_room style.now }
-    ensures size { nat_abs result < 2 ^ 52 }
-{
-    plus(wide(style.height), extra(style.runs.as_slice(), 0))
 }
 
 // The numbers of a column of these blocks that is not over.

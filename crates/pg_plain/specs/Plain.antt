@@ -1,10 +1,12 @@
 -- Galleys of single items, styles without floats, and columns of text alone.
-use Rattle.std.specs.Prelude.{◌≡◌, ℕ, ◌-◌, List, [], ◌∷◌, length, take, drop, None, ℤ, ◌+ℤ◌}
+use Rattle.std.specs.Prelude.{◌≡◌, ℕ, ◌-◌, Bool, not, List, [], ◌∷◌, length, take, drop, None, ℤ, ◌+ℤ◌}
 use Rattle.std.specs.List.{AllByRecursion}
 use Rattle.pg_list.specs.declared.item.Item.{Item}
 use Rattle.pg_list.specs.declared.blocks.Block.{Block}
 use Rattle.pg_list.specs.declared.blocks.Block.TheVariants.{One, Choice}
 use Rattle.pg_list.specs.Places.{place}
+use Rattle.pg_flat.specs.Badness.{is_over}
+use Rattle.pg_flat.specs.Totals.{total, trimmed, shrink}
 use Rattle.pg_plan.specs.declared.pages.PageMove.{PageMove}
 use Rattle.pg_style.specs.Values.{StyleValue}
 use Rattle.pg_style.specs.declared.style.First.TheVariants.{Single}
@@ -44,3 +46,10 @@ items_between blocks from to = take (to - from) (drop from (single_items blocks)
 -- the room of each column
 abbrev pub plain_room : StyleValue → ℤ
 plain_room style = style.height +ℤ extra style 0
+
+-- a column of these items is not over
+abbrev pub not_over : StyleValue → List Item → Bool
+not_over style items = not (is_over (total style.topskip style.maxdepth (trimmed items)) (shrink (trimmed items)) (plain_room style))
+
+abbrev pub fits_between : Document → ℕ → ℕ → Bool
+fits_between doc from to = not_over doc.style (items_between doc.blocks from to)

@@ -45,10 +45,22 @@ impl Model for Columns {
 }
 
 impl Columns {
-    pub fn new(columns: Vec<Column>) -> Columns
-        ensures { result ≡ columns.items }
+    /// No columns. No memory is taken.
+    pub fn new(alloc: Global) -> Columns
+        ensures { result ≡ [] }
     {
-        Columns { columns }
+        Columns {
+            columns: Vec::new(alloc),
+        }
+    }
+
+    /// Adds a column behind the others.
+    pub fn push(&mut self, column: Column) -> Result<(), AllocError>
+        ensures ok { OnOk result (self.new ≡ self.old ++ column ∷ []) }
+        ensures err { OnErr result (self.new ≡ self.old) }
+    {
+        self.columns.push(column)?;
+        Ok(())
     }
 
     pub fn as_slice(&self) -> &[Column]
@@ -104,10 +116,22 @@ impl Model for Pages {
 }
 
 impl Pages {
-    pub fn new(pages: Vec<Page>) -> Pages
-        ensures { result ≡ pages.items }
+    /// No pages. No memory is taken.
+    pub fn new(alloc: Global) -> Pages
+        ensures { result ≡ [] }
     {
-        Pages { pages }
+        Pages {
+            pages: Vec::new(alloc),
+        }
+    }
+
+    /// Adds a page behind the others.
+    pub fn push(&mut self, page: Page) -> Result<(), AllocError>
+        ensures ok { OnOk result (self.new ≡ self.old ++ page ∷ []) }
+        ensures err { OnErr result (self.new ≡ self.old) }
+    {
+        self.pages.push(page)?;
+        Ok(())
     }
 
     pub fn as_slice(&self) -> &[Page]
@@ -161,5 +185,56 @@ impl PageMove {
             run: self.run,
             wide: self.wide.copy()?,
         })
+    }
+}
+
+/// The columns of a pagination as steps, in order.
+#[derive(Drop)]
+pub struct Moves {
+    moves: Vec<PageMove>,
+}
+
+impl Model for Moves {
+    ghost use Rattle.std.specs.Prelude.{List};
+    ghost use Rattle.pg_plan.specs.declared.pages.PageMove.{PageMove};
+
+    ghost Value = { List PageMove };
+
+    ghost view = { λ a. a.moves.items };
+}
+
+impl Moves {
+    /// No moves. No memory is taken.
+    pub fn new(alloc: Global) -> Moves
+        ensures { result ≡ [] }
+    {
+        Moves {
+            moves: Vec::new(alloc),
+        }
+    }
+
+    /// Adds a move behind the others.
+    pub fn push(&mut self, step: PageMove) -> Result<(), AllocError>
+        ensures ok { OnOk result (self.new ≡ self.old ++ step ∷ []) }
+        ensures err { OnErr result (self.new ≡ self.old) }
+    {
+        self.moves.push(step)?;
+        Ok(())
+    }
+
+    pub fn as_slice(&self) -> &[PageMove]
+        ensures { result.now ≡ self.now }
+    {
+        self.moves.as_slice()
+    }
+
+    pub fn copy(&self) -> Result<Moves, AllocError>
+        ensures { IfOk result (λ moves. moves ≡ self.now) }
+    {
+        let mut moves = Vec::new(*self.moves.allocator());
+        for step in &self.moves {
+            moves.push(step.copy()?)?;
+        }
+        Ok(Moves { moves })
     }
 }

@@ -1,5 +1,5 @@
 -- The plain style.
-use Rattle.std.specs.Prelude.{ℤ, pos, ◌*◌, [], ◌∷◌}
+use Rattle.std.specs.Prelude.{ℤ, pos, [], ◌∷◌}
 use Rattle.pg_style.specs.declared.style.First.TheVariants.{Single}
 use Rattle.pg_style.specs.Values.{AreaRuleValue, StyleValue}
 

@@ -1,4 +1,4 @@
-use Rattle.std.proofs.Common.{◌≡◌, ◌≤◌, ◌∙◌, sym, arith, length, take, ◌-◌}
+use Rattle.std.proofs.Common.{◌∙◌, sym, arith, length, ◌-◌}
 use Rattle.std.proofs.lemmas.List.{length-take-le}
 use Rattle.pg_list.specs.Places.{is_solid_block}
 use Rattle.pg_list.proofs.Sizes.{last_passes, last_fails}

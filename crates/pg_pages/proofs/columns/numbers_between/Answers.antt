@@ -6,7 +6,8 @@ use Rattle.pg_list.specs.Counts.{item_count}
 use Rattle.pg_list.proofs.Sizes.{blocks_le}
 use Rattle.pg_flat.specs.Break.{is_spent}
 use Rattle.pg_plain.specs.Plain.{single_items, items_between}
-use Rattle.pg_pages.specs.PlainText.{not_over, numbers_from}
+use Rattle.pg_pages.specs.PlainText.{numbers_from}
+use Rattle.pg_plain.specs.Plain.{not_over}
 use Rattle.pg_pages.proofs.Plain.{blocks-single}
 use Rattle.pg_pages.proofs.Numbers.{between-items, spent-from}
 use Rattle.pg_pages.proofs.columns.numbers_between.Goals as goal
@@ -25,7 +26,7 @@ pub numbers_of-requires-clause-fits : goal.numbers_of-requires-clause-fits
 numbers_of-requires-clause-fits c =
     let here = c.as_slice.ensures.blocks ∙ c.blocks-2.ensures.blocks in
     let items = ap (λ (blocks : List Block). single_items (take (c.args.to - c.args.from) (drop c.args.from blocks))) here
-        ∙ between-items c.args.galley.now.blocks c.args.from c.args.to (blocks-single c.args.galley.now.blocks c.requires.rigid) in
+    ∙ between-items c.args.galley.now.blocks c.args.from c.args.to (blocks-single c.args.galley.now.blocks c.requires.rigid) in
     ap (not_over c.args.style.now) items ∙ c.requires.fits
 
 pub returns : goal.returns

@@ -1,5 +1,5 @@
 use Rattle.std.proofs.Common.{◌≡◌, ◌∙◌, ap, sym, subst, List, ◌++◌, take, drop, length}
-use Rattle.std.specs.List.{splice, AllByRecursion}
+use Rattle.std.specs.List.{AllByRecursion}
 use Rattle.pg_list.specs.declared.blocks.Block.{Block}
 use Rattle.pg_list.specs.Shapes.{IsBlock}
 use Rattle.pg_list.proofs.SpliceLemmas.{drained, spliced_is, still_blocks_within}

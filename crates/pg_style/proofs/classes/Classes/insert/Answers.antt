@@ -1,6 +1,4 @@
-use Rattle.std.proofs.Common.{◌≡◌, ◌∙◌, ◌+◌, ◌<◌, ◌≤◌, sym, arith, subst, List, None, length}
-use Rattle.std.specs.Prelude.{nat_lt}
-use Rattle.std.specs.List.{insert}
+use Rattle.std.proofs.Common.{◌≡◌, ◌+◌, ◌<◌, ◌≤◌, sym, arith, subst, List, None, length}
 use Rattle.pg_style.specs.declared.style.Class.{Class}
 use Rattle.pg_style.specs.Classes.{inserted, class_in}
 use Rattle.pg_style.specs.Ranges.{AreClasses}

@@ -1,0 +1,4 @@
+pub mod OrderLaws
+pub mod LastLemmas
+pub mod BackLemmas
+pub mod PickLemmas

@@ -1,0 +1,136 @@
+//! Words, files and faults that are answered with one line, and never with half a text.
+use crate::cases::{World, call};
+use pg_top::Status;
+use std::test::Fail;
+
+const TWO_LINES: &[u8] = b"\\vbox(0.0+0.0)x345.0\n.\\hbox(7.0+2.0)x345.0\n";
+
+#[test]
+fn words_that_are_no_command(rt: HostRuntime) -> Result<(), Fail> {
+    let alloc = rt.alloc();
+    for line in [
+        "",
+        "run",
+        "run --height 58.0",
+        "run --height 58.0 g more",
+        "run 58.0 --height g",
+        "show --height 58.0 g",
+        "run --width 58.0 g",
+        "run --height x g",
+        "run --height 58 g",
+        "run --height 58.0pt g",
+        "run --height 0.0 g",
+        "run --height -58.0 g",
+        "run --height 16384.0 g",
+        "run --height 58.0 ",
+        "run --height 58.0 -g",
+    ] {
+        let end = call(alloc, line, World::of(alloc, TWO_LINES.to_vec(alloc)?)?)?;
+        assert_eq!(rt; end.status, Status::Usage, "of {line}");
+        assert_eq!(rt; end.out.as_slice(), b"".as_slice(), "of {line}");
+        assert_eq!(rt;
+            end.say.as_slice(),
+            b"usage: pg run|edit|check|show|make\n".as_slice(),
+            "of {line}"
+        );
+    }
+    Ok(())
+}
+
+#[test]
+fn texts_that_are_no_galley_of_today(rt: HostRuntime) -> Result<(), Fail> {
+    let alloc = rt.alloc();
+    for text in [
+        "",
+        "\n",
+        ".\\hbox(7.0+2.0)x345.0\n",
+        "\\vbox(0.0+0.0)x345.0",
+        "\\vbox(0.0+0.0)x345.0 []\n",
+        "\\vbox(0.0+0.0)x16384.0\n",
+        "\\vbox(0.0+0.0)x345.0\n.\\hbox(7.0+2.0)x345.0",
+        "\\vbox(0.0+0.0)x345.0\n.\\hbox(7.0+2.0)x345.0, glue set 0.5\n",
+        "\\vbox(0.0+0.0)x345.0\n.\\glue 3.0 plus 1.0\n",
+        "\\vbox(0.0+0.0)x345.0\n\n.\\glue 3.0\n",
+        "\\vbox(0.0+0.0)x345.0\n\\glue 3.0\n",
+        "\\vbox(0.0+0.0)x345.0\n.\\penalty 150\n",
+        "\\vbox(0.0+0.0)x345.0\r\n.\\glue 3.0\r\n",
+    ] {
+        let galley = text.as_bytes().to_vec(alloc)?;
+        let end = call(alloc, "run --height 58.0 g", World::of(alloc, galley)?)?;
+        assert_eq!(rt; end.status, Status::Refused, "of {text}");
+        assert_eq!(rt; end.out.as_slice(), b"".as_slice(), "of {text}");
+        assert_eq!(rt;
+            end.say.as_slice(),
+            b"pg: g: not yet built\n".as_slice(),
+            "of {text}"
+        );
+    }
+    Ok(())
+}
+
+#[test]
+fn a_galley_of_too_many_lines(rt: HostRuntime) -> Result<(), Fail> {
+    let alloc = rt.alloc();
+    let mut galley = b"\\vbox(0.0+0.0)x345.0\n".to_vec(alloc)?;
+    for _ in 0..262145u32 {
+        galley.extend_from_slice(b".\\glue 3.0\n")?;
+    }
+    let end = call(alloc, "run --height 58.0 g", World::of(alloc, galley)?)?;
+    assert_eq!(rt; end.status, Status::Refused);
+    assert_eq!(rt; end.out.as_slice(), b"".as_slice());
+    assert_eq!(rt; end.say.as_slice(), b"pg: g: not yet built\n".as_slice());
+    Ok(())
+}
+
+#[test]
+fn a_file_that_is_too_long(rt: HostRuntime) -> Result<(), Fail> {
+    let alloc = rt.alloc();
+    let galley = vec![in alloc; b'\n'; 67108865]?;
+    let end = call(alloc, "run --height 58.0 g", World::of(alloc, galley)?)?;
+    assert_eq!(rt; end.status, Status::Refused);
+    assert_eq!(rt; end.out.as_slice(), b"".as_slice());
+    assert_eq!(rt;
+        end.say.as_slice(),
+        b"pg: g: longer than 67108864 bytes\n".as_slice()
+    );
+    Ok(())
+}
+
+#[test]
+fn a_file_that_cannot_be_read(rt: HostRuntime) -> Result<(), Fail> {
+    let alloc = rt.alloc();
+    let end = call(
+        alloc,
+        "run --height 58.0 other",
+        World::of(alloc, TWO_LINES.to_vec(alloc)?)?,
+    )?;
+    assert_eq!(rt; end.status, Status::ReadFault);
+    assert_eq!(rt; end.out.as_slice(), b"".as_slice());
+    assert_eq!(rt;
+        end.say.as_slice(),
+        b"pg: other: cannot be read\n".as_slice()
+    );
+
+    let mut failing = World::of(alloc, TWO_LINES.to_vec(alloc)?)?;
+    failing.failing_fetches.push(1)?;
+    let end = call(alloc, "run --height 58.0 g", failing)?;
+    assert_eq!(rt; end.status, Status::ReadFault);
+    assert_eq!(rt; end.out.as_slice(), b"".as_slice());
+    assert_eq!(rt; end.say.as_slice(), b"pg: g: cannot be read\n".as_slice());
+    Ok(())
+}
+
+#[test]
+fn an_output_that_fails(rt: HostRuntime) -> Result<(), Fail> {
+    let alloc = rt.alloc();
+    let mut failing = World::of(
+        alloc,
+        b"\\vbox(0.0+0.0)x345.0\n.\\hbox(700.0+0.0)x345.0\n".to_vec(alloc)?,
+    )?;
+    failing.failing_writes.push((1, 8))?;
+    let end = call(alloc, "run --height 550.0 g", failing)?;
+    assert_eq!(rt; end.status, Status::WriteFault);
+    assert_eq!(rt; end.out.as_slice(), b"no legal".as_slice());
+    assert_eq!(rt; end.say.as_slice(), b"pg: output failed\n".as_slice());
+    Ok(())
+}

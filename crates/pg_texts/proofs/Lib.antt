@@ -1,0 +1,4 @@
+pub mod Once
+pub mod Reading
+pub mod Rules
+pub mod CalloutsPassed

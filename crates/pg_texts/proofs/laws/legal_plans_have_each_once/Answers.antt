@@ -1,0 +1,5 @@
+use Rattle.pg_texts.proofs.Once.{each_once}
+use Rattle.pg_texts.proofs.laws.legal_plans_have_each_once.Goals as goal
+
+pub returns : goal.returns
+returns c = each_once _ _ c.requires

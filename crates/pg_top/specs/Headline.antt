@@ -1,0 +1,86 @@
+-- What the program promises, over any shelf and any sinks.
+use Rattle.std.specs.Prelude.{◌≡◌, ◌↔◌, ℕ, List, [], ⊤, Option, Some, None, IfSome}
+use Rattle.std.specs.Io.KnownBytes.{Keeps}
+use Rattle.pg_outside.specs.Outside.{Held, Rose}
+use Rattle.pg_top.specs.declared.status.Status.{Status}
+use Rattle.pg_top.specs.declared.status.Status.TheVariants.{Done, NoLegal, Usage, Refused, ReadFault, WriteFault, Memory, NotProved}
+use Rattle.pg_top.specs.Words.{Command, run, command_of}
+use Rattle.pg_top.specs.Lines.{usage_line, output_line, memory_line, Says}
+use Rattle.pg_top.specs.Course.{Course, Ended, EndedBefore, OnSettled, OnReadFault, OnWriteFault, OnMemory, ReadLine}
+
+-- a shelf over a call: what it tells, how many faults it counted before and after, and its last failed name after
+pub record OverShelf : Type 0 where
+  pub told : Option Held
+  pub before : ℕ
+  pub after : ℕ
+  pub last : Option (List ℕ)
+
+abbrev pub over_shelf : Option Held → ℕ → ℕ → Option (List ℕ) → OverShelf
+over_shelf told before after last = record { told = told; before = before; after = after; last = last }
+
+-- a sink over a call: what was written, and how many faults it counted, before and after
+pub record OverSink : Type 0 where
+  pub old : Option (List ℕ)
+  pub new : Option (List ℕ)
+  pub before : ℕ
+  pub after : ℕ
+
+abbrev pub over_sink : Option (List ℕ) → Option (List ℕ) → ℕ → ℕ → OverSink
+over_sink old new before after = record { old = old; new = new; before = before; after = after }
+
+-- a file could not be read, with a cause, and nothing was written
+pub record ReadFailed (command : Option Command) (shelf : OverShelf) (out : OverSink) : Type 0 where
+  pub line : List ℕ
+  pub cause : ReadLine command shelf.told shelf.before shelf.after shelf.last line
+  pub keeps : Keeps out.old out.new
+
+-- the output failed, with a cause, and a front of the texts was written
+pub record WriteFailed (command : Option Command) (shelf : OverShelf) (out : OverSink) : Type 0 where
+  pub cause : Rose out.before out.after
+  pub front : IfSome shelf.told (λ held. EndedBefore command held out.old out.new)
+
+-- the texts that are written before memory runs out: none of a command that writes one text
+abbrev pub WroteWhole : Option Command → OverSink → Type 0
+WroteWhole None out = Keeps out.old out.new
+WroteWhole (Some (run style galley)) out = Keeps out.old out.new
+
+-- the course ends with this status, where the bytes are told; memory may run out instead
+abbrev pub EndsAsCourse : Option Command → Option Held → Status → Type 0
+EndsAsCourse command told Memory = ⊤
+EndsAsCourse command told status =
+    IfSome told (λ held. (texts : List (List ℕ)) × (line : List ℕ) × Course command held texts status line)
+
+-- the line of the course, where the bytes are told
+abbrev pub CourseLine : Option Command → Option Held → Status → List ℕ → Type 0
+CourseLine command told status line =
+    IfSome told (λ held. (texts : List (List ℕ)) × Course command held texts status line)
+
+-- the line that goes with a status
+abbrev pub IsLineOf : Option Command → OverShelf → Status → List ℕ → Type 0
+IsLineOf command shelf Done line = line ≡ []
+IsLineOf command shelf NoLegal line = line ≡ []
+IsLineOf command shelf Usage line = line ≡ usage_line
+IsLineOf command shelf Refused line = CourseLine command shelf.told Refused line
+IsLineOf command shelf NotProved line = CourseLine command shelf.told NotProved line
+IsLineOf command shelf ReadFault line = ReadLine command shelf.told shelf.before shelf.after shelf.last line
+IsLineOf command shelf WriteFault line = line ≡ output_line
+IsLineOf command shelf Memory line = line ≡ memory_line
+
+-- the program's promise for these words, by how it ended
+pub record Headline (words : List (List ℕ)) (shelf : OverShelf) (out say : OverSink)
+    (status : Status) : Type 0 where
+  -- where it ended by itself, it wrote exactly the texts of the course, and ended as the course does
+  pub texts : OnSettled status (IfSome shelf.told (λ held.
+      (line : List ℕ) × Ended (command_of words) held out.old out.new status line))
+  pub read_fault : OnReadFault status (ReadFailed (command_of words) shelf out)
+  pub write_fault : OnWriteFault status (WriteFailed (command_of words) shelf out)
+  pub memory : OnMemory status (WroteWhole (command_of words) out)
+  -- where neither count rose, it ended as the course does, or memory ran out
+  pub no_fault : (Rose shelf.before shelf.after → ⊥) → (Rose out.before out.after → ⊥)
+      → EndsAsCourse (command_of words) shelf.told status
+  -- one line was said, or a front of it where that failed; at Done and NoLegal nothing
+  pub said : (line : List ℕ) × Says say.old say.new say.before say.after line
+      × IsLineOf (command_of words) shelf status line
+  -- words that are no command are answered so, whatever the shelf tells
+  pub usage : (status ≡ Usage) ↔ (command_of words ≡ None)
+  pub usage_keeps : command_of words ≡ None → Keeps out.old out.new
