@@ -15,7 +15,9 @@ ghost use Rattle.pg_plain.specs.Plain.{single_items};
 ghost use Rattle.pg_pages.specs.PlainText.{ArePlainPages, IsPlainPage, numbers_between as numbers_of, numbers_text, text_between, text_of_page, text_head, text_of_items};
 ghost use Rattle.pg_plain.specs.Plain.{fits_between};
 
-use crate::columns::{numbers_between, print_items, print_length, print_numbers, space_above, without_front};
+use crate::columns::{
+    numbers_between, print_items, print_length, print_numbers, space_above, without_front,
+};
 use crate::words::{print_counts, print_decimal, print_place, print_whole};
 use pg_list::{Block, Galley, Place};
 use pg_plan::{Column, Page, Pagination};
@@ -49,6 +51,7 @@ fn print_place_of(name: &[u8], place: Place, out: &mut Vec<u8>) -> Result<(), Al
     print_place(place, out)
 }
 
+// The number of a page on a single side.
 #[tactic(auto, unfolding(crate::specs::PageText::page_side))]
 fn print_single_side(number: u128, out: &mut Vec<u8>) -> Result<(), AllocError>
     ensures ok { OnOk result (out.new.items ≡ out.old.items ++ page_side number S) }
@@ -59,6 +62,7 @@ fn print_single_side(number: u128, out: &mut Vec<u8>) -> Result<(), AllocError>
     Ok(())
 }
 
+// A page's run and its wide counts.
 #[tactic(auto, unfolding(crate::specs::PageText::page_run))]
 fn print_run(page: &Page, out: &mut Vec<u8>) -> Result<(), AllocError>
     ensures ok { OnOk result (out.new.items ≡ out.old.items ++ page_run page.now.run page.now.wide) }
@@ -80,6 +84,7 @@ fn print_page_line(number: u128, page: &Page, out: &mut Vec<u8>) -> Result<(), A
     Ok(())
 }
 
+// Where a column begins and ends.
 #[tactic(auto, unfolding(crate::specs::PageText::column_ends))]
 fn print_ends(number: u128, column: &Column, out: &mut Vec<u8>) -> Result<(), AllocError>
     ensures ok { OnOk result (out.new.items ≡ out.old.items ++ ends_of number column.now) }
@@ -103,6 +108,7 @@ fn print_column_counts(column: &Column, out: &mut Vec<u8>) -> Result<(), AllocEr
     Ok(())
 }
 
+// The line of a column without picks.
 fn print_column_line(number: u128, column: &Column, out: &mut Vec<u8>) -> Result<(), AllocError>
     requires { column.now.picks ≡ [] }
     ensures ok { OnOk result (out.new.items ≡ out.old.items ++ column_line number column.now) }
@@ -114,6 +120,7 @@ fn print_column_line(number: u128, column: &Column, out: &mut Vec<u8>) -> Result
     Ok(())
 }
 
+// How many pages there are, and what they cost.
 #[tactic(auto, unfolding(crate::specs::PageText::head_counts))]
 fn print_head_counts(pages: u128, cost: i128, out: &mut Vec<u8>) -> Result<(), AllocError>
     ensures ok { OnOk result (out.new.items ≡ out.old.items ++ head_counts pages cost) }
@@ -134,6 +141,7 @@ fn print_length_line(name: &[u8], length: i64, out: &mut Vec<u8>) -> Result<(), 
     Ok(())
 }
 
+// The first line.
 #[tactic(auto, unfolding(crate::specs::PageText::head_line))]
 fn print_head(pages: u128, cost: i128, width: i64, out: &mut Vec<u8>) -> Result<(), AllocError>
     ensures ok { OnOk result (out.new.items ≡ out.old.items ++ head_line pages cost width) }
@@ -158,7 +166,8 @@ fn print_text_head(topskip: i32, text: &[Block], out: &mut Vec<u8>) -> Result<()
 #[tactic(auto, unfolding(crate::specs::PlainText::text_of_items))]
 fn print_text(topskip: i32, blocks: &[Block], out: &mut Vec<u8>) -> Result<(), AllocError>
     requires { AreRigid blocks.now }
-    ensures ok { OnOk result (out.new.items ≡ out.old.items ++ text_of_items topskip (trimmed (single_items blocks.now))) }
+    ensures ok { OnOk result (out.new.items ≡ out.old.items
+        ++ text_of_items topskip (trimmed (single_items blocks.now))) }
     ensures grows { Grows out.old.items out.new.items }
 {
     let text = without_front(blocks);
@@ -167,7 +176,13 @@ fn print_text(topskip: i32, blocks: &[Block], out: &mut Vec<u8>) -> Result<(), A
 }
 
 // The numbers of a column and its text.
-fn print_column_body(galley: &Galley, style: &Style, from: usize, to: usize, out: &mut Vec<u8>) -> Result<(), AllocError>
+fn print_column_body(
+    galley: &Galley,
+    style: &Style,
+    from: usize,
+    to: usize,
+    out: &mut Vec<u8>,
+) -> Result<(), AllocError>
     requires plain { IsPlainStyle style.now }
     requires rigid { AreRigid galley.now.blocks }
     requires onward { from ≤ to }
@@ -182,11 +197,18 @@ fn print_column_body(galley: &Galley, style: &Style, from: usize, to: usize, out
 }
 
 // A page with its one column.
-fn print_page(galley: &Galley, style: &Style, number: u128, page: &Page, out: &mut Vec<u8>) -> Result<(), AllocError>
+fn print_page(
+    galley: &Galley,
+    style: &Style,
+    number: u128,
+    page: &Page,
+    out: &mut Vec<u8>,
+) -> Result<(), AllocError>
     requires plain { IsPlainStyle style.now }
     requires rigid { AreRigid galley.now.blocks }
     requires page { IsPlainPage (document galley.now style.now) page.now }
-    ensures ok { OnOk result (out.new.items ≡ out.old.items ++ text_of_page (document galley.now style.now) number page.now) }
+    ensures ok { OnOk result (out.new.items ≡ out.old.items
+        ++ text_of_page (document galley.now style.now) number page.now) }
     ensures grows { Grows out.old.items out.new.items }
 {
     let Some(column) = page.columns.as_slice().first() else {
@@ -194,11 +216,23 @@ fn print_page(galley: &Galley, style: &Style, number: u128, page: &Page, out: &m
     };
     print_page_line(number, page, out)?;
     print_column_line(1, column, out)?;
-    print_column_body(galley, style, column.from.block as usize, column.to.block as usize, out)
+    print_column_body(
+        galley,
+        style,
+        column.from.block as usize,
+        column.to.block as usize,
+        out,
+    )
 }
 
 // The text of a pagination, without giving back what a refusal left.
-fn print_all(galley: &Galley, style: &Style, plan: &Pagination, cost: i128, out: &mut Vec<u8>) -> Result<(), AllocError>
+fn print_all(
+    galley: &Galley,
+    style: &Style,
+    plan: &Pagination,
+    cost: i128,
+    out: &mut Vec<u8>,
+) -> Result<(), AllocError>
     requires plain { IsPlainStyle style.now }
     requires rigid { AreRigid galley.now.blocks }
     requires pages { ArePlainPages (document galley.now style.now) plan.now.pages }
@@ -215,11 +249,18 @@ fn print_all(galley: &Galley, style: &Style, plan: &Pagination, cost: i128, out:
     Ok(())
 }
 
-/// Appends the text of a pagination with its cost.
+/// Appends the text of a pagination with its cost, in demerits; lengths are written in points.
 ///
-/// The galley is one of boxes and glue that neither stretches nor shrinks, the style has one column, single sides, one
-/// run and no classes, and each page is one column of text that is not over its room. After a refusal `out` is as before.
-pub fn print_pages(galley: &Galley, style: &Style, plan: &Pagination, cost: i128, out: &mut Vec<u8>) -> Result<(), AllocError>
+/// The galley is one of boxes and glue that neither stretches nor shrinks, the style has one column, single
+/// sides, one run and no classes, and each page is one column of text that is not over its room. The only refusal
+/// is for want of memory, and `out` is then as before.
+pub fn print_pages(
+    galley: &Galley,
+    style: &Style,
+    plan: &Pagination,
+    cost: i128,
+    out: &mut Vec<u8>,
+) -> Result<(), AllocError>
     requires plain { IsPlainStyle style.now }
     requires rigid { AreRigid galley.now.blocks }
     requires pages { ArePlainPages (document galley.now style.now) plan.now.pages }
@@ -234,7 +275,8 @@ pub fn print_pages(galley: &Galley, style: &Style, plan: &Pagination, cost: i128
     Ok(())
 }
 
-/// Appends the line for a galley that has no legal pagination.
+/// Appends the line for a galley that has no legal pagination. The only refusal is for want of memory, and `out`
+/// is then as before.
 pub fn print_none(out: &mut Vec<u8>) -> Result<(), AllocError>
     ensures ok { OnOk result (out.new.items ≡ out.old.items ++ none_text) }
     ensures err { OnErr result (out.new.items ≡ out.old.items) }
