@@ -14,7 +14,8 @@ use Rattle.pg_flat.specs.Whole.{whole_sum_by}
 -- the items, without the discardable ones before the first box or rule
 abbrev pub trimmed : List Item → List Item
 trimmed [] = []
-trimmed (item ∷ items) = if is_box item then item ∷ items else (if is_discardable item then trimmed items else item ∷ trimmed items)
+trimmed (item ∷ items) =
+    if is_box item then item ∷ items else (if is_discardable item then trimmed items else item ∷ trimmed items)
 
 -- what an item adds to the size, its depth included
 abbrev pub full_size : Item → ℤ
@@ -43,15 +44,18 @@ has_size _ = true
 
 -- what stands above the first box or rule
 abbrev pub top_glue : ℤ → List Item → ℤ
-top_glue topskip items = option_map_or (λ item. int_max (pos 0) (topskip -ℤ height_of item)) (find is_box items) (pos 0)
+top_glue topskip items =
+    option_map_or (λ item. int_max (pos 0) (topskip -ℤ height_of item)) (find is_box items) (pos 0)
 
 -- the depth of the last item with a size, up to the limit
 abbrev pub depth : ℤ → List Item → ℤ
-depth maxdepth items = option_map_or (λ item. int_min maxdepth (depth_of item)) (find has_size (reverse items)) (pos 0)
+depth maxdepth items =
+    option_map_or (λ item. int_min maxdepth (depth_of item)) (find has_size (reverse items)) (pos 0)
 
 -- all sizes and depths together, less the depth that hangs below
 abbrev pub total : ℤ → ℤ → List Item → ℤ
-total topskip maxdepth items = (top_glue topskip items +ℤ whole_sum_by full_size items) -ℤ depth maxdepth items
+total topskip maxdepth items =
+    (top_glue topskip items +ℤ whole_sum_by full_size items) -ℤ depth maxdepth items
 
 abbrev pub is_same_order : Order → Order → Bool
 is_same_order Finite Finite = true

@@ -27,11 +27,13 @@ not-true true e = absurd (cc)
 not-true false e = refl
 
 -- sums of a column that is not over are not over its room
-pub is_under : (style : StyleValue) (topskip maxdepth goal : ℤ) (items : List Item) (sums : SumsValue) → topskip ≡ style.topskip → maxdepth ≡ style.maxdepth → goal ≡ plain_room style
+pub is_under : (style : StyleValue) (topskip maxdepth goal : ℤ) (items : List Item) (sums : SumsValue) →
+    topskip ≡ style.topskip → maxdepth ≡ style.maxdepth → goal ≡ plain_room style
     → AreSums topskip maxdepth items sums → not_over style items ≡ true → is_over sums.totals.total sums.totals.shrink goal ≡ false
 is_under style topskip maxdepth goal items sums t m g are fits =
     let size : sums.totals.total ≡ total style.topskip style.maxdepth (trimmed items) =
-    are.totals_are.total_is ∙ ap (λ (z : ℤ). total z maxdepth (trimmed items)) t ∙ ap (λ (z : ℤ). total style.topskip z (trimmed items)) m in
+    are.totals_are.total_is ∙ ap (λ (z : ℤ). total z maxdepth (trimmed items)) t
+    ∙ ap (λ (z : ℤ). total style.topskip z (trimmed items)) m in
     ap (λ (z : ℤ). is_over z sums.totals.shrink goal) size
     ∙ ap (λ (z : ℤ). is_over (total style.topskip style.maxdepth (trimmed items)) z goal) are.totals_are.shrink_is
     ∙ ap (λ (z : ℤ). is_over (total style.topskip style.maxdepth (trimmed items)) (shrink (trimmed items)) z) g
@@ -42,8 +44,11 @@ pub numbers_are : (style : StyleValue) (is_last : Bool) (items : List Item) (goa
     → record { goal = goal; total = size; badness = badness; penalty = pos 0; demerits = demerits } ≡ numbers_from style is_last items
 numbers_are style is_last items goal size demerits badness g s b d = rw (d, g, s, b) refl
 
-pub size_is : (style : StyleValue) (topskip maxdepth size : ℤ) (items : List Item) → topskip ≡ style.topskip → maxdepth ≡ style.maxdepth → size ≡ total topskip maxdepth (trimmed items) → size ≡ total style.topskip style.maxdepth (trimmed items)
-size_is style topskip maxdepth size items t m e = e ∙ ap (λ (z : ℤ). total z maxdepth (trimmed items)) t ∙ ap (λ (z : ℤ). total style.topskip z (trimmed items)) m
+pub size_is : (style : StyleValue) (topskip maxdepth size : ℤ) (items : List Item) →
+    topskip ≡ style.topskip → maxdepth ≡ style.maxdepth → size ≡ total topskip maxdepth (trimmed items) →
+    size ≡ total style.topskip style.maxdepth (trimmed items)
+size_is style topskip maxdepth size items t m e = e ∙ ap (λ (z : ℤ). total z maxdepth (trimmed items)) t
+    ∙ ap (λ (z : ℤ). total style.topskip z (trimmed items)) m
 
 pub badness_is : (style : StyleValue) (topskip maxdepth goal : ℤ) (is_last : Bool) (badness : ℕ) (items : List Item) → topskip ≡ style.topskip → maxdepth ≡ style.maxdepth → goal ≡ plain_room style
     → badness ≡ page_badness is_last goal (total topskip maxdepth (trimmed items)) (trimmed items) → badness ≡ page_badness is_last (plain_room style) (total style.topskip style.maxdepth (trimmed items)) (trimmed items)
@@ -54,34 +59,44 @@ badness_is style topskip maxdepth goal is_last badness items t m g e =
 
 -- ---- the blocks of a column
 
-pub take-items : (k : ℕ) (blocks : List Block) → AreSingle blocks → single_items (take k blocks) ≡ take k (single_items blocks)
+pub take-items : (k : ℕ) (blocks : List Block) → AreSingle blocks →
+    single_items (take k blocks) ≡ take k (single_items blocks)
 take-items zero blocks single = refl
 take-items (suc k) [] single = refl
-take-items (suc k) (One item ∷ blocks) single = ap (λ (items : List Item). item ∷ items) (take-items k blocks single.1)
+take-items (suc k) (One item ∷ blocks) single =
+    ap (λ (items : List Item). item ∷ items) (take-items k blocks single.1)
 take-items (suc k) (Choice variants ∷ blocks) single = absurd single.0
 
-pub between-items : (blocks : List Block) (from to : ℕ) → AreSingle blocks → single_items (take (to - from) (drop from blocks)) ≡ items_between blocks from to
+pub between-items : (blocks : List Block) (from to : ℕ) → AreSingle blocks →
+    single_items (take (to - from) (drop from blocks)) ≡ items_between blocks from to
 between-items blocks from to single =
-    take-items (to - from) (drop from blocks) (drop-single from blocks single) ∙ ap (λ (items : List Item). take (to - from) items) (drop-items from blocks single)
+    take-items (to - from) (drop from blocks) (drop-single from blocks single)
+    ∙ ap (λ (items : List Item). take (to - from) items) (drop-items from blocks single)
 
 -- ---- the end of the text
 
-all-step : (n : ℕ) (d rest : Bool) → rest ≡ nat_le n 0 → (d && rest) ≡ nat_le (if nat_lt 0 n then n + 1 else (if not d then 1 else 0)) 0
+all-step : (n : ℕ) (d rest : Bool) → rest ≡ nat_le n 0 →
+    (d && rest) ≡ nat_le (if nat_lt 0 n then n + 1 else (if not d then 1 else 0)) 0
 all-step n true rest e = grind (arith, nat_tests)
 all-step n false rest e = grind (arith, nat_tests)
 
-pub all-weak : (blocks : List Block) → AreSingle blocks → list_all is_discardable (single_items blocks) ≡ nat_le (solid blocks) 0
+pub all-weak : (blocks : List Block) → AreSingle blocks →
+    list_all is_discardable (single_items blocks) ≡ nat_le (solid blocks) 0
 all-weak [] single = refl
-all-weak (One item ∷ blocks) single = all-step (solid blocks) (is_discardable item) (list_all is_discardable (single_items blocks)) (all-weak blocks single.1)
+all-weak (One item ∷ blocks) single =
+    all-step (solid blocks) (is_discardable item) (list_all is_discardable (single_items blocks)) (all-weak blocks single.1)
 all-weak (Choice variants ∷ blocks) single = absurd single.0
 
-less-step : (n k : ℕ) (d : Bool) → nat_le n k ≡ nat_le (if nat_lt 0 n then n + 1 else (if not d then 1 else 0)) (suc k)
+less-step : (n k : ℕ) (d : Bool) →
+    nat_le n k ≡ nat_le (if nat_lt 0 n then n + 1 else (if not d then 1 else 0)) (suc k)
 less-step n k true = grind (arith, nat_tests)
 less-step n k false = grind (arith, nat_tests)
 
 -- only discardable items stand from a block on exactly where no solid one does
-pub spent-from : (blocks : List Block) (k : ℕ) → AreSingle blocks → is_spent (single_items blocks) k ≡ nat_le (solid blocks) k
+pub spent-from : (blocks : List Block) (k : ℕ) → AreSingle blocks →
+    is_spent (single_items blocks) k ≡ nat_le (solid blocks) k
 spent-from blocks zero single = all-weak blocks single
 spent-from [] (suc k) single = sym (le-leb 0 (suc k) (omega arith))
-spent-from (One item ∷ blocks) (suc k) single = spent-from blocks k single.1 ∙ less-step (solid blocks) k (is_discardable item)
+spent-from (One item ∷ blocks) (suc k) single = spent-from blocks k single.1
+    ∙ less-step (solid blocks) k (is_discardable item)
 spent-from (Choice variants ∷ blocks) (suc k) single = absurd single.0

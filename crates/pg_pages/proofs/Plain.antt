@@ -51,18 +51,21 @@ rigid-drop zero items all = all
 rigid-drop (suc n) [] all = tt
 rigid-drop (suc n) (item ∷ items) all = rigid-drop n items all.1
 
-trimmed-step : (b d : Bool) (item : Item) (items : List Item) → AllRigid (item ∷ items) → AllRigid (trimmed items) → AllRigid (if b then item ∷ items else (if d then trimmed items else item ∷ trimmed items))
+trimmed-step : (b d : Bool) (item : Item) (items : List Item) → AllRigid (item ∷ items) →
+    AllRigid (trimmed items) → AllRigid (if b then item ∷ items else (if d then trimmed items else item ∷ trimmed items))
 trimmed-step true d item items all rest = all
 trimmed-step false true item items all rest = rest
 trimmed-step false false item items all rest = (all.0, rest)
 
 pub rigid-trimmed : (items : List Item) → AllRigid items → AllRigid (trimmed items)
 rigid-trimmed [] all = tt
-rigid-trimmed (item ∷ items) all = trimmed-step (is_box item) (is_discardable item) item items all (rigid-trimmed items all.1)
+rigid-trimmed (item ∷ items) all =
+    trimmed-step (is_box item) (is_discardable item) item items all (rigid-trimmed items all.1)
 
 -- ---- no penalty
 
-glue-or-box : (items : List Item) (k : ℕ) (item : Item) → IsRigid item → (item_break items k item ≡ None) ⊎ (item_break items k item ≡ Some (pos 0))
+glue-or-box : (items : List Item) (k : ℕ) (item : Item) → IsRigid item →
+    (item_break items k item ≡ None) ⊎ (item_break items k item ≡ Some (pos 0))
 glue-or-box items k (BoxItem height depth body) is = inl refl
 glue-or-box items k (Glue width stretch order shrink body) is = elim (cases_Bool (follows_solid items k)) [
   | inl yes' ↦ inr (rw yes' refl)
@@ -74,7 +77,8 @@ glue-or-box items k (Penalty value body) is = absurd is
 glue-or-box items k (Insert class size body) is = absurd is
 glue-or-box items k (Carry body) is = absurd is
 
-got : (items : List Item) (k : ℕ) (o : Option Item) → ((item : Item) → o ≡ Some item → IsRigid item) → (option_map_or (item_break items k) o None ≡ None) ⊎ (option_map_or (item_break items k) o None ≡ Some (pos 0))
+got : (items : List Item) (k : ℕ) (o : Option Item) → ((item : Item) → o ≡ Some item → IsRigid item) →
+    (option_map_or (item_break items k) o None ≡ None) ⊎ (option_map_or (item_break items k) o None ≡ Some (pos 0))
 got items k None rigid = inl refl
 got items k (Some item) rigid = glue-or-box items k item (rigid item refl)
 
@@ -82,18 +86,21 @@ abbrev RigidIf : Option Item → Type 0
 RigidIf None = Unit {0}
 RigidIf (Some item) = IsRigid item
 
-rigid-at : (items : List Item) (k : ℕ) → AllRigid items → (item : Item) → slice_get items k ≡ Some item → IsRigid item
+rigid-at : (items : List Item) (k : ℕ) → AllRigid items → (item : Item) → slice_get items k ≡ Some item →
+    IsRigid item
 rigid-at [] k all item e = absurd (cc)
 rigid-at (first ∷ items) zero all item e = subst (λ (o : Option Item). RigidIf o) e all.0
 rigid-at (first ∷ items) (suc k) all item e = rigid-at items k all.1 item e
 
-pub no-penalty : (items : List Item) (k : ℕ) → AllRigid items → (break_penalty items k ≡ None) ⊎ (break_penalty items k ≡ Some (pos 0))
+pub no-penalty : (items : List Item) (k : ℕ) → AllRigid items →
+    (break_penalty items k ≡ None) ⊎ (break_penalty items k ≡ Some (pos 0))
 no-penalty items k all = elim (cases_Bool (k == length items)) [
   | inl last ↦ inr (rw last refl)
   | inr inside ↦ rw inside (got items k (slice_get items k) (rigid-at items k all))
 ]
 
-pub nothing-added : (f : ℤ → ℤ) (items : List Item) (k : ℕ) → AllRigid items → f (pos 0) ≡ pos 0 → option_map_or f (break_penalty items k) (pos 0) ≡ pos 0
+pub nothing-added : (f : ℤ → ℤ) (items : List Item) (k : ℕ) → AllRigid items → f (pos 0) ≡ pos 0 →
+    option_map_or f (break_penalty items k) (pos 0) ≡ pos 0
 nothing-added f items k all zero-is = elim (no-penalty items k all) [
   | inl none ↦ rw none refl
   | inr some ↦ rw some zero-is
@@ -114,7 +121,8 @@ still-sum order (entry ∷ list) all =
     let first = still-amount (is_same_order order entry.order) entry.amount all.0 in
     rw (first, still-sum order list all.1) refl
 
-still-widths : (sense : Sense) (excess : ℤ) (order : Order) (front list : List Elastic) → widths_from sense excess order (pos 0) front list ≡ map (λ (entry : Elastic). entry.width) list
+still-widths : (sense : Sense) (excess : ℤ) (order : Order) (front list : List Elastic) →
+    widths_from sense excess order (pos 0) front list ≡ map (λ (entry : Elastic). entry.width) list
 still-widths sense excess order front [] = refl
 still-widths Stretch excess order front (entry ∷ list) =
     let first : entry.width +ℤ (pos 0 -ℤ pos 0) ≡ entry.width = omega (arith, ints) in
@@ -123,8 +131,10 @@ still-widths Shrink excess order front (entry ∷ list) =
     let first : entry.width -ℤ (pos 0 -ℤ pos 0) ≡ entry.width = omega (arith, ints) in
     rw (first, still-widths Shrink excess order (front ++ entry ∷ []) list) refl
 
-pub still : (list : List Elastic) (excess : ℤ) (sense : Sense) → AllByRecursion IsStill list → set_widths list excess sense ≡ map (λ (entry : Elastic). entry.width) list
-still list excess sense all = rw (still-sum (chosen list) list all) (still-widths sense excess (chosen list) [] list)
+pub still : (list : List Elastic) (excess : ℤ) (sense : Sense) → AllByRecursion IsStill list →
+    set_widths list excess sense ≡ map (λ (entry : Elastic). entry.width) list
+still list excess sense all =
+    rw (still-sum (chosen list) list all) (still-widths sense excess (chosen list) [] list)
 
 pub stretching-still : (items : List Item) → AllRigid items → AllByRecursion IsStill (flat_map stretching items)
 stretching-still [] all = tt
@@ -146,30 +156,37 @@ shrinking-still (Penalty value body ∷ items) all = absurd all.0
 shrinking-still (Insert class size body ∷ items) all = absurd all.0
 shrinking-still (Carry body ∷ items) all = absurd all.0
 
-pub stretching-widths : (items : List Item) → AllRigid items → map (λ (entry : Elastic). entry.width) (flat_map stretching items) ≡ flat_map own_width items
+pub stretching-widths : (items : List Item) → AllRigid items →
+    map (λ (entry : Elastic). entry.width) (flat_map stretching items) ≡ flat_map own_width items
 stretching-widths [] all = refl
 stretching-widths (BoxItem height depth body ∷ items) all = stretching-widths items all.1
-stretching-widths (Glue width stretch order shrink body ∷ items) all = ap (λ (ws : List ℤ). width ∷ ws) (stretching-widths items all.1)
+stretching-widths (Glue width stretch order shrink body ∷ items) all =
+    ap (λ (ws : List ℤ). width ∷ ws) (stretching-widths items all.1)
 stretching-widths (Rule height depth body ∷ items) all = absurd all.0
 stretching-widths (Kern width body ∷ items) all = absurd all.0
 stretching-widths (Penalty value body ∷ items) all = absurd all.0
 stretching-widths (Insert class size body ∷ items) all = absurd all.0
 stretching-widths (Carry body ∷ items) all = absurd all.0
 
-pub shrinking-widths : (items : List Item) → AllRigid items → map (λ (entry : Elastic). entry.width) (flat_map shrinking items) ≡ flat_map own_width items
+pub shrinking-widths : (items : List Item) → AllRigid items →
+    map (λ (entry : Elastic). entry.width) (flat_map shrinking items) ≡ flat_map own_width items
 shrinking-widths [] all = refl
 shrinking-widths (BoxItem height depth body ∷ items) all = shrinking-widths items all.1
-shrinking-widths (Glue width stretch order shrink body ∷ items) all = ap (λ (ws : List ℤ). width ∷ ws) (shrinking-widths items all.1)
+shrinking-widths (Glue width stretch order shrink body ∷ items) all =
+    ap (λ (ws : List ℤ). width ∷ ws) (shrinking-widths items all.1)
 shrinking-widths (Rule height depth body ∷ items) all = absurd all.0
 shrinking-widths (Kern width body ∷ items) all = absurd all.0
 shrinking-widths (Penalty value body ∷ items) all = absurd all.0
 shrinking-widths (Insert class size body ∷ items) all = absurd all.0
 shrinking-widths (Carry body ∷ items) all = absurd all.0
 
-pub set-as-they-are : (items : List Item) → AllRigid items → set_items items (flat_map own_width items) ≡ own_items items
+pub set-as-they-are : (items : List Item) → AllRigid items →
+    set_items items (flat_map own_width items) ≡ own_items items
 set-as-they-are [] all = refl
-set-as-they-are (BoxItem height depth body ∷ items) all = ap (λ (text : List ℕ). plain_text (BoxItem height depth body) ++ text) (set-as-they-are items all.1)
-set-as-they-are (Glue width stretch order shrink body ∷ items) all = ap (λ (text : List ℕ). set_text body width ++ text) (set-as-they-are items all.1)
+set-as-they-are (BoxItem height depth body ∷ items) all =
+    ap (λ (text : List ℕ). plain_text (BoxItem height depth body) ++ text) (set-as-they-are items all.1)
+set-as-they-are (Glue width stretch order shrink body ∷ items) all =
+    ap (λ (text : List ℕ). set_text body width ++ text) (set-as-they-are items all.1)
 set-as-they-are (Rule height depth body ∷ items) all = absurd all.0
 set-as-they-are (Kern width body ∷ items) all = absurd all.0
 set-as-they-are (Penalty value body ∷ items) all = absurd all.0
@@ -178,7 +195,9 @@ set-as-they-are (Carry body ∷ items) all = absurd all.0
 
 -- ---- the first box is in front
 
-front-step : (item : Item) (items : List Item) → IsRigid item → prefix_len (λ (it : Item). not (is_box it)) (trimmed items) ≡ 0 → prefix_len (λ (it : Item). not (is_box it)) (trimmed (item ∷ items)) ≡ 0
+front-step : (item : Item) (items : List Item) → IsRigid item →
+    prefix_len (λ (it : Item). not (is_box it)) (trimmed items) ≡ 0 →
+    prefix_len (λ (it : Item). not (is_box it)) (trimmed (item ∷ items)) ≡ 0
 front-step (BoxItem height depth body) items is rest = refl
 front-step (Glue width stretch order shrink body) items is rest = rest
 front-step (Rule height depth body) items is rest = absurd is
@@ -187,9 +206,12 @@ front-step (Penalty value body) items is rest = absurd is
 front-step (Insert class size body) items is rest = absurd is
 front-step (Carry body) items is rest = absurd is
 
-pub box-in-front : (items : List Item) → AllRigid items → prefix_len (λ (it : Item). not (is_box it)) (trimmed items) ≡ 0
+pub box-in-front : (items : List Item) → AllRigid items →
+    prefix_len (λ (it : Item). not (is_box it)) (trimmed items) ≡ 0
 box-in-front [] all = refl
 box-in-front (item ∷ items) all = front-step item items all.0 (box-in-front items all.1)
 
-pub text-of-items : (topskip : ℤ) (items : List Item) → AllRigid items → items_text topskip (trimmed items) (flat_map own_width (trimmed items)) ≡ top_line topskip (trimmed items) ++ own_items (trimmed items)
-text-of-items topskip items all = rw (box-in-front items all) (ap (λ (text : List ℕ). top_line topskip (trimmed items) ++ text) (set-as-they-are (trimmed items) (rigid-trimmed items all)))
+pub text-of-items : (topskip : ℤ) (items : List Item) → AllRigid items →
+    items_text topskip (trimmed items) (flat_map own_width (trimmed items)) ≡ top_line topskip (trimmed items) ++ own_items (trimmed items)
+text-of-items topskip items all =
+    rw (box-in-front items all) (ap (λ (text : List ℕ). top_line topskip (trimmed items) ++ text) (set-as-they-are (trimmed items) (rigid-trimmed items all)))

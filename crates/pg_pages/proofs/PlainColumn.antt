@@ -36,24 +36,30 @@ use Rattle.pg_pages.proofs.Plain.{AllRigid, items-rigid, blocks-single, rigid-dr
 
 pub no-floats : (doc : Document) → IsPlainStyle doc.style → (before : List ℕ) → floats_text doc before [] ≡ []
 unfolding floats_text
-no-floats doc plain before = subst (λ (style : StyleValue). floats_text (with_style doc style) before [] ≡ []) (sym (bare-is doc.style plain)) refl
+no-floats doc plain before =
+    subst (λ (style : StyleValue). floats_text (with_style doc style) before [] ≡ []) (sym (bare-is doc.style plain)) refl
 
 pub no-notes : (style : StyleValue) → IsPlainStyle style → (items : List Item) → notes_text style items ≡ []
 unfolding notes_text
-no-notes style plain items = subst (λ (it : StyleValue). notes_text it items ≡ []) (sym (bare-is style plain)) refl
+no-notes style plain items =
+    subst (λ (it : StyleValue). notes_text it items ≡ []) (sym (bare-is style plain)) refl
 
 -- ---- the column's items
 
-pub segment-is : (doc : Document) → AreRigid doc.blocks → (from to : ℕ) → segment (plain_context doc from to) (to - from) ≡ trimmed (items_between doc.blocks from to)
-segment-is doc rigid from to = ap (λ (items : List Item). trimmed (take (to - from) items)) (items-of doc (blocks-single doc.blocks rigid) from to)
+pub segment-is : (doc : Document) → AreRigid doc.blocks → (from to : ℕ) →
+    segment (plain_context doc from to) (to - from) ≡ trimmed (items_between doc.blocks from to)
+segment-is doc rigid from to =
+    ap (λ (items : List Item). trimmed (take (to - from) items)) (items-of doc (blocks-single doc.blocks rigid) from to)
 
-pub spent-is : (doc : Document) → AreRigid doc.blocks → (from to : ℕ) → from ≤ to → is_spent (items_of (plain_context doc from to)) (to - from) ≡ is_spent (single_items doc.blocks) to
+pub spent-is : (doc : Document) → AreRigid doc.blocks → (from to : ℕ) → from ≤ to →
+    is_spent (items_of (plain_context doc from to)) (to - from) ≡ is_spent (single_items doc.blocks) to
 spent-is doc rigid from to onward =
     let there : from + (to - from) ≡ to = omega (arith, onward) in
     ap (λ (items : List Item). is_spent items (to - from)) (items-of doc (blocks-single doc.blocks rigid) from to)
     ∙ ap (λ (items : List Item). is_spent items 0) (drop-drop (to - from) from (single_items doc.blocks) ∙ ap (λ (k : ℕ). drop k (single_items doc.blocks)) there)
 
-pub rigid-column : (doc : Document) → AreRigid doc.blocks → (from to : ℕ) → AllRigid (items_of (plain_context doc from to))
+pub rigid-column : (doc : Document) → AreRigid doc.blocks → (from to : ℕ) →
+    AllRigid (items_of (plain_context doc from to))
 rigid-column doc rigid from to =
     subst (λ (items : List Item). AllRigid items) (sym (items-of doc (blocks-single doc.blocks rigid) from to)) (rigid-drop from (single_items doc.blocks) (items-rigid doc.blocks rigid))
 
@@ -62,12 +68,14 @@ spaced items n size goal spent =
     if int_lt size goal && not spent then set_widths (flat_map stretching items) (goal -ℤ size) Stretch
     else (if int_lt goal size then set_widths (flat_map shrinking items) (size -ℤ goal) Shrink else flat_map own_width items)
 
-three-ways : {X : Type 0} (b c : Bool) (x y z w : X) → x ≡ w → y ≡ w → z ≡ w → (if b then x else (if c then y else z)) ≡ w
+three-ways : {X : Type 0} (b c : Bool) (x y z w : X) → x ≡ w → y ≡ w → z ≡ w →
+    (if b then x else (if c then y else z)) ≡ w
 three-ways true c x y z w e f g = e
 three-ways false true x y z w e f g = f
 three-ways false false x y z w e f g = g
 
-pub widths-are : (doc : Document) → AreRigid doc.blocks → (from to : ℕ) → glue_widths (plain_context doc from to) (to - from) ≡ flat_map own_width (trimmed (items_between doc.blocks from to))
+pub widths-are : (doc : Document) → AreRigid doc.blocks → (from to : ℕ) →
+    glue_widths (plain_context doc from to) (to - from) ≡ flat_map own_width (trimmed (items_between doc.blocks from to))
 widths-are doc rigid from to =
     let it = plain_context doc from to in
     let n = to - from in
@@ -102,11 +110,13 @@ set-line-is doc plain rigid from to onward =
 
 -- ---- the whole
 
-parts : (set top text bottom notes set' text' : List ℕ) → set ≡ set' → top ≡ [] → text ≡ text' → bottom ≡ [] → notes ≡ [] → set ++ top ++ text ++ bottom ++ notes ≡ set' ++ text'
+parts : (set top text bottom notes set' text' : List ℕ) → set ≡ set' → top ≡ [] → text ≡ text' →
+    bottom ≡ [] → notes ≡ [] → set ++ top ++ text ++ bottom ++ notes ≡ set' ++ text'
 parts set top text bottom notes set' text' a b c d e =
     rw (a, b, c, d, e) (append-nil (set' ++ [] ++ text' ++ []) ∙ append-nil (set' ++ [] ++ text') ∙ ap (λ (front : List ℕ). front ++ text') (append-nil set'))
 
-pub text-area-is : (doc : Document) → AreRigid doc.blocks → (from to : ℕ) → text_area (plain_context doc from to) (to - from) ≡ text_between doc from to
+pub text-area-is : (doc : Document) → AreRigid doc.blocks → (from to : ℕ) →
+    text_area (plain_context doc from to) (to - from) ≡ text_between doc from to
 unfolding text_area text_of_items text_head
 text-area-is doc rigid from to =
     rw (widths-are doc rigid from to, segment-is doc rigid from to)
@@ -128,7 +138,8 @@ text-is doc plain rigid from to onward =
 pub side-is : (style : StyleValue) → IsPlainStyle style → (ms : List PageMove) → next_side style ms ≡ S
 side-is style plain ms = ap (λ (first : First). side_of first (next_page style ms)) plain.single_sides
 
-pub head-is : (doc : Document) → IsPlainStyle doc.style → (from to : ℕ) (ms : List PageMove) → page_head doc (plain_move from to) ms ≡ page_line (length ms + 1) S 0 []
+pub head-is : (doc : Document) → IsPlainStyle doc.style → (from to : ℕ) (ms : List PageMove) →
+    page_head doc (plain_move from to) ms ≡ page_line (length ms + 1) S 0 []
 head-is doc plain from to ms =
     let wide = no-floats doc plain (placed_of doc.style ms) in
     ap (λ (number : ℕ). page_line number (next_side doc.style ms) 0 [] ++ area (codes "wide") (floats_text doc (placed_of doc.style ms) [])) (page-number doc.style plain.one_column ms)
@@ -136,20 +147,24 @@ head-is doc plain from to ms =
     ∙ ap (λ (text : List ℕ). page_line (length ms + 1) S 0 [] ++ area (codes "wide") text) wide
     ∙ append-nil (page_line (length ms + 1) S 0 [])
 
-joined : (head head' line body body' : List ℕ) → head ≡ head' → body ≡ body' → head ++ line ++ body ≡ head' ++ (line ++ body')
+joined : (head head' line body body' : List ℕ) → head ≡ head' → body ≡ body' →
+    head ++ line ++ body ≡ head' ++ (line ++ body')
 joined head head' line body body' e f = rw (e, f) (append_assoc head' line body')
 
-pub body-is : (doc : Document) → IsPlainStyle doc.style → AreRigid doc.blocks → (from to : ℕ) → from < to → to ≤ length doc.blocks
+pub body-is : (doc : Document) → IsPlainStyle doc.style → AreRigid doc.blocks → (from to : ℕ) → from < to →
+    to ≤ length doc.blocks
     → column_body (plain_context doc from to) ≡ numbers_text (numbers_between doc from to) ++ text_between doc from to
 body-is doc plain rigid from to onward within =
     let it = plain_context doc from to in
     let forward : from ≤ to = omega (arith, onward) in
-    let apart : is_text it ≡ true = let differ : (from == to) ≡ false = grind (arith, nat_tests) in rw differ refl in
+    let apart : is_text it ≡ true = let differ : (from == to) ≡ false = grind (arith, nat_tests) in
+    rw differ refl in
     ap (λ (b : Bool). if b then option_map_or (text_column it) (size_of it) [] else float_column it) apart
     ∙ ap (λ (o : Option ℕ). option_map_or (text_column it) o []) (size-is doc (blocks-single doc.blocks rigid) from to forward within)
     ∙ text-is doc plain rigid from to forward
 
-pub column-is : (doc : Document) → IsPlainStyle doc.style → AreRigid doc.blocks → (from to : ℕ) → from < to → to ≤ length doc.blocks → (ms : List PageMove)
+pub column-is : (doc : Document) → IsPlainStyle doc.style → AreRigid doc.blocks → (from to : ℕ) →
+    from < to → to ≤ length doc.blocks → (ms : List PageMove)
     → column_text doc (plain_move from to) ms ≡ plain_page_text doc (length ms + 1) from to
 column-is doc plain rigid from to onward within ms =
     let m = plain_move from to in

@@ -22,7 +22,8 @@ singles_length (One item ∷ xs) = omega (arith, singles_length xs)
 singles_length (Choice variants ∷ xs) = omega (arith, singles_length xs)
 
 -- the blocks up to and including the next
-pub one_more : {X : Type 0} (xs : List X) (i : ℕ) (x : X) → i < length xs → x ≡ get_or xs i x → take (i + 1) xs ≡ take i xs ++ x ∷ []
+pub one_more : {X : Type 0} (xs : List X) (i : ℕ) (x : X) → i < length xs → x ≡ get_or xs i x →
+    take (i + 1) xs ≡ take i xs ++ x ∷ []
 one_more xs i x less is =
     let next : i + 1 ≡ suc i = omega arith in
     ap (λ (k : ℕ). take k xs) next ∙ take-suc xs i x less ∙ ap (λ y. take i xs ++ y ∷ []) (sym is)
@@ -35,7 +36,8 @@ pub on_ok : {T E : Type 0} (r : Result T E) (P Q : Type 0) → (P → Q) → OnO
 on_ok (Ok x) P Q f p = f p
 on_ok (Err e) P Q f p = tt
 
-pub two_parts : (old mid new front end : List ℕ) → mid ≡ old ++ front → new ≡ mid ++ end → new ≡ old ++ (front ++ end)
+pub two_parts : (old mid new front end : List ℕ) → mid ≡ old ++ front → new ≡ mid ++ end →
+    new ≡ old ++ (front ++ end)
 two_parts old mid new front end e f = f ∙ ap (λ (text : List ℕ). text ++ end) e ∙ append_assoc old front end
 
 pub take_whole : {X : Type 0} (xs : List X) (n : ℕ) → length xs ≤ n → take n xs ≡ xs

@@ -27,7 +27,8 @@ ten_lines-text = refl
 
 -- a float above its line
 abbrev pub shown_float : GalleyValue
-shown_float = galley (shown_line ∷ Insert 100 (points 20) (codes "\\insert100, natural size 20.0; split(0.0,0.0); float cost 0") ∷ [])
+shown_float =
+    galley (shown_line ∷ Insert 100 (points 20) (codes "\\insert100, natural size 20.0; split(0.0,0.0); float cost 0") ∷ [])
 
 float-text : page_text shown_float both_style (with_float 1 0) (pos 100) ≡ codes "pages 1 cost 100 width 345.0\npage 1 side S run 0 wide 0\ncolumn 1 from 0 0 0 to 2 0 0 top 1 bottom 0 picks -\nset goal 34.0 total 10.0 badness 0 penalty 0 demerits 100\narea top\n.\\insert100, natural size 20.0; split(0.0,0.0); float cost 0\narea text\n.\\glue(\\topskip) 3.0\n.\\hbox(7.0+2.0)x345.0\n"
 unfolding page_text page_line notes_text floats_text set_line text_area column_ends column_counts page_side page_run head_counts head_line digits fraction_digits
@@ -59,7 +60,8 @@ abbrev pub shown_soft : Item
 shown_soft = Glue (points 3) (points 1) Finite (pos 0) (codes "\\glue 3.0 plus 1.0")
 
 abbrev pub shown_note : GalleyValue
-shown_note = galley (shown_line ∷ shown_soft ∷ shown_line ∷ shown_soft ∷ shown_line ∷ shown_soft ∷ shown_line ∷ shown_soft ∷ shown_line
+shown_note =
+    galley (shown_line ∷ shown_soft ∷ shown_line ∷ shown_soft ∷ shown_line ∷ shown_soft ∷ shown_line ∷ shown_soft ∷ shown_line
     ∷ Insert 200 (points 9) (codes "\\insert200, natural size 9.0; split(0.0,0.0); float cost 0") ∷ [])
 
 note-text : page_text shown_note (note_style 100) (two_pages 7 10) (pos 41036936) ≡ codes "pages 2 cost 41036936 width 345.0\npage 1 side S run 0 wide -\ncolumn 1 from 0 0 0 to 7 0 0 top - bottom - picks -\nset goal 58.0 total 46.0 badness 6396 penalty 0 demerits 41036836\narea text\n.\\glue(\\topskip) 3.0\n.\\hbox(7.0+2.0)x345.0\n.\\glue 3.0 plus 1.0, set 7.0\n.\\hbox(7.0+2.0)x345.0\n.\\glue 3.0 plus 1.0, set 7.0\n.\\hbox(7.0+2.0)x345.0\n.\\glue 3.0 plus 1.0, set 7.0\n.\\hbox(7.0+2.0)x345.0\npage 2 side S run 0 wide -\ncolumn 1 from 7 0 0 to 10 0 0 top - bottom - picks -\nset goal 45.0 total 10.0 badness 0 penalty 0 demerits 100\narea text\n.\\glue(\\topskip) 3.0\n.\\hbox(7.0+2.0)x345.0\narea notes\n.\\insert200, natural size 9.0; split(0.0,0.0); float cost 0\n"

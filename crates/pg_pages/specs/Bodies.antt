@@ -24,7 +24,8 @@ set_rest width further = codes ", set " ++ scaled_text width ++ line (dotted fur
 
 -- a body whose first line goes on with a set width
 abbrev pub set_text : List ℕ → ℤ → List ℕ
-set_text body width = 46 ∷ dotted (take (prefix_len is_no_feed body) body) ++ set_rest width (drop (prefix_len is_no_feed body) body)
+set_text body width = 46 ∷ dotted (take (prefix_len is_no_feed body) body)
+    ++ set_rest width (drop (prefix_len is_no_feed body) body)
 
 -- inserts stand in areas of their own
 abbrev pub plain_text : Item → List ℕ

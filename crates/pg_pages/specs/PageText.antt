@@ -62,7 +62,8 @@ is_note style number = option_map_or (λ (class : Class). is_note_kind class.kin
 -- the notes of a segment, by class in increasing number and then in order
 unfoldable pub notes_text : StyleValue → List Item → List ℕ
 notes_text style items =
-    flat_map (λ (number : ℕ). if is_note style number then flat_map body_text (inserted number items) else []) (range_with_len 0 255)
+    flat_map (λ (number : ℕ). if is_note style number then flat_map body_text (inserted number items) else [])
+    (range_with_len 0 255)
 
 -- ---- the text of a column
 
@@ -70,7 +71,8 @@ notes_text style items =
 abbrev pub set_items : List Item → List ℤ → List ℕ
 set_items [] widths = []
 set_items (Glue width stretch order shrink body ∷ items) [] = body_text body ++ set_items items []
-set_items (Glue width stretch order shrink body ∷ items) (set ∷ widths) = set_text body set ++ set_items items widths
+set_items (Glue width stretch order shrink body ∷ items) (set ∷ widths) =
+    set_text body set ++ set_items items widths
 set_items (item ∷ items) widths = plain_text item ++ set_items items widths
 
 abbrev pub top_line : ℤ → List Item → List ℕ
@@ -94,7 +96,8 @@ set_line it n =
     ++ line (codes " demerits " ++ whole_text (text_demerits it n))
 
 unfoldable pub text_area : ColumnContext → ℕ → List ℕ
-text_area it n = line (codes "area text") ++ items_text it.document.style.topskip (segment it n) (glue_widths it n)
+text_area it n = line (codes "area text")
+    ++ items_text it.document.style.topskip (segment it n) (glue_widths it n)
 
 abbrev pub top_area : ColumnContext → List ℕ
 top_area it = area (codes "top") (floats_text it.document it.before it.column.top)
@@ -104,16 +107,20 @@ bottom_area it = area (codes "bottom") (floats_text it.document (before_bottom i
 
 -- a column with n items of text
 abbrev pub text_column : ColumnContext → ℕ → List ℕ
-text_column it n = set_line it n ++ top_area it ++ text_area it n ++ bottom_area it ++ area (codes "notes") (notes_text it.document.style (segment it n))
+text_column it n = set_line it n ++ top_area it ++ text_area it n ++ bottom_area it
+    ++ area (codes "notes") (notes_text it.document.style (segment it n))
 
 abbrev pub float_column : ColumnContext → List ℕ
-float_column it = line (codes "without text demerits " ++ decimal it.document.style.float_column.demerits) ++ top_area it ++ bottom_area it
+float_column it = line (codes "without text demerits " ++ decimal it.document.style.float_column.demerits)
+    ++ top_area it ++ bottom_area it
 
 unfoldable pub column_ends : ℕ → Column → List ℕ
-column_ends number column = codes "column " ++ decimal number ++ codes " from " ++ place_text column.from ++ codes " to " ++ place_text column.to
+column_ends number column = codes "column " ++ decimal number ++ codes " from " ++ place_text column.from
+    ++ codes " to " ++ place_text column.to
 
 unfoldable pub column_counts : Column → List ℕ
-column_counts column = codes " top " ++ counts_text column.top ++ codes " bottom " ++ counts_text column.bottom ++ codes " picks " ++ counts_text column.picks
+column_counts column = codes " top " ++ counts_text column.top
+    ++ codes " bottom " ++ counts_text column.bottom ++ codes " picks " ++ counts_text column.picks
 
 abbrev pub column_line : ℕ → Column → List ℕ
 column_line number column = column_ends number column ++ line (column_counts column)
@@ -134,11 +141,13 @@ page_line number side run wide = page_side number side ++ line (page_run run wid
 
 -- the first line of the page that a column begins, and its wide area
 abbrev pub page_head : Document → PageMove → List PageMove → List ℕ
-page_head doc m ms = page_line (next_page doc.style ms) (next_side doc.style ms) m.run m.wide ++ area (codes "wide") (floats_text doc (placed_of doc.style ms) m.wide)
+page_head doc m ms = page_line (next_page doc.style ms) (next_side doc.style ms) m.run m.wide
+    ++ area (codes "wide") (floats_text doc (placed_of doc.style ms) m.wide)
 
 abbrev pub column_text : Document → PageMove → List PageMove → List ℕ
 column_text doc m ms =
-    (if next_column doc.style ms == 1 then page_head doc m ms else []) ++ column_line (next_column doc.style ms) m.column ++ column_body (context doc m ms)
+    (if next_column doc.style ms == 1 then page_head doc m ms else [])
+    ++ column_line (next_column doc.style ms) m.column ++ column_body (context doc m ms)
 
 -- of columns from the last to the first
 abbrev pub columns_text : Document → List PageMove → List ℕ

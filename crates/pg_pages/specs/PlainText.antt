@@ -52,10 +52,17 @@ abbrev pub numbers_from : StyleValue → Bool → List Item → TextNumbers
 numbers_from style is_last items =
     let size = total style.topskip style.maxdepth (trimmed items) in
     let badness = page_badness is_last (plain_room style) size (trimmed items) in
-    record { goal = plain_room style; total = size; badness = badness; penalty = pos 0; demerits = square (pos (style.line + badness)) }
+    record {
+      goal = plain_room style;
+      total = size;
+      badness = badness;
+      penalty = pos 0;
+      demerits = square (pos (style.line + badness));
+    }
 
 abbrev pub numbers_between : Document → ℕ → ℕ → TextNumbers
-numbers_between doc from to = numbers_from doc.style (is_spent (single_items doc.blocks) to) (items_between doc.blocks from to)
+numbers_between doc from to =
+    numbers_from doc.style (is_spent (single_items doc.blocks) to) (items_between doc.blocks from to)
 
 unfoldable pub text_head : ℤ → List Item → List ℕ
 text_head topskip items = line (codes "area text") ++ top_line topskip items
@@ -74,7 +81,8 @@ plain_page from to = record { run = 0; wide = []; columns = (plain_move from to)
 abbrev pub text_with : Document → ℕ → Page → Column → List ℕ
 text_with doc number page column =
     page_line number S page.run page.wide
-    ++ (column_line 1 column ++ (numbers_text (numbers_between doc column.from.block column.to.block) ++ text_between doc column.from.block column.to.block))
+    ++ (column_line 1 column ++ (numbers_text (numbers_between doc column.from.block column.to.block)
+    ++ text_between doc column.from.block column.to.block))
 
 abbrev pub plain_page_text : Document → ℕ → ℕ → ℕ → List ℕ
 plain_page_text doc number from to = text_with doc number (plain_page from to) (plain_move from to).column

@@ -12,11 +12,13 @@ use Rattle.pg_rules.specs.Room.{ColumnContext, items_of}
 use Rattle.pg_rules.specs.ColumnRules.{segment, text_total, text_goal}
 
 abbrev pub stretching : Item → List Elastic
-stretching (Glue width stretch order shrink body) = record { width = width; order = order; amount = stretch } ∷ []
+stretching (Glue width stretch order shrink body) =
+    record { width = width; order = order; amount = stretch } ∷ []
 stretching _ = []
 
 abbrev pub shrinking : Item → List Elastic
-shrinking (Glue width stretch order shrink body) = record { width = width; order = Finite; amount = shrink } ∷ []
+shrinking (Glue width stretch order shrink body) =
+    record { width = width; order = Finite; amount = shrink } ∷ []
 shrinking _ = []
 
 abbrev pub own_width : Item → List ℤ
@@ -26,6 +28,8 @@ own_width _ = []
 -- stretched to the goal, but for an end with no box behind it; shrunk to it; or as the glue is
 abbrev pub glue_widths : ColumnContext → ℕ → List ℤ
 glue_widths it n =
-    if int_lt (text_total it n) (text_goal it n) && not (is_spent (items_of it) n) then set_widths (flat_map stretching (segment it n)) (text_goal it n -ℤ text_total it n) Stretch
-    else (if int_lt (text_goal it n) (text_total it n) then set_widths (flat_map shrinking (segment it n)) (text_total it n -ℤ text_goal it n) Shrink
+    if int_lt (text_total it n) (text_goal it n) && not (is_spent (items_of it) n)
+    then set_widths (flat_map stretching (segment it n)) (text_goal it n -ℤ text_total it n) Stretch
+    else (if int_lt (text_goal it n) (text_total it n)
+    then set_widths (flat_map shrinking (segment it n)) (text_total it n -ℤ text_goal it n) Shrink
     else flat_map own_width (segment it n))

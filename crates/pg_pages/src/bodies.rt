@@ -21,6 +21,7 @@ fn print_dotted(body: &[u8], out: &mut Vec<u8>) -> Result<(), AllocError>
     Ok(())
 }
 
+// A body as it stands in a page text, a point in front of each of its lines.
 pub fn print_body(body: &[u8], out: &mut Vec<u8>) -> Result<(), AllocError>
     ensures ok { OnOk result (out.new.items ≡ out.old.items ++ body_text body.now) }
     ensures grows { Grows out.old.items out.new.items }
@@ -51,6 +52,7 @@ fn print_set_rest(width: i32, further: &[u8], out: &mut Vec<u8>) -> Result<(), A
     Ok(())
 }
 
+// The body of a glue, its set width at the end of its first line.
 pub fn print_set(body: &[u8], width: i32, out: &mut Vec<u8>) -> Result<(), AllocError>
     ensures ok { OnOk result (out.new.items ≡ out.old.items ++ set_text body.now width) }
     ensures grows { Grows out.old.items out.new.items }

@@ -27,8 +27,8 @@ use pg_sums::Sums;
 use pg_whole::{minus, wide};
 use std::alloc::AllocError;
 
-/// The numbers of a text column, lengths in scaled points: what its text is set to, its natural size, TeX's badness of the
-/// difference, the penalty at its end, and its demerits.
+/// The numbers of a text column, lengths in scaled points: what its text is set to, its natural size, the badness
+/// of the difference (TeX: The Program, §108), the penalty at its end, and its demerits.
 #[derive(Clone, Copy, Debug, Drop)]
 pub struct TextNumbers {
     pub goal: i64,
@@ -56,6 +56,7 @@ fn print_number(name: &[u8], number: i128, out: &mut Vec<u8>) -> Result<(), Allo
     print_whole(number, out)
 }
 
+// The goal and the total.
 fn print_sizes(numbers: &TextNumbers, out: &mut Vec<u8>) -> Result<(), AllocError>
     ensures ok { OnOk result (out.new.items ≡ out.old.items ++ sizes_text numbers.now) }
     ensures grows { Grows out.old.items out.new.items }
@@ -64,6 +65,7 @@ fn print_sizes(numbers: &TextNumbers, out: &mut Vec<u8>) -> Result<(), AllocErro
     print_length(b" total ", numbers.total, out)
 }
 
+// The badness and the penalty.
 fn print_costs(numbers: &TextNumbers, out: &mut Vec<u8>) -> Result<(), AllocError>
     ensures ok { OnOk result (out.new.items ≡ out.old.items ++ costs_text numbers.now) }
     ensures grows { Grows out.old.items out.new.items }
@@ -72,6 +74,7 @@ fn print_costs(numbers: &TextNumbers, out: &mut Vec<u8>) -> Result<(), AllocErro
     print_number(b" penalty ", i128::from(numbers.penalty), out)
 }
 
+// The demerits, and the end of the line.
 fn print_demerits(demerits: i64, out: &mut Vec<u8>) -> Result<(), AllocError>
     ensures ok { OnOk result (out.new.items ≡ out.old.items ++ demerits_line demerits) }
     ensures grows { Grows out.old.items out.new.items }
@@ -81,6 +84,7 @@ fn print_demerits(demerits: i64, out: &mut Vec<u8>) -> Result<(), AllocError>
     Ok(())
 }
 
+// The line of a text column's numbers.
 #[tactic(auto, unfolding(crate::specs::PlainText::numbers_text))]
 pub fn print_numbers(numbers: &TextNumbers, out: &mut Vec<u8>) -> Result<(), AllocError>
     ensures ok { OnOk result (out.new.items ≡ out.old.items ++ numbers_text numbers.now) }
@@ -103,6 +107,7 @@ fn print_item(item: &Item, out: &mut Vec<u8>) -> Result<(), AllocError>
     }
 }
 
+// The item of a block; a choice stands in no plain galley.
 fn print_block(block: &Block, out: &mut Vec<u8>) -> Result<(), AllocError>
     ensures ok { OnOk result (out.new.items ≡ out.old.items ++ own_items (single_items (block.now ∷ []))) }
     ensures grows { Grows out.old.items out.new.items }
@@ -113,6 +118,7 @@ fn print_block(block: &Block, out: &mut Vec<u8>) -> Result<(), AllocError>
     }
 }
 
+// The items of these blocks, one behind the other.
 #[tactic(auto, using(crate::proofs::Singles::singles_append))]
 pub fn print_items(blocks: &[Block], out: &mut Vec<u8>) -> Result<(), AllocError>
     ensures ok { OnOk result (out.new.items ≡ out.old.items ++ own_items (single_items blocks.now)) }
@@ -124,6 +130,7 @@ pub fn print_items(blocks: &[Block], out: &mut Vec<u8>) -> Result<(), AllocError
     Ok(())
 }
 
+// Whether a box stands in front.
 fn begins_with_box(blocks: &[Block]) -> bool
     requires { AreRigid blocks.now }
     ensures { result ≡ front_is_box (single_items blocks.now) }
@@ -150,6 +157,7 @@ pub fn without_front(blocks: &[Block]) -> &[Block]
     rest
 }
 
+// The glue above a first box of this height; a higher one has none.
 fn lift(topskip: i32, height: i32) -> i64
     ensures { result ≡ int_max (pos 0) (topskip -ℤ height) }
 {

@@ -1,8 +1,8 @@
 //! The page text: what is written of a pagination.
 //!
-//! `print_pages` is proved to append exactly the text that `specs/PageText.antt` defines, for galleys of boxes and
-//! rigid glue on single pages of one column; the definition is the one of every galley. `proofs/WorkedTexts.antt`
-//! computes it for galleys with floats, notes, soft glue and lines of several lines.
+//! `print_pages` is proved to append exactly the text that `specs/PageText.antt` defines, for galleys of boxes
+//! and rigid glue on single pages of one column; the definition is the one of every galley.
+//! `proofs/WorkedTexts.antt` computes it for galleys with floats, notes, soft glue and bodies of several lines.
 #![tactic(auto)]
 
 mod bodies;

@@ -51,6 +51,7 @@ fn print_place_of(name: &[u8], place: Place, out: &mut Vec<u8>) -> Result<(), Al
     print_place(place, out)
 }
 
+// The number of a page on a single side.
 #[tactic(auto, unfolding(crate::specs::PageText::page_side))]
 fn print_single_side(number: u128, out: &mut Vec<u8>) -> Result<(), AllocError>
     ensures ok { OnOk result (out.new.items ≡ out.old.items ++ page_side number S) }
@@ -61,6 +62,7 @@ fn print_single_side(number: u128, out: &mut Vec<u8>) -> Result<(), AllocError>
     Ok(())
 }
 
+// A page's run and its wide counts.
 #[tactic(auto, unfolding(crate::specs::PageText::page_run))]
 fn print_run(page: &Page, out: &mut Vec<u8>) -> Result<(), AllocError>
     ensures ok { OnOk result (out.new.items ≡ out.old.items ++ page_run page.now.run page.now.wide) }
@@ -82,6 +84,7 @@ fn print_page_line(number: u128, page: &Page, out: &mut Vec<u8>) -> Result<(), A
     Ok(())
 }
 
+// Where a column begins and ends.
 #[tactic(auto, unfolding(crate::specs::PageText::column_ends))]
 fn print_ends(number: u128, column: &Column, out: &mut Vec<u8>) -> Result<(), AllocError>
     ensures ok { OnOk result (out.new.items ≡ out.old.items ++ ends_of number column.now) }
@@ -105,6 +108,7 @@ fn print_column_counts(column: &Column, out: &mut Vec<u8>) -> Result<(), AllocEr
     Ok(())
 }
 
+// The line of a column without picks.
 fn print_column_line(number: u128, column: &Column, out: &mut Vec<u8>) -> Result<(), AllocError>
     requires { column.now.picks ≡ [] }
     ensures ok { OnOk result (out.new.items ≡ out.old.items ++ column_line number column.now) }
@@ -116,6 +120,7 @@ fn print_column_line(number: u128, column: &Column, out: &mut Vec<u8>) -> Result
     Ok(())
 }
 
+// How many pages there are, and what they cost.
 #[tactic(auto, unfolding(crate::specs::PageText::head_counts))]
 fn print_head_counts(pages: u128, cost: i128, out: &mut Vec<u8>) -> Result<(), AllocError>
     ensures ok { OnOk result (out.new.items ≡ out.old.items ++ head_counts pages cost) }
@@ -136,6 +141,7 @@ fn print_length_line(name: &[u8], length: i64, out: &mut Vec<u8>) -> Result<(), 
     Ok(())
 }
 
+// The first line.
 #[tactic(auto, unfolding(crate::specs::PageText::head_line))]
 fn print_head(pages: u128, cost: i128, width: i64, out: &mut Vec<u8>) -> Result<(), AllocError>
     ensures ok { OnOk result (out.new.items ≡ out.old.items ++ head_line pages cost width) }
@@ -160,7 +166,8 @@ fn print_text_head(topskip: i32, text: &[Block], out: &mut Vec<u8>) -> Result<()
 #[tactic(auto, unfolding(crate::specs::PlainText::text_of_items))]
 fn print_text(topskip: i32, blocks: &[Block], out: &mut Vec<u8>) -> Result<(), AllocError>
     requires { AreRigid blocks.now }
-    ensures ok { OnOk result (out.new.items ≡ out.old.items ++ text_of_items topskip (trimmed (single_items blocks.now))) }
+    ensures ok { OnOk result (out.new.items ≡ out.old.items
+        ++ text_of_items topskip (trimmed (single_items blocks.now))) }
     ensures grows { Grows out.old.items out.new.items }
 {
     let text = without_front(blocks);
@@ -200,7 +207,8 @@ fn print_page(
     requires plain { IsPlainStyle style.now }
     requires rigid { AreRigid galley.now.blocks }
     requires page { IsPlainPage (document galley.now style.now) page.now }
-    ensures ok { OnOk result (out.new.items ≡ out.old.items ++ text_of_page (document galley.now style.now) number page.now) }
+    ensures ok { OnOk result (out.new.items ≡ out.old.items
+        ++ text_of_page (document galley.now style.now) number page.now) }
     ensures grows { Grows out.old.items out.new.items }
 {
     let Some(column) = page.columns.as_slice().first() else {
@@ -241,10 +249,11 @@ fn print_all(
     Ok(())
 }
 
-/// Appends the text of a pagination with its cost.
+/// Appends the text of a pagination with its cost, in demerits; lengths are written in points.
 ///
-/// The galley is one of boxes and glue that neither stretches nor shrinks, the style has one column, single sides, one
-/// run and no classes, and each page is one column of text that is not over its room. After a refusal `out` is as before.
+/// The galley is one of boxes and glue that neither stretches nor shrinks, the style has one column, single
+/// sides, one run and no classes, and each page is one column of text that is not over its room. The only refusal
+/// is for want of memory, and `out` is then as before.
 pub fn print_pages(
     galley: &Galley,
     style: &Style,
@@ -266,7 +275,8 @@ pub fn print_pages(
     Ok(())
 }
 
-/// Appends the line for a galley that has no legal pagination.
+/// Appends the line for a galley that has no legal pagination. The only refusal is for want of memory, and `out`
+/// is then as before.
 pub fn print_none(out: &mut Vec<u8>) -> Result<(), AllocError>
     ensures ok { OnOk result (out.new.items ≡ out.old.items ++ none_text) }
     ensures err { OnErr result (out.new.items ≡ out.old.items) }

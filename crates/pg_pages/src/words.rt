@@ -7,6 +7,7 @@ use itoa::Buffer;
 use pg_list::Place;
 use std::alloc::AllocError;
 
+// A number in decimals.
 pub fn print_decimal(number: u128, out: &mut Vec<u8>) -> Result<(), AllocError>
     ensures ok { OnOk result (out.new.items ≡ out.old.items ++ decimal number) }
     ensures grows { Grows out.old.items out.new.items }
@@ -16,6 +17,7 @@ pub fn print_decimal(number: u128, out: &mut Vec<u8>) -> Result<(), AllocError>
     Ok(())
 }
 
+// A number in decimals, a minus in front of a negative one.
 pub fn print_whole(number: i128, out: &mut Vec<u8>) -> Result<(), AllocError>
     ensures ok { OnOk result (out.new.items ≡ out.old.items ++ whole_text number) }
     ensures grows { Grows out.old.items out.new.items }
@@ -35,6 +37,7 @@ fn print_entry(count: u16, out: &mut Vec<u8>) -> Result<(), AllocError>
     print_decimal(u128::from(count), out)
 }
 
+// The entries behind the first.
 fn print_further(counts: &[u16], out: &mut Vec<u8>) -> Result<(), AllocError>
     ensures ok { OnOk result (out.new.items ≡ out.old.items ++ further_text counts.now) }
     ensures grows { Grows out.old.items out.new.items }
@@ -45,6 +48,7 @@ fn print_further(counts: &[u16], out: &mut Vec<u8>) -> Result<(), AllocError>
     Ok(())
 }
 
+// The entries joined by commas, and `-` where there is none.
 pub fn print_counts(counts: &[u16], out: &mut Vec<u8>) -> Result<(), AllocError>
     ensures ok { OnOk result (out.new.items ≡ out.old.items ++ counts_text counts.now) }
     ensures grows { Grows out.old.items out.new.items }
@@ -70,6 +74,7 @@ fn print_field(field: u32, out: &mut Vec<u8>) -> Result<(), AllocError>
     print_decimal(u128::from(field), out)
 }
 
+// Block, variant and index.
 pub fn print_place(place: Place, out: &mut Vec<u8>) -> Result<(), AllocError>
     ensures ok { OnOk result (out.new.items ≡ out.old.items ++ place_text place) }
     ensures grows { Grows out.old.items out.new.items }

@@ -38,7 +38,8 @@ pub first-column : (style : StyleValue) → style.columns ≡ 1 → (ms : List P
 first-column style one [] = refl
 first-column style one (m ∷ ms) = rw (first-column style one ms, one) refl
 
-pub page-number : (style : StyleValue) → style.columns ≡ 1 → (ms : List PageMove) → next_page style ms ≡ length ms + 1
+pub page-number : (style : StyleValue) → style.columns ≡ 1 → (ms : List PageMove) →
+    next_page style ms ≡ length ms + 1
 page-number style one [] = refl
 page-number style one (m ∷ ms) = rw (first-column style one ms, one, page-number style one ms) (omega arith)
 
@@ -47,7 +48,8 @@ page-number style one (m ∷ ms) = rw (first-column style one ms, one, page-numb
 bare-wide : (doc : Document) (placed : List ℕ) → made_wide (with_style doc (bare doc.style)) placed [] ≡ None
 bare-wide doc placed = refl
 
-pub context-is : (doc : Document) → IsPlainStyle doc.style → (from to : ℕ) (ms : List PageMove) → context doc (plain_move from to) ms ≡ plain_context doc from to
+pub context-is : (doc : Document) → IsPlainStyle doc.style → (from to : ℕ) (ms : List PageMove) →
+    context doc (plain_move from to) ms ≡ plain_context doc from to
 context-is doc plain from to ms =
     let first = first-column doc.style plain.one_column ms in
     let wide : wide_of doc (plain_move from to ∷ ms) ≡ None =
@@ -58,27 +60,36 @@ context-is doc plain from to ms =
 
 -- ---- its room
 
-bare-goal : (doc : Document) (from to n : ℕ) → text_goal (plain_context (with_style doc (bare doc.style)) from to) n ≡ plain_room doc.style
+bare-goal : (doc : Document) (from to n : ℕ) →
+    text_goal (plain_context (with_style doc (bare doc.style)) from to) n ≡ plain_room doc.style
 bare-goal doc from to n =
     let it = plain_context (with_style doc (bare doc.style)) from to in
     let top : top_height it ≡ pos 0 = either-way _ (pos 0) in
     let bottom : bottom_height it ≡ pos 0 = either-way _ (pos 0) in
     omega (arith, ints, top, bottom)
 
-pub goal-is : (doc : Document) → IsPlainStyle doc.style → (from to n : ℕ) → text_goal (plain_context doc from to) n ≡ plain_room doc.style
-goal-is doc plain from to n = subst (λ (style : StyleValue). text_goal (plain_context (with_style doc style) from to) n ≡ plain_room doc.style) (sym (bare-is doc.style plain)) (bare-goal doc from to n)
+pub goal-is : (doc : Document) → IsPlainStyle doc.style → (from to n : ℕ) →
+    text_goal (plain_context doc from to) n ≡ plain_room doc.style
+goal-is doc plain from to n =
+    subst (λ (style : StyleValue). text_goal (plain_context (with_style doc style) from to) n ≡ plain_room doc.style) (sym (bare-is doc.style plain)) (bare-goal doc from to n)
 
 -- ---- its items
 
-pub items-of : (doc : Document) → AreSingle doc.blocks → (from to : ℕ) → items_of (plain_context doc from to) ≡ drop from (single_items doc.blocks)
-items-of doc single from to = items-are from (drop from doc.blocks) [] (drop-single from doc.blocks single) ∙ drop-items from doc.blocks single
+pub items-of : (doc : Document) → AreSingle doc.blocks → (from to : ℕ) →
+    items_of (plain_context doc from to) ≡ drop from (single_items doc.blocks)
+items-of doc single from to = items-are from (drop from doc.blocks) [] (drop-single from doc.blocks single)
+    ∙ drop-items from doc.blocks single
 
-pub size-is : (doc : Document) → AreSingle doc.blocks → (from to : ℕ) → from ≤ to → to ≤ length doc.blocks → size_of (plain_context doc from to) ≡ Some (to - from)
+pub size-is : (doc : Document) → AreSingle doc.blocks → (from to : ℕ) → from ≤ to → to ≤ length doc.blocks →
+    size_of (plain_context doc from to) ≡ Some (to - from)
 size-is doc single from to onward within =
     let rest = drop-single from doc.blocks single in
     let rest-length = length-drop from doc.blocks in
     elim (cases_Bool (to == length doc.blocks)) [
-      | inl last ↦ let same : to ≡ length doc.blocks = grind (arith, nat_tests) in let long = flat-length from (drop from doc.blocks) [] rest in rw last (ap Some (long ∙ omega (arith, same, rest-length)))
-      | inr inside ↦ let below : to < length doc.blocks = grind (arith, nat_tests) in rw inside (subst (λ (k : ℕ). position (λ (it : FlatItem). is_same_place it.place (place k 0 0)) (flat_items_from from (drop from doc.blocks) []) ≡ Some (to - from)) (omega arith)
+      | inl last ↦ let same : to ≡ length doc.blocks = grind (arith, nat_tests) in
+          let long = flat-length from (drop from doc.blocks) [] rest in
+          rw last (ap Some (long ∙ omega (arith, same, rest-length)))
+      | inr inside ↦ let below : to < length doc.blocks = grind (arith, nat_tests) in
+          rw inside (subst (λ (k : ℕ). position (λ (it : FlatItem). is_same_place it.place (place k 0 0)) (flat_items_from from (drop from doc.blocks) []) ≡ Some (to - from)) (omega arith)
           (position-is from (to - from) (drop from doc.blocks) [] rest (omega (arith, below, rest-length))))
     ]

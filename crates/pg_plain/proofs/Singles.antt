@@ -12,12 +12,15 @@ use Rattle.pg_flat.specs.Flat.{FlatItem, flat_items_from, is_same_place}
 use Rattle.pg_plain.specs.Plain.{AreSingle, single_items}
 
 -- the items are those of the blocks
-pub items-are : (n : ℕ) (blocks : List Block) (picks : List ℕ) → AreSingle blocks → map (λ (it : FlatItem). it.item) (flat_items_from n blocks picks) ≡ single_items blocks
+pub items-are : (n : ℕ) (blocks : List Block) (picks : List ℕ) → AreSingle blocks →
+    map (λ (it : FlatItem). it.item) (flat_items_from n blocks picks) ≡ single_items blocks
 items-are n [] picks single = refl
-items-are n (One item ∷ blocks) picks single = ap (λ (items : List Item). item ∷ items) (items-are (n + 1) blocks picks single.1)
+items-are n (One item ∷ blocks) picks single =
+    ap (λ (items : List Item). item ∷ items) (items-are (n + 1) blocks picks single.1)
 items-are n (Choice variants ∷ blocks) picks single = absurd single.0
 
-pub flat-length : (n : ℕ) (blocks : List Block) (picks : List ℕ) → AreSingle blocks → length (flat_items_from n blocks picks) ≡ length blocks
+pub flat-length : (n : ℕ) (blocks : List Block) (picks : List ℕ) → AreSingle blocks →
+    length (flat_items_from n blocks picks) ≡ length blocks
 flat-length n [] picks single = refl
 flat-length n (One item ∷ blocks) picks single = ap suc (flat-length (n + 1) blocks picks single.1)
 flat-length n (Choice variants ∷ blocks) picks single = absurd single.0
@@ -32,7 +35,8 @@ drop-single zero blocks single = single
 drop-single (suc k) [] single = tt
 drop-single (suc k) (block ∷ blocks) single = drop-single k blocks single.1
 
-pub drop-items : (k : ℕ) (blocks : List Block) → AreSingle blocks → single_items (drop k blocks) ≡ drop k (single_items blocks)
+pub drop-items : (k : ℕ) (blocks : List Block) → AreSingle blocks →
+    single_items (drop k blocks) ≡ drop k (single_items blocks)
 drop-items zero blocks single = refl
 drop-items (suc k) [] single = refl
 drop-items (suc k) (One item ∷ blocks) single = drop-items k blocks single.1

@@ -34,10 +34,16 @@ pub record IsPlainStyle (style : StyleValue) : Type 0 where
 
 -- a column of text from one block to another
 abbrev pub plain_move : ℕ → ℕ → PageMove
-plain_move from to = record { column = record { from = place from 0 0; to = place to 0 0; top = []; bottom = []; picks = [] }; run = 0; wide = [] }
+plain_move from to =
+    record {
+      column = record { from = place from 0 0; to = place to 0 0; top = []; bottom = []; picks = [] };
+      run = 0;
+      wide = [];
+    }
 
 abbrev pub plain_context : Document → ℕ → ℕ → ColumnContext
-plain_context doc from to = record { document = doc; column = (plain_move from to).column; run = 0; wide = None; before = [] }
+plain_context doc from to =
+    record { document = doc; column = (plain_move from to).column; run = 0; wide = None; before = [] }
 
 -- the items from one block up to another
 abbrev pub items_between : List Block → ℕ → ℕ → List Item

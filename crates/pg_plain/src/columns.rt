@@ -1,3 +1,4 @@
+//! The room of a column, its sums and its demerits.
 ghost use Rattle.std.specs.Prelude.{◌≡◌, ◌≤◌, ◌<◌, ◌+◌, ◌^◌, ◌++◌, ◌∷◌, [], slice_get, List, ℤ, nat_abs, pos};
 ghost use Rattle.std.specs.Option.{option_map_or};
 ghost use Rattle.pg_list.specs.Shapes.{IsBlock};
@@ -11,7 +12,7 @@ use pg_style::{Run, Style};
 use pg_sums::Sums;
 use pg_whole::{plus, wide};
 
-/// Adds the item of a block to the sums; a choice adds nothing.
+/// Adds the item of a block to the sums; a choice adds nothing. At most 2^20 items are added.
 pub fn add_block(sums: &mut Sums, block: &Block)
     requires few { sums.old.count < 2 ^ 20 }
     requires in_range { IsBlock block.now }
@@ -23,7 +24,8 @@ pub fn add_block(sums: &mut Sums, block: &Block)
     }
 }
 
-/// The demerits of a text column without a penalty at its end (the form of TeX: The Program §859).
+/// The demerits of a text column without a penalty at its end: the square of its badness and the style's demerits
+/// of a line (the form of TeX: The Program, §859).
 pub fn demerits(line: u16, badness: u16) -> i64
     ensures { result ≡ square (pos (line + badness)) }
 {

@@ -20,12 +20,15 @@ abbrev pub with_front : List Block → Option (List Block) → Option (List Bloc
 with_front front None = None
 with_front front (Some blocks) = Some (front ++ blocks)
 
-front_grows : (front : List Block) (block : Block) (o : Option (List Block)) → with_front front (o >>= (λ blocks. Some (block ∷ blocks))) ≡ with_front (front ++ block ∷ []) o
+front_grows : (front : List Block) (block : Block) (o : Option (List Block)) →
+    with_front front (o >>= (λ blocks. Some (block ∷ blocks))) ≡ with_front (front ++ block ∷ []) o
 front_grows front block None = refl
-front_grows front block (Some blocks) = ap (λ (bs : List Block). Some bs) (sym (append_assoc front (block ∷ []) blocks))
+front_grows front block (Some blocks) =
+    ap (λ (bs : List Block). Some bs) (sym (append_assoc front (block ∷ []) blocks))
 
 -- one more line was read
-pub one_more : (front : List Block) (lines rest : List (List ℕ)) (line : List ℕ) (item : Item) → lines ≡ line ∷ rest → item_of line ≡ Some item
+pub one_more : (front : List Block) (lines rest : List (List ℕ)) (line : List ℕ) (item : Item) →
+    lines ≡ line ∷ rest → item_of line ≡ Some item
     → with_front front (blocks_of lines) ≡ with_front (front ++ One item ∷ []) (blocks_of rest)
 unfolding blocks_of
 one_more front lines rest line item e is =
@@ -34,7 +37,8 @@ one_more front lines rest line item e is =
     ∙ front_grows front (One item) (blocks_of rest)
 
 -- a line says nothing
-pub line_fails : (front : List Block) (lines rest : List (List ℕ)) (line : List ℕ) → lines ≡ line ∷ rest → item_of line ≡ None
+pub line_fails : (front : List Block) (lines rest : List (List ℕ)) (line : List ℕ) → lines ≡ line ∷ rest →
+    item_of line ≡ None
     → with_front front (blocks_of lines) ≡ None
 unfolding blocks_of
 line_fails front lines rest line e is =
@@ -56,7 +60,8 @@ pub too_many : (last : List ℕ) (lines : List (List ℕ)) → 2 ^ 18 < length l
 unfolding blocks_said
 too_many last lines many = rw (lt-leb (length lines) (2 ^ 18) many) (nothing last)
 
-pub not_ended : (last rest : List ℕ) (lines : List (List ℕ)) → last ≡ rest → 0 < length rest → blocks_said last lines ≡ None
+pub not_ended : (last rest : List ℕ) (lines : List (List ℕ)) → last ≡ rest → 0 < length rest →
+    blocks_said last lines ≡ None
 unfolding blocks_said
 not_ended last [] lines e some = absurd (omega arith)
 not_ended last (c ∷ cs) lines e some = rw e refl
@@ -83,21 +88,25 @@ count_more all lines rest line blocks new block so_far e push =
     let more = ap length push ∙ length-append blocks (block ∷ []) in
     omega arith
 
-pub one_longer : (blocks new : List Block) (block : Block) → new ≡ blocks ++ block ∷ [] → length new ≡ length blocks + 1
+pub one_longer : (blocks new : List Block) (block : Block) → new ≡ blocks ++ block ∷ [] →
+    length new ≡ length blocks + 1
 one_longer blocks new block push = ap length push ∙ length-append blocks (block ∷ [])
 
 -- a block that is one item counts one
-pub items_more : (blocks new : List Block) (item : Item) → item_count blocks ≡ length blocks → new ≡ blocks ++ One item ∷ [] → item_count new ≡ length new
+pub items_more : (blocks new : List Block) (item : Item) → item_count blocks ≡ length blocks →
+    new ≡ blocks ++ One item ∷ [] → item_count new ≡ length new
 items_more blocks new item so_far push =
     let one = ap item_count push ∙ sum_by_push block_size blocks (One item) in
     let more = ap length push ∙ length-append blocks (One item ∷ []) in
     omega arith
 
-rigid_push : (blocks : List Block) (item : Item) → AreRigid blocks → IsRigid item → AreRigid (blocks ++ One item ∷ [])
+rigid_push : (blocks : List Block) (item : Item) → AreRigid blocks → IsRigid item →
+    AreRigid (blocks ++ One item ∷ [])
 rigid_push [] item all is = (is, tt)
 rigid_push (block ∷ blocks) item all is = (all.0, rigid_push blocks item all.1 is)
 
-pub rigid_more : (blocks new : List Block) (item shown : Item) → AreRigid blocks → item ≡ shown → IsRigid shown → new ≡ blocks ++ One item ∷ [] → AreRigid new
+pub rigid_more : (blocks new : List Block) (item shown : Item) → AreRigid blocks → item ≡ shown →
+    IsRigid shown → new ≡ blocks ++ One item ∷ [] → AreRigid new
 rigid_more blocks new item shown all same is push =
     subst (λ (bs : List Block). AreRigid bs) (sym push) (rigid_push blocks item all (subst (λ (it : Item). IsRigid it) (sym same) is))
 
@@ -110,11 +119,13 @@ pub no_root : (last : List ℕ) (lines : List (List ℕ)) → lines ≡ [] → l
 unfolding listing_of
 no_root last lines e = rw e refl
 
-pub root_fails : (last : List ℕ) (lines rest : List (List ℕ)) (root : List ℕ) → lines ≡ root ∷ rest → None ≡ root_of root → listing_of last lines ≡ None
+pub root_fails : (last : List ℕ) (lines rest : List (List ℕ)) (root : List ℕ) → lines ≡ root ∷ rest →
+    None ≡ root_of root → listing_of last lines ≡ None
 unfolding listing_of
 root_fails last lines rest root e is = rw (e, ← is) refl
 
-pub blocks_fail : (last more : List ℕ) (lines rest : List (List ℕ)) (root : List ℕ) (width : ℤ) → lines ≡ root ∷ rest → last ≡ more → Some width ≡ root_of root
+pub blocks_fail : (last more : List ℕ) (lines rest : List (List ℕ)) (root : List ℕ) (width : ℤ) →
+    lines ≡ root ∷ rest → last ≡ more → Some width ≡ root_of root
     → blocks_said more rest ≡ None → listing_of last lines ≡ None
 unfolding listing_of
 blocks_fail last more lines rest root width e same is none = rw (e, same, ← is, none) refl
@@ -125,6 +136,7 @@ unfolding listing_of
 galley_said last more lines rest root width blocks e same is said = rw (e, same, ← is, said) refl
 
 -- a refusal that is handed on
-pub handed_on : {Y Z : Type 0} (line : ℕ) (kind : ListKind) (said : Option Y) (whole : Option Z) → Refuses line kind said → (said ≡ None → whole ≡ None) → Refuses line kind whole
+pub handed_on : {Y Z : Type 0} (line : ℕ) (kind : ListKind) (said : Option Y) (whole : Option Z) →
+    Refuses line kind said → (said ≡ None → whole ≡ None) → Refuses line kind whole
 handed_on line NotBuilt said whole refuses on = (refuses.0, on refuses.1)
 handed_on line Memory said whole refuses on = tt

@@ -1,3 +1,4 @@
+//! The sums of a segment, and what they say of a goal.
 ghost use Rattle.std.specs.Prelude.{◌≡◌, ◌||◌, not, List, ◌++◌, ◌∷◌, [], ◌+◌, ◌*◌, ◌<◌, ◌≤◌, ◌^◌, ℤ, pos, true, false, ◌≤ℤ◌, ◌<ℤ◌, ◌+ℤ◌, ◌-ℤ◌, if◌then◌else◌, nat_abs};
 ghost use Rattle.std.specs.List.{list_any};
 ghost use Rattle.pg_list.specs.Ranges.{IsScaled, IsItemInRange};
@@ -14,7 +15,10 @@ use pg_list::{Item, item_is_discardable};
 use pg_whole::minus;
 use std::marker::Model;
 
-/// The sums of a segment so far. Discardable items before its first box are left out.
+/// The sums of a segment so far, in scaled points (65536 to the point). Discardable items before its first box
+/// or rule are left out.
+///
+/// Each number is the number of the items added since `start`, whatever they are.
 #[derive(Debug, Drop)]
 pub struct Sums {
     topskip: i32,
@@ -36,7 +40,7 @@ impl Model for Sums {
 }
 
 impl Sums {
-    /// The sums of no items.
+    /// The sums of no items, for this topskip and this limit of a depth (TeX: The Program, §1000).
     pub fn start(topskip: i32, maxdepth: i32) -> Sums
         requires topskip { IsScaled topskip }
         requires maxdepth { IsScaled maxdepth }
@@ -51,18 +55,19 @@ impl Sums {
         }
     }
 
-    /// Whether an item counts after those so far.
+    // Whether an item counts after those so far: any but a discardable one before the first box or rule.
     fn counts(&self, item: &Item) -> bool
         ensures { result ≡ (self.now.totals.has_box || not (is_discardable item.now)) }
     {
         self.totals.has_box || !item_is_discardable(item)
     }
 
-    /// Adds the next item.
+    /// Adds the next item (TeX: The Program, §1001 to §1004). At most 2^20 items are added.
     pub fn add(&mut self, item: &Item)
         requires few { self.old.count < 2 ^ 20 }
         requires in_range { IsItemInRange item.now }
-        ensures { (topskip maxdepth : ℤ) (items : List AnItem) → AreSums topskip maxdepth items self.old → AreSums topskip maxdepth (items ++ item.now ∷ []) self.new }
+        ensures { (topskip maxdepth : ℤ) (items : List AnItem) → AreSums topskip maxdepth items self.old →
+            AreSums topskip maxdepth (items ++ item.now ∷ []) self.new }
     {
         if self.counts(item) {
             self.totals.add(self.topskip, self.maxdepth, item);
@@ -70,18 +75,20 @@ impl Sums {
         self.count += 1;
     }
 
-    /// The natural size.
+    /// The natural size: the glue above the first box, all widths, heights and depths, less the depth that hangs.
     pub fn total(&self) -> i64
-        ensures sums { (topskip maxdepth : ℤ) (items : List AnItem) → AreSums topskip maxdepth items self.now → result ≡ total topskip maxdepth (trimmed items) }
+        ensures sums { (topskip maxdepth : ℤ) (items : List AnItem) →
+            AreSums topskip maxdepth items self.now → result ≡ total topskip maxdepth (trimmed items) }
         ensures value { result ≡ self.now.totals.total }
         ensures size { nat_abs result < 2 ^ 55 }
     {
         self.totals.total
     }
 
-    /// How much can shrink.
+    /// How much can shrink: the sum of the shrink of all glue.
     pub fn shrink(&self) -> i64
-        ensures sums { (topskip maxdepth : ℤ) (items : List AnItem) → AreSums topskip maxdepth items self.now → result ≡ shrink (trimmed items) }
+        ensures sums { (topskip maxdepth : ℤ) (items : List AnItem) →
+            AreSums topskip maxdepth items self.now → result ≡ shrink (trimmed items) }
         ensures value { result ≡ self.now.totals.shrink }
         ensures size { nat_abs result < 2 ^ 52 }
     {
@@ -90,47 +97,56 @@ impl Sums {
 
     /// Whether a box or rule was added.
     pub fn has_box(&self) -> bool
-        ensures { (topskip maxdepth : ℤ) (items : List AnItem) → AreSums topskip maxdepth items self.now → result ≡ list_any is_box items }
+        ensures { (topskip maxdepth : ℤ) (items : List AnItem) → AreSums topskip maxdepth items self.now →
+            result ≡ list_any is_box items }
     {
         self.totals.has_box
     }
 
-    /// Whether the total passes a goal by more than can shrink.
+    /// Whether the total passes a goal by more than can shrink; one that just fits is not over (TeX: The
+    /// Program, §1007).
     pub fn over(&self, goal: i64) -> bool
         requires { nat_abs goal < 2 ^ 52 }
         ensures value { result ≡ is_over self.now.totals.total self.now.totals.shrink goal }
-        ensures sums { (topskip maxdepth : ℤ) (items : List AnItem) → AreSums topskip maxdepth items self.now → result ≡ is_over (total topskip maxdepth (trimmed items)) (shrink (trimmed items)) goal }
+        ensures sums { (topskip maxdepth : ℤ) (items : List AnItem) →
+            AreSums topskip maxdepth items self.now →
+            result ≡ is_over (total topskip maxdepth (trimmed items)) (shrink (trimmed items)) goal }
     {
         self.total() >= goal && minus(self.total(), goal) > self.shrink()
     }
 
+    // Whether some infinite stretch does not sum to 0.
     fn has_infinite(&self) -> bool
-        ensures { (topskip maxdepth : ℤ) (items : List AnItem) → AreSums topskip maxdepth items self.now → result ≡ has_infinite_of (trimmed items) }
+        ensures { (topskip maxdepth : ℤ) (items : List AnItem) → AreSums topskip maxdepth items self.now →
+            result ≡ has_infinite_of (trimmed items) }
     {
         self.totals.fil != 0 || self.totals.fill != 0 || self.totals.filll != 0
     }
 
-    /// How badly the finite stretch fills an excess.
+    // How badly the finite stretch fills an excess.
     fn stretch_badness(&self, excess: i64) -> u16
         requires { pos 0 ≤ℤ excess }
-        ensures { (topskip maxdepth : ℤ) (items : List AnItem) → AreSums topskip maxdepth items self.now → result ≡ badness_of excess (stretch Finite (trimmed items)) }
+        ensures { (topskip maxdepth : ℤ) (items : List AnItem) → AreSums topskip maxdepth items self.now →
+            result ≡ badness_of excess (stretch Finite (trimmed items)) }
     {
         badness(excess, self.totals.finite)
     }
 
-    /// How badly the shrink takes up an excess.
+    // How badly the shrink takes up an excess.
     fn shrink_badness(&self, excess: i64) -> u16
         requires { pos 0 ≤ℤ excess }
-        ensures { (topskip maxdepth : ℤ) (items : List AnItem) → AreSums topskip maxdepth items self.now → result ≡ badness_of excess (shrink (trimmed items)) }
+        ensures { (topskip maxdepth : ℤ) (items : List AnItem) → AreSums topskip maxdepth items self.now →
+            result ≡ badness_of excess (shrink (trimmed items)) }
     {
         badness(excess, self.totals.shrink)
     }
 
-    /// How badly the glue fills a goal that the segment is not over.
+    // How badly the glue fills a goal that the segment is not over.
     fn glue_badness(&self, goal: i64) -> u16
         requires size { nat_abs goal < 2 ^ 52 }
         requires fits { is_over self.now.totals.total self.now.totals.shrink goal ≡ false }
-        ensures { (topskip maxdepth : ℤ) (items : List AnItem) → AreSums topskip maxdepth items self.now → result ≡ page_badness false goal (total topskip maxdepth (trimmed items)) (trimmed items) }
+        ensures { (topskip maxdepth : ℤ) (items : List AnItem) → AreSums topskip maxdepth items self.now →
+            result ≡ page_badness false goal (total topskip maxdepth (trimmed items)) (trimmed items) }
     {
         let total = self.total();
         if total >= goal {
@@ -142,11 +158,13 @@ impl Sums {
         }
     }
 
-    /// How badly the segment fills a goal that it is not over.
+    /// How badly the segment fills a goal that it is not over, from 0 to 10000 (TeX: The Program, §1007): 0 where
+    /// it is short and has infinite stretch, or where it is spent, with no box behind it, and not too high.
     pub fn page_badness(&self, goal: i64, spent: bool) -> u16
         requires size { nat_abs goal < 2 ^ 52 }
         requires fits { is_over self.now.totals.total self.now.totals.shrink goal ≡ false }
-        ensures { (topskip maxdepth : ℤ) (items : List AnItem) → AreSums topskip maxdepth items self.now → result ≡ page_badness spent goal (total topskip maxdepth (trimmed items)) (trimmed items) }
+        ensures { (topskip maxdepth : ℤ) (items : List AnItem) → AreSums topskip maxdepth items self.now →
+            result ≡ page_badness spent goal (total topskip maxdepth (trimmed items)) (trimmed items) }
     {
         if spent && self.total() <= goal {
             0

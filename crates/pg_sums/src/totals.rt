@@ -1,3 +1,4 @@
+//! The sums of items that all count.
 ghost use Rattle.std.specs.Prelude.{◌≡◌, ◌-◌, List, ◌++◌, ◌∷◌, [], ◌+◌, ◌*◌, ◌<◌, ◌≤◌, ◌^◌, ℤ, pos, true, false, ◌≤ℤ◌, ◌+ℤ◌, ◌-ℤ◌, if◌then◌else◌, nat_abs};
 ghost use Rattle.std.specs.Int.{int_max, int_min};
 ghost use Rattle.pg_list.specs.Ranges.{IsScaled, IsItemInRange};
@@ -10,7 +11,8 @@ ghost use Rattle.pg_list.specs.declared.item.Item.{Item as AnItem};
 use pg_list::{Item, Order};
 use pg_whole::{minus, plus, wide};
 
-/// The sums of items that all count.
+/// The sums of items that all count, in scaled points: the natural size without the depth that hangs below,
+/// that depth, the stretch of each order, and the shrink.
 #[derive(Clone, Copy, Debug, Drop)]
 pub struct Totals {
     pub total: i64,
@@ -23,7 +25,7 @@ pub struct Totals {
     pub shrink: i64,
 }
 
-/// What stands above a first box.
+// What stands above a first box: as much as puts it at the topskip, and nothing above a higher one (§1001).
 fn lift(topskip: i32, height: i32) -> i64
     requires topskip { IsScaled topskip }
     requires height { IsScaled height }
@@ -34,7 +36,7 @@ fn lift(topskip: i32, height: i32) -> i64
     if room > 0 { room } else { 0 }
 }
 
-/// The part of a depth that hangs below the total.
+// The part of a depth that hangs below the total; what passes the limit counts (§1003).
 fn hanging_depth(depth: i32, maxdepth: i32) -> i64
     requires depth { IsScaled depth }
     requires maxdepth { IsScaled maxdepth }
@@ -48,7 +50,7 @@ fn hanging_depth(depth: i32, maxdepth: i32) -> i64
     }
 }
 
-/// A total that grows by a box, less the part of its depth that hangs.
+// A total that grows by a box, less the part of its depth that hangs.
 fn settled(total: i64, height: i32, depth: i32, hanging: i64) -> i64
     requires total { nat_abs total < 2 ^ 61 + 2 ^ 33 }
     requires sizes { IsScaled height × IsScaled depth }
@@ -59,7 +61,7 @@ fn settled(total: i64, height: i32, depth: i32, hanging: i64) -> i64
     minus(plus(plus(total, wide(height)), wide(depth)), hanging)
 }
 
-/// A total with a box below it.
+// A total with a box below it.
 fn boxed(total: i64, above: i64, below: i64, height: i32, depth: i32, hanging: i64) -> i64
     requires total { nat_abs total ≤ 2 ^ 61 }
     requires above { nat_abs above ≤ 2 ^ 31 }
@@ -90,7 +92,7 @@ impl Totals {
         }
     }
 
-    /// What a box adds above itself.
+    // What a box adds above itself; only the first adds anything.
     fn above(&self, topskip: i32, height: i32) -> i64
         requires topskip { IsScaled topskip }
         requires height { IsScaled height }
@@ -104,13 +106,16 @@ impl Totals {
         }
     }
 
+    // One more box or rule.
     fn add_box(&mut self, topskip: i32, maxdepth: i32, height: i32, depth: i32)
         requires total { nat_abs self.old.total ≤ 2 ^ 61 }
         requires below { nat_abs self.old.depth ≤ 2 ^ 31 }
         requires skips { IsScaled topskip × IsScaled maxdepth }
         requires sizes { IsScaled height × IsScaled depth }
         ensures depth { self.new.depth ≡ int_min maxdepth depth }
-        ensures total { self.new.total ≡ ((((self.old.total +ℤ (if self.old.has_box then pos 0 else int_max (pos 0) (topskip -ℤ height))) +ℤ self.old.depth) +ℤ height) +ℤ depth) -ℤ int_min maxdepth depth }
+        ensures total { self.new.total ≡ ((((self.old.total
+            +ℤ (if self.old.has_box then pos 0 else int_max (pos 0) (topskip -ℤ height)))
+            +ℤ self.old.depth) +ℤ height) +ℤ depth) -ℤ int_min maxdepth depth }
         ensures has_box { self.new.has_box ≡ true }
         ensures glue { HaveSameGlue self.new self.old }
         ensures total_size { nat_abs self.new.total ≤ nat_abs self.old.total + 2 ^ 34 }
@@ -123,6 +128,7 @@ impl Totals {
         self.has_box = true;
     }
 
+    // The width of glue or a kern; a depth above it no longer hangs.
     fn add_width(&mut self, width: i32)
         requires total { nat_abs self.old.total ≤ 2 ^ 61 }
         requires depth { nat_abs self.old.depth ≤ 2 ^ 31 }
@@ -137,18 +143,22 @@ impl Totals {
         self.depth = 0;
     }
 
+    // An amount of stretch, to the sum of its order.
     fn add_stretch(&mut self, order: Order, amount: i32)
         requires finite { nat_abs self.old.finite ≤ 2 ^ 61 }
         requires fil { nat_abs self.old.fil ≤ 2 ^ 61 }
         requires fill { nat_abs self.old.fill ≤ 2 ^ 61 }
         requires filll { nat_abs self.old.filll ≤ 2 ^ 61 }
         requires amount { IsScaled amount }
-        ensures finite { self.new.finite ≡ self.old.finite +ℤ (if is_same_order Finite order then amount else pos 0) }
+        ensures finite { self.new.finite ≡ self.old.finite
+            +ℤ (if is_same_order Finite order then amount else pos 0) }
         ensures fil { self.new.fil ≡ self.old.fil +ℤ (if is_same_order Fil order then amount else pos 0) }
         ensures fill { self.new.fill ≡ self.old.fill +ℤ (if is_same_order Fill order then amount else pos 0) }
-        ensures filll { self.new.filll ≡ self.old.filll +ℤ (if is_same_order Filll order then amount else pos 0) }
+        ensures filll { self.new.filll ≡ self.old.filll
+            +ℤ (if is_same_order Filll order then amount else pos 0) }
         ensures size { HasGlueGrown self.new self.old }
-        ensures others { (self.new.total ≡ self.old.total) × (self.new.depth ≡ self.old.depth) × (self.new.has_box ≡ self.old.has_box) × (self.new.shrink ≡ self.old.shrink) }
+        ensures others { (self.new.total ≡ self.old.total) × (self.new.depth ≡ self.old.depth)
+            × (self.new.has_box ≡ self.old.has_box) × (self.new.shrink ≡ self.old.shrink) }
     {
         match order {
             Order::Finite => self.finite = plus(self.finite, wide(amount)),
@@ -158,16 +168,19 @@ impl Totals {
         }
     }
 
+    // One more glue.
     fn add_glue(&mut self, width: i32, stretch: i32, order: Order, shrink: i32)
         requires bounds { IsBounded self.old (2 ^ 24) }
         requires sizes { IsScaled width × IsScaled stretch × IsScaled shrink }
         ensures depth { self.new.depth ≡ pos 0 }
         ensures total { self.new.total ≡ (self.old.total +ℤ self.old.depth) +ℤ width }
         ensures has_box { self.new.has_box ≡ self.old.has_box }
-        ensures finite { self.new.finite ≡ self.old.finite +ℤ (if is_same_order Finite order then stretch else pos 0) }
+        ensures finite { self.new.finite ≡ self.old.finite
+            +ℤ (if is_same_order Finite order then stretch else pos 0) }
         ensures fil { self.new.fil ≡ self.old.fil +ℤ (if is_same_order Fil order then stretch else pos 0) }
         ensures fill { self.new.fill ≡ self.old.fill +ℤ (if is_same_order Fill order then stretch else pos 0) }
-        ensures filll { self.new.filll ≡ self.old.filll +ℤ (if is_same_order Filll order then stretch else pos 0) }
+        ensures filll { self.new.filll ≡ self.old.filll
+            +ℤ (if is_same_order Filll order then stretch else pos 0) }
         ensures shrink { self.new.shrink ≡ self.old.shrink +ℤ shrink }
         ensures size { HasGrown self.new self.old }
     {
@@ -176,14 +189,15 @@ impl Totals {
         self.shrink = plus(self.shrink, wide(shrink));
     }
 
-    /// One more item that counts.
+    /// One more item that counts; penalties, inserts and carries have no size.
     pub fn add(&mut self, topskip: i32, maxdepth: i32, item: &Item)
         requires bounds { IsBounded self.old (2 ^ 24) }
         requires skips { IsScaled topskip × IsScaled maxdepth }
         requires hanging { pos 0 ≤ℤ maxdepth }
         requires in_range { IsItemInRange item.now }
         ensures size { IsBounded self.old (2 ^ 24) → HasGrown self.new self.old }
-        ensures totals { (items : List AnItem) → AreTotals topskip maxdepth items self.old → AreTotals topskip maxdepth (items ++ item.now ∷ []) self.new }
+        ensures totals { (items : List AnItem) → AreTotals topskip maxdepth items self.old →
+            AreTotals topskip maxdepth (items ++ item.now ∷ []) self.new }
     {
         match item {
             Item::BoxItem { height, depth, .. } => {

@@ -14,7 +14,8 @@ pub returns : goal.returns
 returns c =
     let style = c.args.style.now in
     let items = single_items c.args.blocks.now in
-    let goal-is = to_z-of_z w64 c.room-goal.result (record { sfits = search rules }) ∙ c.room-goal.ensures.value in
+    let goal-is = to_z-of_z w64 c.room-goal.result (record { sfits = search rules })
+    ∙ c.room-goal.ensures.value in
     let line : c.style.inside.line ≡ style.line = search rules in
     numbers_are style c.args.is_last items _ _ _ c.page_badness-badness.result goal-is
     (to_z-of_z w64 c.total.result (record { sfits = search rules }) ∙ size_is style _ _ c.total.result items (search rules) (search rules) (c.total.ensures.sums _ _ items c.sums_of-sums.ensures))

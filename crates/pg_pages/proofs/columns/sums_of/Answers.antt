@@ -17,6 +17,7 @@ add_block-requires-clause-few c =
 pub loop-block-preserved : goal.loop-block-preserved
 loop-block-preserved c =
     let longer : take (c.loop-block.block-index + 1) c.args.blocks.now ≡ take c.loop-block.block-index c.args.blocks.now ++ c.block-item.result ∷ [] = one_more c.args.blocks.now c.loop-block.block-index c.block-item.result c.loop-block-test.true c.block-item.is in
-    let items = ap single_items longer ∙ singles_append (take c.loop-block.block-index c.args.blocks.now) (c.block-item.result ∷ []) in
+    let items = ap single_items longer
+    ∙ singles_append (take c.loop-block.block-index c.args.blocks.now) (c.block-item.result ∷ []) in
     subst (λ (them : List Item). AreSums (to_z w32 (of_z w32 c.args.topskip)) (to_z w32 (of_z w32 c.args.maxdepth)) them c.add_block.new.sums) (sym items)
     (c.add_block.ensures (to_z w32 (of_z w32 c.args.topskip)) (to_z w32 (of_z w32 c.args.maxdepth)) (single_items (take c.loop-block.block-index c.args.blocks.now)) c.loop-block.invariant)

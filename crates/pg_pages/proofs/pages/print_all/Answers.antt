@@ -41,7 +41,8 @@ loop-page-preserved c =
           ∙ ap (λ (text : List ℕ). old ++ text) (append_assoc head (columns_text doc (columns_of (reverse done))) (text_of_page doc (length done + 1) page))
           ∙ ap (λ (text : List ℕ). old ++ (head ++ text)) (sym longer);
       number = omega (arith, c.loop-page.invariant.number);
-      grows = grows_on old c.loop-page.out.items c.print_page.new.out.items c.loop-page.invariant.grows c.in_ok-print_page.ensures.grows;
+      grows =
+          grows_on old c.loop-page.out.items c.print_page.new.out.items c.loop-page.invariant.grows c.in_ok-print_page.ensures.grows;
     }
 
 pub returns-clause-ok : goal.returns-clause-ok

@@ -16,9 +16,11 @@ returns-clause-ok c =
     let from = c.args.from in
     let to = c.args.to in
     let here = c.as_slice.ensures.blocks ∙ c.blocks-2.ensures.blocks in
-    let items = ap (λ (blocks : List Block). single_items (take (to - from) (drop from blocks))) here ∙ between-items doc.blocks from to (blocks-single doc.blocks c.requires.rigid) in
+    let items = ap (λ (blocks : List Block). single_items (take (to - from) (drop from blocks))) here
+    ∙ between-items doc.blocks from to (blocks-single doc.blocks c.requires.rigid) in
     let topskip : to_z w32 (of_z w32 c.style.inside.topskip) ≡ doc.style.topskip = search rules in
-    let numbers = c.in_ok-print_numbers.ensures.ok ∙ ap (λ it. c.args.out.now.items ++ numbers_text it) c.numbers_between.ensures in
+    let numbers = c.in_ok-print_numbers.ensures.ok
+    ∙ ap (λ it. c.args.out.now.items ++ numbers_text it) c.numbers_between.ensures in
     on_ok c.print_text.result _ _
     (λ printed. two_parts c.args.out.now.items c.print_numbers.new.out.items c.print_text.new.out.items (numbers_text (numbers_between doc from to)) (text_between doc from to) numbers
     (printed ∙ ap (λ (them : List Item). c.print_numbers.new.out.items ++ text_of_items (to_z w32 (of_z w32 c.style.inside.topskip)) (trimmed them)) items ∙ ap (λ (z : ℤ). c.print_numbers.new.out.items ++ text_of_items z (trimmed (items_between doc.blocks from to))) topskip))

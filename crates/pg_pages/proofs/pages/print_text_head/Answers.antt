@@ -15,7 +15,8 @@ unfolding text_head
 returns-clause-ok c =
     let items = single_items c.args.text.now in
     let fits = c.space_above.type_inv in
-    let space = to_z-of_z w64 c.space_above.result (record { sfits = search rules }) ∙ c.space_above.ensures ∙ ap (λ (topskip : ℤ). top_glue topskip items) (to_z-of_z w32 c.args.topskip (record { sfits = c.ranges.topskip.sfits })) in
+    let space = to_z-of_z w64 c.space_above.result (record { sfits = search rules }) ∙ c.space_above.ensures
+    ∙ ap (λ (topskip : ℤ). top_glue topskip items) (to_z-of_z w32 c.args.topskip (record { sfits = c.ranges.topskip.sfits })) in
     let mid = c.extend_from_slice.new.self.items in
     on_ok c.print_length_line.result _ _
     (λ printed. two_parts c.args.out.now.items mid c.print_length_line.new.out.items (line (codes "area text")) (top_line c.args.topskip items)
