@@ -24,12 +24,6 @@ abbrev pub LeadsGoOn : List Block → Type 0
 LeadsGoOn blocks = (from to : Place) (picks : List ℕ) (n : ℕ) → Lead blocks from to picks n →
     LeadOn blocks from to n
 
--- whatever picks come behind, the items from the first place on are the n ones, and then those from the other on
-abbrev pub LeadsCut : List Block → Type 0
-LeadsCut blocks = (from to : Place) (picks later : List ℕ) (n : ℕ) → Lead blocks from to picks n →
-    flat_items_at blocks from (picks ++ later)
-    ≡ take n (flat_items_at blocks from picks) ++ flat_items_at blocks to later
-
 -- more items lie before a place behind, and no fewer callouts of a class
 pub record BehindHasMore (blocks : List Block) (from to : Place) : Type 0 where
   pub items : far blocks from < far blocks to

@@ -17,12 +17,12 @@ use Rattle.pg_rules.specs.History.{context, place_of}
 use Rattle.pg_rules.specs.IsState.{IsPlace}
 use Rattle.pg_rules.specs.Legal.{document}
 use Rattle.pg_rules.specs.Room.{Document, flat_items_of}
-use Rattle.pg_places.proofs.Alike.{item_of}
+use Rattle.pg_cuts.proofs.Alike.{item_of}
 use Rattle.pg_places.proofs.Among.{both_of}
-use Rattle.pg_places.proofs.Counted.{callouts_passed}
+use Rattle.pg_cuts.proofs.Counted.{callouts_passed}
 use Rattle.pg_places.proofs.Measures.{inserted, inserted_append}
 use Rattle.pg_places.proofs.Tests.{same_place}
-use Rattle.pg_laws.specs.Ranges.{AreInRange}
+use Rattle.pg_columns.specs.Ranges.{AreInRange}
 use Rattle.pg_texts.specs.Texts.{CalloutsReadFlat, Chained, picks_of, texts}
 use Rattle.pg_texts.proofs.Once.{Fits, chain_fits, chain_place, column_items, fits_of, passed, passed_texts, whole_splits}
 use Rattle.pg_texts.proofs.Reading.{chained_tail, picks_split}
