@@ -1,21 +1,10 @@
 -- The law in the form of its contract.
-use Rattle.std.proofs.Common.{◌≡◌, refl, sym, ap, subst, ◌∙◌, ◌≤◌, ◌⊎◌, inl, inr, List, [], ◌∷◌, true, None}
-use Rattle.std.specs.Prelude.{reverse, ℤ, ◌+ℤ◌}
-use Rattle.std.specs.Cmp.{IsTotalOrder}
-use Rattle.std.specs.Cmp.Lexicographic.{slice_cmp}
-use Rattle.std.specs.declared.cmp.Ordering.TheVariants.{Equal}
-use Rattle.std.proofs.lemmas.Cmp.{lists_total, on_total}
+use Rattle.std.proofs.Common.{◌≡◌, sym, subst, [], true}
 use Rattle.pg_list.specs.GalleyValue.{GalleyValue}
-use Rattle.pg_plan.specs.declared.pages.PageMove.{PageMove}
-use Rattle.pg_plan.specs.declared.pages.Pagination.{Pagination}
-use Rattle.pg_plan.specs.declared.states.State.{State}
-use Rattle.pg_plan.specs.Order.{columns, column_cmp, plan_cmp}
 use Rattle.pg_style.specs.Values.{StyleValue}
-use Rattle.pg_rules.specs.Cost.{cost, cost_of}
-use Rattle.pg_rules.specs.Follow.{Follow}
-use Rattle.pg_rules.specs.Legal.{breach, document}
+use Rattle.pg_rules.specs.Legal.{document}
 use Rattle.pg_rules.specs.NoWorse.{PageKey, key, is_same_key, are_no_older}
-use Rattle.pg_rules.specs.States.{Prefix, prefix_breach, state_of, state_at, is_done}
+use Rattle.pg_rules.specs.States.{is_done}
 use Rattle.pg_places.proofs.Among.{both_of}
 use Rattle.pg_columns.specs.Ranges.{AreInRange}
 use Rattle.pg_columns.specs.Laws.{NoWorseFollow, NoWorseDone}

@@ -1,21 +1,15 @@
 -- How states that are no worse go on, in the words of the contract.
-use Rattle.std.specs.Prelude.{◌≡◌, ◌⊎◌, ◌↔◌, true, None, [], ◌∷◌, reverse, ℤ, ◌+ℤ◌}
-use Rattle.std.specs.declared.cmp.Ordering.TheVariants.{Equal}
+use Rattle.std.specs.Prelude.{◌≡◌, true, ℤ}
 use Rattle.pg_list.specs.GalleyValue.{GalleyValue}
 use Rattle.pg_plan.specs.declared.pages.PageMove.{PageMove}
-use Rattle.pg_plan.specs.declared.pages.Pagination.{Pagination}
 use Rattle.pg_plan.specs.declared.states.State.{State}
-use Rattle.pg_plan.specs.Order.{columns, plan_cmp}
 use Rattle.pg_style.specs.Values.{StyleValue}
-use Rattle.pg_rules.specs.Cost.{cost}
 use Rattle.pg_rules.specs.Follow.{Follow}
-use Rattle.pg_rules.specs.Legal.{Legal, breach, document, misfilled, ends_spent, has_dealt_all}
-use Rattle.pg_rules.specs.History.{placed_of}
+use Rattle.pg_rules.specs.Legal.{document}
 use Rattle.pg_rules.specs.NoWorse.{is_no_worse}
-use Rattle.pg_rules.specs.States.{Prefix, state_of, can_wait, is_done}
+use Rattle.pg_rules.specs.States.{is_done}
 use Rattle.pg_rules.specs.IsState.{IsState}
 use Rattle.pg_columns.specs.FollowsToo.{FollowsToo}
-use Rattle.pg_columns.specs.Stands.{Stand}
 
 -- what follows a state follows each that is no worse
 abbrev pub NoWorseFollow : GalleyValue → StyleValue → Type 0

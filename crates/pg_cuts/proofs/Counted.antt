@@ -12,7 +12,7 @@ use Rattle.pg_list.specs.declared.blocks.Block.TheVariants.{One, Choice}
 use Rattle.pg_list.specs.declared.galley.Place.{Place}
 use Rattle.pg_list.specs.declared.item.Item.{Item}
 use Rattle.pg_list.specs.declared.variants.Variant.{Variant}
-use Rattle.pg_flat.specs.Flat.{FlatItem, blocks_at, end_of, flat_items_at, flat_items_from, fronts, is_same_place, items_before, later_flat_items, picked_variants, steps_to, variant_flat_items}
+use Rattle.pg_flat.specs.Flat.{FlatItem, blocks_at, end_of, flat_items_at, flat_items_from, is_same_place, items_before, later_flat_items, picked_variants, steps_to, variant_flat_items}
 use Rattle.pg_rules.specs.IsState.{IsPlace}
 use Rattle.pg_cuts.proofs.Alike.{item_of}
 use Rattle.pg_places.proofs.Callouts.{take_all}

@@ -1,11 +1,8 @@
 -- How a column cuts the flat list, in the words of the contract.
-use Rattle.std.specs.Prelude.{◌≡◌, ◌⊎◌, ℕ, ◌+◌, ◌≤◌, ◌<◌, List, [], ◌++◌, length, take, Some}
+use Rattle.std.specs.Prelude.{◌≡◌, ℕ, List, ◌++◌, take}
 use Rattle.pg_list.specs.declared.blocks.Block.{Block}
 use Rattle.pg_list.specs.declared.galley.Place.{Place}
-use Rattle.pg_flat.specs.Flat.{blocks_at, flat, flat_items_at, fronts, items_before, picked_variants, steps_to}
-use Rattle.pg_rules.specs.Floats.{sizes_of}
-use Rattle.pg_rules.specs.IsState.{IsPlace}
-use Rattle.pg_places.specs.Past.{IsPast, far}
+use Rattle.pg_flat.specs.Flat.{flat_items_at}
 use Rattle.pg_places.specs.Laws.{Lead}
 
 -- whatever picks come behind, the items from the first place on are the n ones, and then those from the other on

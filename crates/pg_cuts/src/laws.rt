@@ -11,5 +11,4 @@ use pg_list::Galley;
 pub fn picks_cut_the_flat_list(galley: &Galley)
     requires { AllByRecursion IsBlock galley.now.blocks }
     ensures { LeadsCut galley.now.blocks }
-{
-}
+{}

@@ -1,5 +1,5 @@
 -- The laws in the form of their contracts.
-use Rattle.std.proofs.Common.{◌≡◌, refl, sym, ap, subst, ◌∙◌, ◌≤◌, ◌⊎◌, inl, inr, List, [], ◌∷◌, true, None}
+use Rattle.std.proofs.Common.{◌≡◌, refl, sym, ap, subst, ◌∙◌, ◌≤◌, ◌⊎◌, inl, inr, List, [], ◌∷◌, None}
 use Rattle.std.specs.Prelude.{reverse, ℤ, ◌+ℤ◌}
 use Rattle.std.specs.Cmp.{IsTotalOrder}
 use Rattle.std.specs.Cmp.Lexicographic.{slice_cmp}
@@ -14,9 +14,7 @@ use Rattle.pg_style.specs.Values.{StyleValue}
 use Rattle.pg_rules.specs.Cost.{cost, cost_of}
 use Rattle.pg_rules.specs.Follow.{Follow}
 use Rattle.pg_rules.specs.Legal.{breach, document}
-use Rattle.pg_rules.specs.NoWorse.{PageKey, key, is_same_key, are_no_older}
-use Rattle.pg_rules.specs.States.{Prefix, prefix_breach, state_of, state_at, is_done}
-use Rattle.pg_places.proofs.Among.{both_of}
+use Rattle.pg_rules.specs.States.{Prefix, prefix_breach, state_of, state_at}
 use Rattle.pg_laws.specs.Laws.{BeginningsFollow, FollowersArePushed, Follows, KeepsBeginningRules, KeepsRules, LegalAreDone, OrderTellsApart, PrefixesKeepRules, UnbrokenKeepRules}
 use Rattle.pg_laws.specs.Pages.{plan_of}
 use Rattle.pg_columns.specs.Ranges.{AreInRange}
@@ -28,8 +26,7 @@ use Rattle.pg_laws.proofs.Order.{column_equal, columns_total, then_equal}
 use Rattle.pg_laws.proofs.PagesLaws.{plan_back}
 use Rattle.pg_laws.proofs.Prefixes.{IsPlanOfColumns, columns_begin, columns_plan, done_is_legal, legal_done, legal_prefix, plan_is, prefix_sound}
 use Rattle.pg_columns.proofs.Push.{column_pays, follows, stands}
-use Rattle.pg_columns.proofs.Simulation.{key_same, simulates, with_ages}
-use Rattle.pg_columns.proofs.StyleFacts.{has_tables, tables_of}
+use Rattle.pg_columns.proofs.StyleFacts.{has_tables}
 
 module _ (g : GalleyValue) (s : StyleValue) (range : AreInRange g s) where
   pub facts : Facts (document g s)

@@ -11,10 +11,7 @@ use Rattle.pg_rules.specs.Cost.{cost}
 use Rattle.pg_rules.specs.Follow.{Follow}
 use Rattle.pg_rules.specs.Legal.{Legal, breach, document, misfilled, ends_spent, has_dealt_all}
 use Rattle.pg_rules.specs.History.{placed_of}
-use Rattle.pg_rules.specs.NoWorse.{is_no_worse}
 use Rattle.pg_rules.specs.States.{Prefix, state_of, can_wait, is_done}
-use Rattle.pg_rules.specs.IsState.{IsState}
-use Rattle.pg_columns.specs.FollowsToo.{FollowsToo}
 use Rattle.pg_columns.specs.Stands.{Stand}
 
 -- ---- a column more

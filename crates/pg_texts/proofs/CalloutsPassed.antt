@@ -1,5 +1,5 @@
 -- The callouts before a column's end stand before it in the flat list.
-use Rattle.std.proofs.Common.{◌≡◌, refl, sym, ap, subst, ◌∙◌, ℕ, ◌+◌, List, [], ◌∷◌, ◌++◌, map, length, take, Option, Some, arith}
+use Rattle.std.proofs.Common.{◌≡◌, refl, sym, ap, subst, ◌∙◌, ℕ, ◌+◌, List, [], ◌∷◌, ◌++◌, map, length, take, Option, arith}
 use Rattle.std.specs.List.{AllByRecursion}
 use Rattle.std.specs.Option.{option_map_or}
 use Rattle.std.proofs.Math.Seq.{take-append_seam}
@@ -8,10 +8,9 @@ use Rattle.pg_list.specs.GalleyValue.{GalleyValue}
 use Rattle.pg_list.specs.Shapes.{IsBlock}
 use Rattle.pg_list.specs.declared.galley.Place.{Place}
 use Rattle.pg_list.specs.declared.item.Item.{Item}
-use Rattle.pg_plan.specs.Order.{columns}
 use Rattle.pg_plan.specs.declared.pages.PageMove.{PageMove}
 use Rattle.pg_style.specs.Values.{StyleValue}
-use Rattle.pg_flat.specs.Flat.{FlatItem, flat, flat_items, flat_items_at, is_same_place, items_before}
+use Rattle.pg_flat.specs.Flat.{flat, flat_items_at, is_same_place, items_before}
 use Rattle.pg_rules.specs.Floats.{sizes_of}
 use Rattle.pg_rules.specs.History.{context, place_of}
 use Rattle.pg_rules.specs.IsState.{IsPlace}
