@@ -31,7 +31,7 @@ pub is_under : (style : StyleValue) (topskip maxdepth goal : ℤ) (items : List 
     → AreSums topskip maxdepth items sums → not_over style items ≡ true → is_over sums.totals.total sums.totals.shrink goal ≡ false
 is_under style topskip maxdepth goal items sums t m g are fits =
     let size : sums.totals.total ≡ total style.topskip style.maxdepth (trimmed items) =
-        are.totals_are.total_is ∙ ap (λ (z : ℤ). total z maxdepth (trimmed items)) t ∙ ap (λ (z : ℤ). total style.topskip z (trimmed items)) m in
+    are.totals_are.total_is ∙ ap (λ (z : ℤ). total z maxdepth (trimmed items)) t ∙ ap (λ (z : ℤ). total style.topskip z (trimmed items)) m in
     ap (λ (z : ℤ). is_over z sums.totals.shrink goal) size
     ∙ ap (λ (z : ℤ). is_over (total style.topskip style.maxdepth (trimmed items)) z goal) are.totals_are.shrink_is
     ∙ ap (λ (z : ℤ). is_over (total style.topskip style.maxdepth (trimmed items)) (shrink (trimmed items)) z) g

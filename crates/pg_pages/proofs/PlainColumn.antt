@@ -95,8 +95,8 @@ set-line-is doc plain rigid from to onward =
     let n = to - from in
     let badness = badness-is doc plain rigid from to onward in
     let demerits : text_demerits it n ≡ (numbers_between doc from to).demerits =
-        let nothing = nothing-added penalty_demerits (items_of it) n (rigid-column doc rigid from to) refl in
-        rw (nothing, badness) (omega (arith, ints)) in
+    let nothing = nothing-added penalty_demerits (items_of it) n (rigid-column doc rigid from to) refl in
+    rw (nothing, badness) (omega (arith, ints)) in
     let penalty : end_penalty it n ≡ pos 0 = nothing-added (λ (z : ℤ). z) (items_of it) n (rigid-column doc rigid from to) refl in
     rw (demerits, penalty, badness, goal-is doc plain from to n, segment-is doc rigid from to) refl
 

@@ -58,7 +58,7 @@ page-more doc plain rigid done page all is =
     let ms = columns_of (reverse done) in
     let before = one-each doc (reverse done) (all-reverse doc done all) ∙ reverse-length doc done in
     let text : column_text doc (plain_move is.from is.to) ms ≡ plain_page_text doc (length done + 1) is.from is.to =
-        column-is doc plain rigid is.from is.to is.onward is.within ms ∙ ap (λ (n : ℕ). plain_page_text doc (n + 1) is.from is.to) before in
+    column-is doc plain rigid is.from is.to is.onward is.within ms ∙ ap (λ (n : ℕ). plain_page_text doc (n + 1) is.from is.to) before in
     ap (λ (pages : List Page). columns_text doc (columns_of pages)) (reverse-append done (page ∷ []))
     ∙ subst (λ (it : Page). columns_text doc (columns_of (it ∷ reverse done)) ≡ columns_text doc ms ++ text_of_page doc (length done + 1) it) (sym is.is)
-      (ap (λ (more : List ℕ). columns_text doc ms ++ more) text)
+    (ap (λ (more : List ℕ). columns_text doc ms ++ more) text)

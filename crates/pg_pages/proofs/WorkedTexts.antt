@@ -45,10 +45,10 @@ shown_baselineskip = Glue (pos 203890) (pos 0) Finite (pos 0) (codes "\\glue(\\b
 
 abbrev pub shown_words : GalleyValue
 shown_words = galley (
-  Glue (pos 0) (points 1) Finite (pos 0) (codes "\\glue(\\parskip) 0.0 plus 1.0")
-  ∷ deep_line (codes "\\hbox(6.94444+1.94444)x345.0, glue set 0.5\n.\\tenrm T") 127431 ∷ shown_penalty ∷ shown_baselineskip
-  ∷ deep_line (codes "\\hbox(6.94444+1.94444)x345.0\n.\\tenrm h") 127431 ∷ shown_penalty ∷ shown_baselineskip
-  ∷ deep_line (codes "\\hbox(6.94444+0.0)x345.0, glue set 200.0fil\n.\\tenrm e") 0 ∷ [])
+    Glue (pos 0) (points 1) Finite (pos 0) (codes "\\glue(\\parskip) 0.0 plus 1.0")
+    ∷ deep_line (codes "\\hbox(6.94444+1.94444)x345.0, glue set 0.5\n.\\tenrm T") 127431 ∷ shown_penalty ∷ shown_baselineskip
+    ∷ deep_line (codes "\\hbox(6.94444+1.94444)x345.0\n.\\tenrm h") 127431 ∷ shown_penalty ∷ shown_baselineskip
+    ∷ deep_line (codes "\\hbox(6.94444+0.0)x345.0, glue set 200.0fil\n.\\tenrm e") 0 ∷ [])
 
 words-text : page_text shown_words (plain 550) (pages (page [] (text_column (at 0) (at 8) [] ∷ []) ∷ [])) (pos 100) ≡ codes "pages 1 cost 100 width 345.0\npage 1 side S run 0 wide -\ncolumn 1 from 0 0 0 to 8 0 0 top - bottom - picks -\nset goal 550.0 total 34.0 badness 0 penalty 0 demerits 100\narea text\n.\\glue(\\topskip) 3.05556\n.\\hbox(6.94444+1.94444)x345.0, glue set 0.5\n..\\tenrm T\n.\\penalty 150\n.\\glue(\\baselineskip) 3.11111, set 3.11111\n.\\hbox(6.94444+1.94444)x345.0\n..\\tenrm h\n.\\penalty 150\n.\\glue(\\baselineskip) 3.11111, set 3.11111\n.\\hbox(6.94444+0.0)x345.0, glue set 200.0fil\n..\\tenrm e\n"
 unfolding page_text page_line notes_text floats_text set_line text_area column_ends column_counts page_side page_run head_counts head_line digits fraction_digits
@@ -60,7 +60,7 @@ shown_soft = Glue (points 3) (points 1) Finite (pos 0) (codes "\\glue 3.0 plus 1
 
 abbrev pub shown_note : GalleyValue
 shown_note = galley (shown_line ∷ shown_soft ∷ shown_line ∷ shown_soft ∷ shown_line ∷ shown_soft ∷ shown_line ∷ shown_soft ∷ shown_line
-  ∷ Insert 200 (points 9) (codes "\\insert200, natural size 9.0; split(0.0,0.0); float cost 0") ∷ [])
+    ∷ Insert 200 (points 9) (codes "\\insert200, natural size 9.0; split(0.0,0.0); float cost 0") ∷ [])
 
 note-text : page_text shown_note (note_style 100) (two_pages 7 10) (pos 41036936) ≡ codes "pages 2 cost 41036936 width 345.0\npage 1 side S run 0 wide -\ncolumn 1 from 0 0 0 to 7 0 0 top - bottom - picks -\nset goal 58.0 total 46.0 badness 6396 penalty 0 demerits 41036836\narea text\n.\\glue(\\topskip) 3.0\n.\\hbox(7.0+2.0)x345.0\n.\\glue 3.0 plus 1.0, set 7.0\n.\\hbox(7.0+2.0)x345.0\n.\\glue 3.0 plus 1.0, set 7.0\n.\\hbox(7.0+2.0)x345.0\n.\\glue 3.0 plus 1.0, set 7.0\n.\\hbox(7.0+2.0)x345.0\npage 2 side S run 0 wide -\ncolumn 1 from 7 0 0 to 10 0 0 top - bottom - picks -\nset goal 45.0 total 10.0 badness 0 penalty 0 demerits 100\narea text\n.\\glue(\\topskip) 3.0\n.\\hbox(7.0+2.0)x345.0\narea notes\n.\\insert200, natural size 9.0; split(0.0,0.0); float cost 0\n"
 unfolding page_text page_line notes_text floats_text set_line text_area column_ends column_counts page_side page_run head_counts head_line digits fraction_digits

@@ -8,10 +8,6 @@
 mod bodies;
 mod columns;
 mod pages;
-
-
 mod words;
 
 pub use pages::{print_none, print_pages};
-
-

@@ -15,7 +15,9 @@ ghost use Rattle.pg_plain.specs.Plain.{single_items};
 ghost use Rattle.pg_pages.specs.PlainText.{ArePlainPages, IsPlainPage, numbers_between as numbers_of, numbers_text, text_between, text_of_page, text_head, text_of_items};
 ghost use Rattle.pg_plain.specs.Plain.{fits_between};
 
-use crate::columns::{numbers_between, print_items, print_length, print_numbers, space_above, without_front};
+use crate::columns::{
+    numbers_between, print_items, print_length, print_numbers, space_above, without_front,
+};
 use crate::words::{print_counts, print_decimal, print_place, print_whole};
 use pg_list::{Block, Galley, Place};
 use pg_plan::{Column, Page, Pagination};
@@ -167,7 +169,13 @@ fn print_text(topskip: i32, blocks: &[Block], out: &mut Vec<u8>) -> Result<(), A
 }
 
 // The numbers of a column and its text.
-fn print_column_body(galley: &Galley, style: &Style, from: usize, to: usize, out: &mut Vec<u8>) -> Result<(), AllocError>
+fn print_column_body(
+    galley: &Galley,
+    style: &Style,
+    from: usize,
+    to: usize,
+    out: &mut Vec<u8>,
+) -> Result<(), AllocError>
     requires plain { IsPlainStyle style.now }
     requires rigid { AreRigid galley.now.blocks }
     requires onward { from ≤ to }
@@ -182,7 +190,13 @@ fn print_column_body(galley: &Galley, style: &Style, from: usize, to: usize, out
 }
 
 // A page with its one column.
-fn print_page(galley: &Galley, style: &Style, number: u128, page: &Page, out: &mut Vec<u8>) -> Result<(), AllocError>
+fn print_page(
+    galley: &Galley,
+    style: &Style,
+    number: u128,
+    page: &Page,
+    out: &mut Vec<u8>,
+) -> Result<(), AllocError>
     requires plain { IsPlainStyle style.now }
     requires rigid { AreRigid galley.now.blocks }
     requires page { IsPlainPage (document galley.now style.now) page.now }
@@ -194,11 +208,23 @@ fn print_page(galley: &Galley, style: &Style, number: u128, page: &Page, out: &m
     };
     print_page_line(number, page, out)?;
     print_column_line(1, column, out)?;
-    print_column_body(galley, style, column.from.block as usize, column.to.block as usize, out)
+    print_column_body(
+        galley,
+        style,
+        column.from.block as usize,
+        column.to.block as usize,
+        out,
+    )
 }
 
 // The text of a pagination, without giving back what a refusal left.
-fn print_all(galley: &Galley, style: &Style, plan: &Pagination, cost: i128, out: &mut Vec<u8>) -> Result<(), AllocError>
+fn print_all(
+    galley: &Galley,
+    style: &Style,
+    plan: &Pagination,
+    cost: i128,
+    out: &mut Vec<u8>,
+) -> Result<(), AllocError>
     requires plain { IsPlainStyle style.now }
     requires rigid { AreRigid galley.now.blocks }
     requires pages { ArePlainPages (document galley.now style.now) plan.now.pages }
@@ -219,7 +245,13 @@ fn print_all(galley: &Galley, style: &Style, plan: &Pagination, cost: i128, out:
 ///
 /// The galley is one of boxes and glue that neither stretches nor shrinks, the style has one column, single sides, one
 /// run and no classes, and each page is one column of text that is not over its room. After a refusal `out` is as before.
-pub fn print_pages(galley: &Galley, style: &Style, plan: &Pagination, cost: i128, out: &mut Vec<u8>) -> Result<(), AllocError>
+pub fn print_pages(
+    galley: &Galley,
+    style: &Style,
+    plan: &Pagination,
+    cost: i128,
+    out: &mut Vec<u8>,
+) -> Result<(), AllocError>
     requires plain { IsPlainStyle style.now }
     requires rigid { AreRigid galley.now.blocks }
     requires pages { ArePlainPages (document galley.now style.now) plan.now.pages }

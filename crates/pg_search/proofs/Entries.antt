@@ -1,6 +1,9 @@
 -- Entries of labels: one more, one changed, one read.
-use Rattle.std.proofs.Common.{◌≡◌, ◌∙◌, sym, ap, subst, ◌+◌, ◌<◌, ◌≤◌, ◌^◌, ℕ, zero, suc, arith, List, [], ◌∷◌, ◌++◌, length, Option, Some, None, slice_set}
+use Rattle.std.proofs.Common.{◌≡◌, ◌∙◌, sym, ap, subst, ◌+◌, ◌<◌, ◌≤◌, ◌^◌, ℕ, zero, suc, arith, List, [], ◌∷◌, ◌++◌, length, Option, Some, None, slice_set, take, drop, ◌-◌}
 use Rattle.std.proofs.Math.ListN.{get_or}
+use Rattle.pg_list.specs.declared.blocks.Block.{Block}
+use Rattle.pg_plain.specs.Plain.{AreSingle, single_items, items_between}
+use Rattle.pg_pages.proofs.Numbers.{between-items}
 use Rattle.pg_rules.specs.Room.{Document}
 use Rattle.pg_plan.specs.declared.pages.Page.{Page}
 use Rattle.pg_pages.specs.PlainText.{ArePlainPages, IsPlainPage, plain_page}
@@ -45,3 +48,12 @@ pub entry-found : (doc : Document) (k : ℕ) (entries : List (Option Label)) (en
 entry-found doc k entries entry label less is some all =
     let here : 0 + k ≡ k = omega arith in
     subst (λ (n : ℕ). IsLabel doc n label) here (subst (λ (it : Option Label). IsEntry doc (0 + k) it) some (entry-or doc 0 k entries entry less is all))
+
+pub some-same : {X : Type 0} (x y : X) → Some x ≡ Some y → x ≡ y
+some-same x y e = cc
+
+-- the items that a column has passed
+pub column-items : (blocks : List Block) (from i to : ℕ) → AreSingle blocks → to ≡ from + i → single_items (take i (drop from blocks)) ≡ items_between blocks from to
+column-items blocks from i to single is =
+    let size : i ≡ to - from = omega (arith, is) in
+    ap (λ (n : ℕ). single_items (take n (drop from blocks))) size ∙ between-items blocks from to single

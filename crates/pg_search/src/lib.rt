@@ -8,4 +8,4 @@ mod labels;
 mod pages;
 mod search;
 
-
+pub use search::{Found, paginate};

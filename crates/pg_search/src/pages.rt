@@ -7,7 +7,7 @@ ghost use Rattle.pg_search.specs.Labels.{AreEntries};
 
 use crate::labels::{Label, label_at};
 use pg_list::Place;
-use pg_plan::{Column, Columns, Counts, Page, Picks};
+use pg_plan::{Column, Columns, Counts, Page, Pages, Picks};
 use std::alloc::{AllocError, Global};
 
 fn front_of(block: usize) -> Place
@@ -27,23 +27,24 @@ fn plain_page(alloc: Global, from: usize, to: usize) -> Result<Page, AllocError>
     requires to { to < 2 ^ 32 }
     ensures { IfOk result (λ page. page ≡ plain_page_of from to) }
 {
-    let column = Column {
+    let mut columns = Columns::new(alloc);
+    columns.push(Column {
         from: front_of(from),
         to: front_of(to),
         top: Counts::new(alloc),
         bottom: Counts::new(alloc),
-        picks: Picks::new(Vec::new(alloc)),
-    };
+        picks: Picks::new(alloc),
+    })?;
     Ok(Page {
         run: 0,
         wide: Counts::new(alloc),
-        columns: Columns::new(vec![in alloc; column]?),
+        columns,
     })
 }
 
-// The pages up to a place, from the first on.
-pub fn pages_to(alloc: Global, labels: &[Option<Label>], end: usize) -> Result<Vec<Page>, AllocError>
-    ensures { IfOk result (λ pages. (doc : Document) → length doc.blocks < 2 ^ 32 → AreEntries doc 0 labels.now → ArePlainPages doc pages.items) }
+// The pages up to a place, from the last to the first.
+fn pages_back(alloc: Global, labels: &[Option<Label>], end: usize) -> Result<Vec<Page>, AllocError>
+    ensures { IfOk result (λ pages. (doc : Document) → AreEntries doc 0 labels.now → ArePlainPages doc pages.items) }
 {
     let mut pages = Vec::new(alloc);
     let mut to = end;
@@ -54,6 +55,17 @@ pub fn pages_to(alloc: Global, labels: &[Option<Label>], end: usize) -> Result<V
         pages.push(plain_page(alloc, label.from, to)?)?;
         to = label.from;
     }
-    pages.reverse();
+    Ok(pages)
+}
+
+// The pages up to a place, from the first on.
+pub fn pages_to(alloc: Global, labels: &[Option<Label>], end: usize) -> Result<Pages, AllocError>
+    ensures { IfOk result (λ pages. (doc : Document) → AreEntries doc 0 labels.now → ArePlainPages doc pages) }
+{
+    let mut pages = Pages::new(alloc);
+    let mut back = pages_back(alloc, labels, end)?;
+    'back: while let Some(page) = back.pop() {
+        pages.push(page)?;
+    }
     Ok(pages)
 }

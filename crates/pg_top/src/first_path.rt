@@ -5,6 +5,8 @@ ghost use Rattle.pg_plain.specs.Plain.{IsPlainStyle};
 ghost use Rattle.pg_top.specs.Out.{Out, end_of};
 
 use pg_list::Galley;
+use pg_pages::{print_none, print_pages};
+use pg_search::paginate;
 use pg_style::Style;
 use std::alloc::{AllocError, Global};
 
@@ -22,16 +24,22 @@ pub struct Shown {
     pub found: Found,
 }
 
-// STAND-IN: the paginator and the page text come in its place.
+/// The text for a galley: of the pages that the search finds, or the line for none.
 pub fn show(alloc: Global, galley: &Galley, style: &Style) -> Result<Shown, AllocError>
     requires rigid { AreRigid galley.now.blocks }
     requires plain { IsPlainStyle style.now }
     ensures { IfOk result (λ shown. Out galley.now style.now shown.text.items (end_of shown.found)) }
 {
-    let _ = galley;
-    let _ = style;
-    Ok(Shown {
-        text: b"no legal pagination\n".to_vec(alloc)?,
-        found: Found::NoLegal,
-    })
+    let mut text = Vec::new(alloc);
+    let found = match paginate(alloc, galley, style)? {
+        Some(it) => {
+            print_pages(galley, style, &it.plan, it.cost, &mut text)?;
+            Found::Pages
+        }
+        None => {
+            print_none(&mut text)?;
+            Found::NoLegal
+        }
+    };
+    Ok(Shown { text, found })
 }

@@ -26,7 +26,7 @@ pub numbers_of-requires-clause-fits : goal.numbers_of-requires-clause-fits
 numbers_of-requires-clause-fits c =
     let here = c.as_slice.ensures.blocks ∙ c.blocks-2.ensures.blocks in
     let items = ap (λ (blocks : List Block). single_items (take (c.args.to - c.args.from) (drop c.args.from blocks))) here
-        ∙ between-items c.args.galley.now.blocks c.args.from c.args.to (blocks-single c.args.galley.now.blocks c.requires.rigid) in
+    ∙ between-items c.args.galley.now.blocks c.args.from c.args.to (blocks-single c.args.galley.now.blocks c.requires.rigid) in
     ap (not_over c.args.style.now) items ∙ c.requires.fits
 
 pub returns : goal.returns

@@ -4,8 +4,11 @@ use Rattle.pg_pages.specs.PlainText.{ArePlainPages}
 use Rattle.pg_search.specs.Labels.{AreEntries}
 use Rattle.pg_search.proofs.pages.pages_to.Given as goal
 
-abbrev pub invariant-pages : goal.invariant-pages
-invariant-pages l = (doc : Document) → length doc.blocks < 2 ^ 32 → AreEntries doc 0 l.labels → ArePlainPages doc l.pages.items
+abbrev pub invariant-back : goal.invariant-back
+invariant-back l = record {
+  pages : (doc : Document) → AreEntries doc 0 l.labels → ArePlainPages doc l.pages;
+  back : (doc : Document) → AreEntries doc 0 l.labels → ArePlainPages doc l.back.items;
+}
 
-abbrev pub decreases-pages : goal.decreases-pages
-decreases-pages l = l.to
+abbrev pub decreases-back : goal.decreases-back
+decreases-back l = length l.back.items

@@ -13,10 +13,12 @@ returns-then-len-ge-MAX_LINES-clause-said c =
     (refl, too_many (unended c.args.text.now) (ended_lines c.args.text.now) (omega (arith, lines, c.lines.invariant.count)))
 
 pub returns-in_default-item_line-clause-said : goal.returns-in_default-item_line-clause-said
-returns-in_default-item_line-clause-said c =
-    (refl, none_said (unended c.args.text.now) (ended_lines c.args.text.now)
-    (c.lines.invariant.said ∙ line_fails c.lines.blocks (ended_lines c.lines.rest.now) (ended_lines c.in-Some.after.now) c.in-Some.line.now
-    c.in-Some.ensures.lines (sym c.in_default-item_line.ensures.said)))
+returns-in_default-item_line-clause-said c = (
+  refl,
+  none_said (unended c.args.text.now) (ended_lines c.args.text.now)
+      (c.lines.invariant.said ∙ line_fails c.lines.blocks (ended_lines c.lines.rest.now) (ended_lines c.in-Some.after.now) c.in-Some.line.now
+      c.in-Some.ensures.lines (sym c.in_default-item_line.ensures.said)),
+)
 
 pub lines-preserved : goal.lines-preserved
 lines-preserved c = record {
@@ -33,9 +35,11 @@ lines-preserved c = record {
 
 pub returns-then-not-is_empty-clause-said : goal.returns-then-not-is_empty-clause-said
 returns-then-not-is_empty-clause-said c =
-    let test : nat_eq (length c.lines.rest.now) 0 ≡ false = sym c.is_empty.ensures ∙ c.if-not-is_empty.true in
-    (refl, not_ended (unended c.args.text.now) c.lines.rest.now (ended_lines c.args.text.now) (c.lines.invariant.unended ∙ c.in_default.ensures.rest)
-    (grind (arith, nat_tests)))
+    let test : nat_eq (length c.lines.rest.now) 0 ≡ false = sym c.is_empty.ensures ∙ c.if-not-is_empty.true in (
+      refl,
+      not_ended (unended c.args.text.now) c.lines.rest.now (ended_lines c.args.text.now) (c.lines.invariant.unended ∙ c.in_default.ensures.rest)
+          (grind (arith, nat_tests)),
+    )
 
 pub returns-clause-said : goal.returns-clause-said
 returns-clause-said c =
