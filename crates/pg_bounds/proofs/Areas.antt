@@ -23,8 +23,8 @@ use Rattle.pg_rules.specs.Room.{Document, checked_height}
 use Rattle.pg_places.proofs.Among.{both_of}
 use Rattle.pg_places.proofs.Measures.{variant_items}
 use Rattle.pg_places.proofs.Tests.{eq_true}
-use Rattle.pg_laws.specs.Ranges.{AreItemsInRange}
-use Rattle.pg_laws.proofs.Simulation.{le_true}
+use Rattle.pg_columns.specs.Ranges.{AreItemsInRange}
+use Rattle.pg_columns.proofs.Simulation.{le_true}
 use Rattle.pg_bounds.proofs.Counts.{float_total}
 
 -- a length that is not negative, and a scaled number

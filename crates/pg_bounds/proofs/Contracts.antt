@@ -13,7 +13,7 @@ use Rattle.pg_rules.specs.Follow.{age_in, context_in}
 use Rattle.pg_rules.specs.IsState.{IsState}
 use Rattle.pg_rules.specs.Legal.{added, document}
 use Rattle.pg_rules.specs.States.{state_at}
-use Rattle.pg_laws.specs.Ranges.{AreInRange}
+use Rattle.pg_columns.specs.Ranges.{AreInRange}
 use Rattle.pg_bounds.specs.Laws.{ColumnsCostLittle, StatesLeadToStates}
 use Rattle.pg_bounds.proofs.Owned.{own_next, own_start}
 use Rattle.pg_bounds.proofs.Prices.{cost_few, picked_limits}

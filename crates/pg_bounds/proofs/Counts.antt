@@ -7,7 +7,7 @@ use Rattle.pg_plan.specs.declared.pages.PageMove.{PageMove}
 use Rattle.pg_style.specs.Values.{StyleValue}
 use Rattle.pg_rules.specs.Floats.{entry, total_count, float_count, plus_counts, float_numbers}
 use Rattle.pg_rules.specs.History.{placed_after, with_wide}
-use Rattle.pg_laws.proofs.Waiting.{placed_more, slotted}
+use Rattle.pg_columns.proofs.Waiting.{placed_more, slotted}
 use Rattle.pg_rules.specs.Room.{Document}
 use Rattle.std.proofs.Common.{◌-◌, ◌++◌, zero, length-append}
 use Rattle.pg_rules.specs.Floats.{numbered, floats_between}

@@ -30,9 +30,9 @@ use Rattle.pg_places.proofs.Among.{Among, all_at, all_of, both, both_of}
 use Rattle.pg_places.proofs.Callouts.{entry_less, entry_zero, fit_ends, start_place}
 use Rattle.pg_places.proofs.Measures.{called_grows}
 use Rattle.pg_places.proofs.Tests.{if_false, int_le_of, int_less, less_true, not_less, same_place}
-use Rattle.pg_laws.specs.Ranges.{AreItemsInRange}
-use Rattle.pg_laws.proofs.Simulation.{le_of, le_true}
-use Rattle.pg_laws.proofs.Waiting.{IsBetween, between_at, between_of, entry_slots, slot_below}
+use Rattle.pg_columns.specs.Ranges.{AreItemsInRange}
+use Rattle.pg_columns.proofs.Simulation.{le_of, le_true}
+use Rattle.pg_columns.proofs.Waiting.{IsBetween, between_at, between_of, entry_slots, slot_below}
 use Rattle.pg_bounds.proofs.Areas.{IsUpTo, wide_range}
 
 eq_no : (a b : ℕ) → (a == b) ≡ false → a ≡ b → ⊥

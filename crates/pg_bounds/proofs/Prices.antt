@@ -25,7 +25,7 @@ use Rattle.pg_rules.specs.History.{column_fitness}
 use Rattle.pg_rules.specs.Legal.{distance_table}
 use Rattle.pg_rules.specs.Room.{ColumnContext, is_text, items_of, size_of}
 use Rattle.pg_places.proofs.Tests.{less_int, not_less}
-use Rattle.pg_laws.proofs.StyleFacts.{slot_entries}
+use Rattle.pg_columns.proofs.StyleFacts.{slot_entries}
 
 -- ---- sizes
 

@@ -4,7 +4,7 @@ ghost use Rattle.std.specs.Prelude.{[]};
 ghost use Rattle.pg_rules.specs.IsState.{IsState};
 ghost use Rattle.pg_rules.specs.Legal.{document};
 ghost use Rattle.pg_rules.specs.States.{state_at};
-ghost use Rattle.pg_laws.specs.Ranges.{AreInRange};
+ghost use Rattle.pg_columns.specs.Ranges.{AreInRange};
 ghost use Rattle.pg_bounds.specs.Laws.{StatesLeadToStates, ColumnsCostLittle};
 
 use pg_list::Galley;

@@ -1,5 +1,5 @@
 -- The laws in the form of their contracts.
-use Rattle.std.proofs.Common.{◌≡◌, refl, sym, ap, subst, ◌∙◌, ◌≤◌, ◌⊎◌, inl, inr, List, [], ◌∷◌, true, None}
+use Rattle.std.proofs.Common.{◌≡◌, refl, sym, ap, subst, ◌∙◌, ◌≤◌, ◌⊎◌, inl, inr, List, [], ◌∷◌, None}
 use Rattle.std.specs.Prelude.{reverse, ℤ, ◌+ℤ◌}
 use Rattle.std.specs.Cmp.{IsTotalOrder}
 use Rattle.std.specs.Cmp.Lexicographic.{slice_cmp}
@@ -14,22 +14,19 @@ use Rattle.pg_style.specs.Values.{StyleValue}
 use Rattle.pg_rules.specs.Cost.{cost, cost_of}
 use Rattle.pg_rules.specs.Follow.{Follow}
 use Rattle.pg_rules.specs.Legal.{breach, document}
-use Rattle.pg_rules.specs.NoWorse.{PageKey, key, is_same_key, are_no_older}
-use Rattle.pg_rules.specs.States.{Prefix, prefix_breach, state_of, state_at, is_done}
-use Rattle.pg_places.proofs.Among.{both_of}
-use Rattle.pg_laws.specs.Laws.{BeginningsFollow, FollowersArePushed, Follows, KeepsBeginningRules, KeepsRules, LegalAreDone, NoWorseDone, NoWorseFollow, OrderTellsApart, PrefixesKeepRules, UnbrokenKeepRules}
+use Rattle.pg_rules.specs.States.{Prefix, prefix_breach, state_of, state_at}
+use Rattle.pg_laws.specs.Laws.{BeginningsFollow, FollowersArePushed, Follows, KeepsBeginningRules, KeepsRules, LegalAreDone, OrderTellsApart, PrefixesKeepRules, UnbrokenKeepRules}
 use Rattle.pg_laws.specs.Pages.{plan_of}
-use Rattle.pg_laws.specs.Ranges.{AreInRange}
-use Rattle.pg_laws.specs.Stands.{IsBeginning}
-use Rattle.pg_laws.proofs.Beginnings.{Facts, beginning_before}
+use Rattle.pg_columns.specs.Ranges.{AreInRange}
+use Rattle.pg_columns.specs.Stands.{IsBeginning}
+use Rattle.pg_columns.proofs.Beginnings.{Facts, beginning_before}
 use Rattle.pg_laws.proofs.Faults.{Sound, none_unless, of_sound, sound_of, unless_none}
-use Rattle.pg_laws.proofs.GalleyFacts.{facts_of}
+use Rattle.pg_columns.proofs.GalleyFacts.{facts_of}
 use Rattle.pg_laws.proofs.Order.{column_equal, columns_total, then_equal}
 use Rattle.pg_laws.proofs.PagesLaws.{plan_back}
 use Rattle.pg_laws.proofs.Prefixes.{IsPlanOfColumns, columns_begin, columns_plan, done_is_legal, legal_done, legal_prefix, plan_is, prefix_sound}
-use Rattle.pg_laws.proofs.Push.{column_pays, follows, stands}
-use Rattle.pg_laws.proofs.Simulation.{key_same, simulates, with_ages}
-use Rattle.pg_laws.proofs.StyleFacts.{has_tables, tables_of}
+use Rattle.pg_columns.proofs.Push.{column_pays, follows, stands}
+use Rattle.pg_columns.proofs.StyleFacts.{has_tables}
 
 module _ (g : GalleyValue) (s : StyleValue) (range : AreInRange g s) where
   pub facts : Facts (document g s)
@@ -135,18 +132,6 @@ module _ (g : GalleyValue) (s : StyleValue) (range : AreInRange g s) where
     λ l. (legal_prefix g s facts some plan l, legal_done g s facts some plan l),
     λ p. done_is_legal g s facts some plan p.0 p.1,
   )
-
-  -- ---- simulation
-
-  pub no_worse_follow : NoWorseFollow g s
-  no_worse_follow u v m x c own p f =
-      simulates (document g s) (tables_of (document g s) range.style_in) u v m x c own p f
-
-  pub no_worse_done : NoWorseDone g s
-  no_worse_done u v p d =
-      let t = both_of (is_same_key (key u) (key v)) (are_no_older u.ages v.ages) p in
-      subst (λ (k : PageKey). is_done (document g s) (with_ages k []) ≡ true)
-      (sym (key_same (key u) (key v) t.0)) d
 
 -- ---- order
 

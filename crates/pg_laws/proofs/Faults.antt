@@ -10,7 +10,7 @@ use Rattle.pg_rules.specs.ColumnRules.{does_fit, is_well_formed, is_tolerable, p
 use Rattle.pg_rules.specs.History.{next_column, next_run, place_of, placed_of, context}
 use Rattle.pg_rules.specs.Legal.{or_else, unless, first_at_fault, faults_with, first_breach, misfilled, is_chained, is_near, has_wide_counts, deals_floats, has_callouts, has_run}
 use Rattle.pg_places.proofs.Among.{both, both_of}
-use Rattle.pg_laws.specs.Stands.{Stand}
+use Rattle.pg_columns.specs.Stands.{Stand}
 
 abbrev pub EachKeeps : (PageMove → List PageMove → Bool) → List PageMove → Type 0
 EachKeeps keeps [] = Unit {0}

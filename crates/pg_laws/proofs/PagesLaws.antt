@@ -18,7 +18,7 @@ use Rattle.pg_rules.specs.Legal.{underfilled, misfilled, has_run, has_wide_count
 use Rattle.pg_places.proofs.Among.{both, both_of, by_bool}
 use Rattle.pg_places.proofs.Tests.{eq_refl, eq_true, if_false, if_true}
 use Rattle.pg_laws.specs.Pages.{add_column, page_with, pages_from, plan_of}
-use Rattle.pg_laws.specs.Stands.{Stand, StandsAfter}
+use Rattle.pg_columns.specs.Stands.{Stand, StandsAfter}
 use Rattle.pg_laws.proofs.Faults.{none_or, none_unless, or_none, unless_none}
 
 abbrev pub later : ℕ → List ℕ → Column → PageMove

@@ -13,11 +13,11 @@ use Rattle.pg_rules.specs.Legal.{Legal, breach, document, ends_spent, has_dealt_
 use Rattle.pg_rules.specs.States.{Prefix, prefix_breach, state_of, state_at, can_wait, waiting, age, is_done}
 use Rattle.pg_places.proofs.Among.{all_of, both, both_of}
 use Rattle.pg_laws.specs.Pages.{plan_of}
-use Rattle.pg_laws.specs.Stands.{IsBeginning, Stand}
-use Rattle.pg_laws.proofs.Beginnings.{Facts}
+use Rattle.pg_columns.specs.Stands.{IsBeginning, Stand}
+use Rattle.pg_columns.proofs.Beginnings.{Facts}
 use Rattle.pg_laws.proofs.Faults.{Sound, none_unless, of_sound, sound_of, unless_none}
 use Rattle.pg_laws.proofs.PagesLaws.{IsPlanOf, plan_back, plan_there}
-use Rattle.pg_laws.proofs.Waiting.{IsBetween, between_at}
+use Rattle.pg_columns.proofs.Waiting.{IsBetween, between_at}
 
 module _ (g : GalleyValue) (s : StyleValue) (facts : Facts (document g s)) (some : 1 ≤ s.columns) where
   all_placed : (ms : List PageMove) → has_dealt_all (document g s) (placed_of s ms) ≡ true →

@@ -11,11 +11,8 @@ use Rattle.pg_rules.specs.Cost.{cost}
 use Rattle.pg_rules.specs.Follow.{Follow}
 use Rattle.pg_rules.specs.Legal.{Legal, breach, document, misfilled, ends_spent, has_dealt_all}
 use Rattle.pg_rules.specs.History.{placed_of}
-use Rattle.pg_rules.specs.NoWorse.{is_no_worse}
 use Rattle.pg_rules.specs.States.{Prefix, state_of, can_wait, is_done}
-use Rattle.pg_rules.specs.IsState.{IsState}
-use Rattle.pg_laws.specs.FollowsToo.{FollowsToo}
-use Rattle.pg_laws.specs.Stands.{Stand}
+use Rattle.pg_columns.specs.Stands.{Stand}
 
 -- ---- a column more
 
@@ -85,16 +82,3 @@ LegalAreDone galley style = (plan : Pagination) →
 abbrev pub OrderTellsApart : StyleValue → Type 0
 OrderTellsApart style = (p q : Pagination) → misfilled style.columns (reverse p.pages) ≡ None →
     misfilled style.columns (reverse q.pages) ≡ None → plan_cmp p q ≡ Equal → p ≡ q
-
--- ---- simulation
-
--- what follows a state follows each that is no worse
-abbrev pub NoWorseFollow : GalleyValue → StyleValue → Type 0
-NoWorseFollow galley style = (u v : State) (m : PageMove) (x : State) (c : ℤ) →
-    IsState (document galley style) v → is_no_worse u v ≡ true → Follow (document galley style) v m x c →
-    FollowsToo (document galley style) u m x c
-
--- nothing is left to do in a state that is no worse than one with nothing left
-abbrev pub NoWorseDone : GalleyValue → StyleValue → Type 0
-NoWorseDone galley style = (u v : State) → is_no_worse u v ≡ true → is_done (document galley style) v ≡ true →
-    is_done (document galley style) u ≡ true

@@ -3,11 +3,10 @@ use Rattle.std.proofs.Common.{List}
 use Rattle.std.specs.List.{AllByRecursion}
 use Rattle.pg_list.specs.Shapes.{IsBlock}
 use Rattle.pg_list.specs.declared.blocks.Block.{Block}
-use Rattle.pg_places.specs.Laws.{CalloutsAreAmongAll, LeadsCut, LeadsGoOn, PlacesBehindHaveMore}
+use Rattle.pg_places.specs.Laws.{CalloutsAreAmongAll, LeadsGoOn, PlacesBehindHaveMore}
 use Rattle.pg_places.proofs.Callouts.{few_in_all}
 use Rattle.pg_places.proofs.Measures.{called_grows, far_rises, past_within}
 use Rattle.pg_places.proofs.Places.{ends_at}
-use Rattle.pg_places.proofs.Splits.{splits}
 use Rattle.pg_places.proofs.Steps.{steps_far}
 
 module _ (blocks : List Block) (each : AllByRecursion IsBlock blocks) where
@@ -18,10 +17,6 @@ module _ (blocks : List Block) (each : AllByRecursion IsBlock blocks) where
         farther =
             steps_far blocks from to picks n l.place l.steps;
       }
-
-  pub leads_cut : LeadsCut blocks
-  leads_cut from to picks later n l =
-      splits blocks from to picks later n each l.place l.named l.steps l.fronts_are
 
   pub behind_have_more : PlacesBehindHaveMore blocks
   behind_have_more from to p q =

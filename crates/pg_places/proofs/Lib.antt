@@ -3,8 +3,5 @@ pub mod Tests
 pub mod Places
 pub mod Measures
 pub mod Callouts
-pub mod Splits
 pub mod Steps
-pub mod Alike
 pub mod Contracts
-pub mod Counted

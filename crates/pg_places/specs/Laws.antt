@@ -1,5 +1,5 @@
 -- The laws of places, each in the words of its contract.
-use Rattle.std.specs.Prelude.{◌≡◌, ◌⊎◌, ℕ, ◌+◌, ◌≤◌, ◌<◌, List, [], ◌++◌, length, take, Some}
+use Rattle.std.specs.Prelude.{◌≡◌, ◌⊎◌, ℕ, ◌+◌, ◌≤◌, ◌<◌, List, [], length, Some}
 use Rattle.pg_list.specs.declared.blocks.Block.{Block}
 use Rattle.pg_list.specs.declared.galley.Place.{Place}
 use Rattle.pg_flat.specs.Flat.{blocks_at, flat, flat_items_at, fronts, items_before, picked_variants, steps_to}
@@ -23,12 +23,6 @@ pub record LeadOn (blocks : List Block) (from to : Place) (n : ℕ) : Type 0 whe
 abbrev pub LeadsGoOn : List Block → Type 0
 LeadsGoOn blocks = (from to : Place) (picks : List ℕ) (n : ℕ) → Lead blocks from to picks n →
     LeadOn blocks from to n
-
--- whatever picks come behind, the items from the first place on are the n ones, and then those from the other on
-abbrev pub LeadsCut : List Block → Type 0
-LeadsCut blocks = (from to : Place) (picks later : List ℕ) (n : ℕ) → Lead blocks from to picks n →
-    flat_items_at blocks from (picks ++ later)
-    ≡ take n (flat_items_at blocks from picks) ++ flat_items_at blocks to later
 
 -- more items lie before a place behind, and no fewer callouts of a class
 pub record BehindHasMore (blocks : List Block) (from to : Place) : Type 0 where

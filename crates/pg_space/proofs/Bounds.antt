@@ -33,9 +33,9 @@ use Rattle.pg_places.proofs.Measures.{block_inserts, far_rises, inserted_flat, p
 use Rattle.pg_places.proofs.Places.{begins}
 use Rattle.pg_places.proofs.Steps.{far_within, fronts_few, index_within, steps_far}
 use Rattle.pg_places.proofs.Tests.{eq_true, same_place}
-use Rattle.pg_laws.specs.Ranges.{AreInRange}
-use Rattle.pg_laws.proofs.Simulation.{le_true}
-use Rattle.pg_laws.proofs.StyleFacts.{tables_of}
+use Rattle.pg_columns.specs.Ranges.{AreInRange}
+use Rattle.pg_columns.proofs.Simulation.{le_true}
+use Rattle.pg_columns.proofs.StyleFacts.{tables_of}
 use Rattle.pg_bounds.proofs.Counts.{added_long, counts_few}
 use Rattle.pg_bounds.proofs.Owned.{own_next, own_start}
 use Rattle.pg_bounds.proofs.Prices.{cost_few, picked_limits}

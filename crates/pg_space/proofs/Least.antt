@@ -32,7 +32,7 @@ use Rattle.pg_places.proofs.Among.{Among, among_left, among_right, both, both_of
 use Rattle.pg_places.proofs.Places.{picked_few}
 use Rattle.pg_places.proofs.Tests.{eq_refl, eq_true}
 use Rattle.pg_laws.proofs.Order.{columns_total, picks_equal, place_total}
-use Rattle.pg_laws.proofs.Simulation.{key_same, with_ages}
+use Rattle.pg_columns.proofs.Simulation.{key_same, with_ages}
 use Rattle.pg_space.specs.PageSpace.{FollowBest, IsLeast, keeps_text, text_cost, wide_meaning, with_picks}
 
 -- ---- every list of picks that names variants

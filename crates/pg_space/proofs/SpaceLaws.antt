@@ -11,9 +11,9 @@ use Rattle.pg_rules.specs.States.{state_at, is_done}
 use Rattle.pg_table.specs.Space.{Lawful, Run, Small}
 use Rattle.pg_rules.specs.IsState.{IsState}
 use Rattle.pg_places.proofs.Among.{both, both_of}
-use Rattle.pg_laws.specs.FollowsToo.{FollowsToo}
+use Rattle.pg_columns.specs.FollowsToo.{FollowsToo}
 use Rattle.pg_laws.proofs.Order.{column_equal, columns_total}
-use Rattle.pg_laws.proofs.Simulation.{Tables, key_refl, key_same, no_older_chain, no_older_refl, simulates, with_ages}
+use Rattle.pg_columns.proofs.Simulation.{Tables, key_refl, key_same, no_older_chain, no_older_refl, simulates, with_ages}
 use Rattle.pg_space.specs.PageSpace.{rank, wide_meaning}
 
 -- what is left to show of places and columns

@@ -1,5 +1,5 @@
 -- The callouts before a column's end stand before it in the flat list.
-use Rattle.std.proofs.Common.{◌≡◌, refl, sym, ap, subst, ◌∙◌, ℕ, ◌+◌, List, [], ◌∷◌, ◌++◌, map, length, take, Option, Some, arith}
+use Rattle.std.proofs.Common.{◌≡◌, refl, sym, ap, subst, ◌∙◌, ℕ, ◌+◌, List, [], ◌∷◌, ◌++◌, map, length, take, Option, arith}
 use Rattle.std.specs.List.{AllByRecursion}
 use Rattle.std.specs.Option.{option_map_or}
 use Rattle.std.proofs.Math.Seq.{take-append_seam}
@@ -8,21 +8,20 @@ use Rattle.pg_list.specs.GalleyValue.{GalleyValue}
 use Rattle.pg_list.specs.Shapes.{IsBlock}
 use Rattle.pg_list.specs.declared.galley.Place.{Place}
 use Rattle.pg_list.specs.declared.item.Item.{Item}
-use Rattle.pg_plan.specs.Order.{columns}
 use Rattle.pg_plan.specs.declared.pages.PageMove.{PageMove}
 use Rattle.pg_style.specs.Values.{StyleValue}
-use Rattle.pg_flat.specs.Flat.{FlatItem, flat, flat_items, flat_items_at, is_same_place, items_before}
+use Rattle.pg_flat.specs.Flat.{flat, flat_items_at, is_same_place, items_before}
 use Rattle.pg_rules.specs.Floats.{sizes_of}
 use Rattle.pg_rules.specs.History.{context, place_of}
 use Rattle.pg_rules.specs.IsState.{IsPlace}
 use Rattle.pg_rules.specs.Legal.{document}
 use Rattle.pg_rules.specs.Room.{Document, flat_items_of}
-use Rattle.pg_places.proofs.Alike.{item_of}
+use Rattle.pg_cuts.proofs.Alike.{item_of}
 use Rattle.pg_places.proofs.Among.{both_of}
-use Rattle.pg_places.proofs.Counted.{callouts_passed}
+use Rattle.pg_cuts.proofs.Counted.{callouts_passed}
 use Rattle.pg_places.proofs.Measures.{inserted, inserted_append}
 use Rattle.pg_places.proofs.Tests.{same_place}
-use Rattle.pg_laws.specs.Ranges.{AreInRange}
+use Rattle.pg_columns.specs.Ranges.{AreInRange}
 use Rattle.pg_texts.specs.Texts.{CalloutsReadFlat, Chained, picks_of, texts}
 use Rattle.pg_texts.proofs.Once.{Fits, chain_fits, chain_place, column_items, fits_of, passed, passed_texts, whole_splits}
 use Rattle.pg_texts.proofs.Reading.{chained_tail, picks_split}

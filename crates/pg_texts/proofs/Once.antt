@@ -22,16 +22,16 @@ use Rattle.pg_rules.specs.History.{context, place_of, placed_of, with_wide}
 use Rattle.pg_rules.specs.Legal.{document, has_dealt_all, is_chained}
 use Rattle.pg_rules.specs.Room.{ColumnContext, Document, flat_items_of, items_of, size_of}
 use Rattle.pg_rules.specs.IsState.{IsPlace}
-use Rattle.pg_places.proofs.Alike.{item_of}
+use Rattle.pg_cuts.proofs.Alike.{item_of}
 use Rattle.pg_places.proofs.Among.{both, both_of}
 use Rattle.pg_places.proofs.Callouts.{fit_ends, start_place}
-use Rattle.pg_places.proofs.Splits.{splits}
+use Rattle.pg_cuts.proofs.Splits.{splits}
 use Rattle.pg_places.proofs.Tests.{eq_true, same_place}
 use Rattle.pg_laws.specs.Laws.{KeepsRules}
-use Rattle.pg_laws.specs.Ranges.{AreInRange}
-use Rattle.pg_laws.specs.Stands.{Stand}
+use Rattle.pg_columns.specs.Ranges.{AreInRange}
+use Rattle.pg_columns.specs.Stands.{Stand}
 use Rattle.pg_laws.proofs.Contracts.{unbroken_keep_rules}
-use Rattle.pg_laws.proofs.Waiting.{entry_plus, entry_slots}
+use Rattle.pg_columns.proofs.Waiting.{entry_plus, entry_slots}
 use Rattle.pg_texts.specs.Texts.{Chained, LegalHaveEachOnce, column_floats, dealt_floats, is_kept, picks_of, segment_of, segments, text_of, texts}
 
 -- ---- texts

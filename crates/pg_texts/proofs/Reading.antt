@@ -19,12 +19,12 @@ use Rattle.pg_rules.specs.History.{context, place_of}
 use Rattle.pg_rules.specs.Legal.{document}
 use Rattle.pg_rules.specs.ColumnRules.{does_fit}
 use Rattle.pg_rules.specs.Room.{ColumnContext, Document, flat_items_of, items_of, size_of}
-use Rattle.pg_places.proofs.Alike.{Alike, alike_append, alike_itself, at_alike, break_alike, break_by_rest, break_of, forced_alike, forced_by_rest, forced_of, item_of, next_at, same_alike, spent_alike}
+use Rattle.pg_cuts.proofs.Alike.{Alike, alike_append, alike_itself, at_alike, break_alike, break_by_rest, break_of, forced_alike, forced_by_rest, forced_of, item_of, next_at, same_alike, spent_alike}
 use Rattle.pg_places.proofs.Among.{Among, all_same, both_of}
-use Rattle.pg_places.proofs.Splits.{StandsAt, stands_at}
+use Rattle.pg_cuts.proofs.Splits.{StandsAt, stands_at}
 use Rattle.pg_places.proofs.Tests.{same_place}
-use Rattle.pg_laws.specs.Ranges.{AreInRange}
-use Rattle.pg_laws.proofs.Waiting.{slot_below}
+use Rattle.pg_columns.specs.Ranges.{AreInRange}
+use Rattle.pg_columns.proofs.Waiting.{slot_below}
 use Rattle.pg_texts.specs.Texts.{Chained, ColumnsReadFlat, ReadsFlat, StandsInFlat, picks_of}
 use Rattle.pg_texts.proofs.Once.{Fits, chain_fits, column_items, column_splits, fits_of, passed, whole_splits}
 

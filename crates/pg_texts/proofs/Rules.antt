@@ -23,10 +23,10 @@ use Rattle.pg_rules.specs.Legal.{document}
 use Rattle.pg_rules.specs.Room.{are_notes_within_limits, at_size, ColumnContext, flat_items_of, is_text, items_of, notes, room, size_of}
 use Rattle.pg_places.proofs.Among.{Among, all_same, both_of}
 use Rattle.pg_places.proofs.Places.{Leads, leads}
-use Rattle.pg_places.proofs.Splits.{StandsAt, stands_at}
+use Rattle.pg_cuts.proofs.Splits.{StandsAt, stands_at}
 use Rattle.pg_places.proofs.Tests.{if_true, place_refl, same_place}
-use Rattle.pg_laws.specs.Ranges.{AreInRange}
-use Rattle.pg_laws.proofs.Waiting.{slot_below}
+use Rattle.pg_columns.specs.Ranges.{AreInRange}
+use Rattle.pg_columns.proofs.Waiting.{slot_below}
 use Rattle.pg_texts.specs.Texts.{Chained, ReadsFlat, RulesReadFlat, RulesReadTheFlatList, StandsInFlat, flat_badness, flat_goal, flat_is_over, flat_segment, flat_total, passes_behind, picks_of}
 use Rattle.pg_texts.proofs.Once.{Fits, chain_fits, chain_place, fits_of}
 use Rattle.pg_texts.proofs.Reading.{chained_tail, columns_read_flat}

@@ -1,6 +1,6 @@
 //! Each law is the contract of a function that does nothing. Their premises are what the types of a
 //! galley and of a style keep.
-ghost use Rattle.pg_laws.specs.Ranges.{AreInRange};
+ghost use Rattle.pg_columns.specs.Ranges.{AreInRange};
 ghost use Rattle.pg_texts.specs.Texts.{CalloutsReadFlat, ColumnsReadFlat, LegalHaveEachOnce, RulesReadTheFlatList};
 
 use pg_list::Galley;

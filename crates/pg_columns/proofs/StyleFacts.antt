@@ -13,8 +13,8 @@ use Rattle.pg_rules.specs.Floats.{class_of, float_kind, float_class, float_numbe
 use Rattle.pg_rules.specs.Legal.{distance_table}
 use Rattle.pg_rules.specs.Room.{Document}
 use Rattle.pg_places.proofs.Among.{by_bool}
-use Rattle.pg_laws.proofs.Push.{HasTables}
-use Rattle.pg_laws.proofs.Simulation.{Tables}
+use Rattle.pg_columns.proofs.Push.{HasTables}
+use Rattle.pg_columns.proofs.Simulation.{Tables}
 
 -- an element of a filtered list passes
 pub filter_at : {X : Type 0} (p : X → Bool) (xs : List X) (n : ℕ) → n < length (filter p xs) →

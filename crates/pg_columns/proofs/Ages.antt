@@ -9,7 +9,7 @@ use Rattle.pg_rules.specs.States.{age, waiting, state_at}
 use Rattle.pg_rules.specs.Follow.{is_same_float, age_among, age_in, turns}
 use Rattle.pg_places.proofs.Among.{Among, both, both_of, by_bool}
 use Rattle.pg_places.proofs.Tests.{eq_refl, eq_true, if_false, if_true, less_true}
-use Rattle.pg_laws.proofs.Waiting.{between_of, placed_more}
+use Rattle.pg_columns.proofs.Waiting.{between_of, placed_more}
 
 pub same_float : (a b : ℕ × ℕ) → is_same_float a b ≡ true → a ≡ b
 same_float (a, b) (c, d) h =

@@ -21,9 +21,9 @@ use Rattle.pg_rules.specs.NoWorse.{PageKey, key, is_same_key, is_same_side, is_s
 use Rattle.pg_rules.specs.IsState.{IsState, are_young}
 use Rattle.pg_places.proofs.Among.{Among, all_at, all_of, both, both_of}
 use Rattle.pg_places.proofs.Tests.{eq_refl, eq_true, less_of, less_true, place_refl, same_place}
-use Rattle.pg_laws.specs.FollowsToo.{FollowsToo}
-use Rattle.pg_laws.proofs.Ages.{same_float}
-use Rattle.pg_laws.proofs.Waiting.{IsBetween, between_at}
+use Rattle.pg_columns.specs.FollowsToo.{FollowsToo}
+use Rattle.pg_columns.proofs.Ages.{same_float}
+use Rattle.pg_columns.proofs.Waiting.{IsBetween, between_at}
 
 -- ---- the tests on keys
 

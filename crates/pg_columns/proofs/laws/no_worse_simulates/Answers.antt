@@ -1,5 +1,5 @@
-use Rattle.pg_laws.proofs.Contracts.{no_worse_follow, no_worse_done}
-use Rattle.pg_laws.proofs.laws.no_worse_simulates.Goals as goal
+use Rattle.pg_columns.proofs.Contracts.{no_worse_follow, no_worse_done}
+use Rattle.pg_columns.proofs.laws.no_worse_simulates.Goals as goal
 
 pub returns-clause-follow : goal.returns-clause-follow
 returns-clause-follow c = no_worse_follow _ _ c.requires

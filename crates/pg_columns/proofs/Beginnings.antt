@@ -10,9 +10,9 @@ use Rattle.pg_rules.specs.Legal.{distance_table, added, distance, has_dealt_all}
 use Rattle.pg_rules.specs.States.{age, waiting, can_wait}
 use Rattle.pg_places.proofs.Among.{Among, all_at, all_of, by_bool}
 use Rattle.pg_places.proofs.Tests.{less_of, less_true, not_less}
-use Rattle.pg_laws.specs.Stands.{IsBeginning, Stand}
-use Rattle.pg_laws.proofs.Push.{HasTables}
-use Rattle.pg_laws.proofs.Waiting.{IsBetween, between_at, between_of}
+use Rattle.pg_columns.specs.Stands.{IsBeginning, Stand}
+use Rattle.pg_columns.proofs.Push.{HasTables}
+use Rattle.pg_columns.proofs.Waiting.{IsBetween, between_at, between_of}
 
 -- what the galley gives: tables have entries, at the start no float is called, and along a column that fits
 -- callouts only grow

@@ -12,13 +12,13 @@ use Rattle.pg_list.specs.declared.blocks.Block.TheVariants.{One, Choice}
 use Rattle.pg_list.specs.declared.galley.Place.{Place}
 use Rattle.pg_list.specs.declared.item.Item.{Item}
 use Rattle.pg_list.specs.declared.variants.Variant.{Variant}
-use Rattle.pg_flat.specs.Flat.{FlatItem, blocks_at, end_of, flat_items_at, flat_items_from, fronts, is_same_place, items_before, later_flat_items, picked_variants, steps_to, variant_flat_items}
+use Rattle.pg_flat.specs.Flat.{FlatItem, blocks_at, end_of, flat_items_at, flat_items_from, is_same_place, items_before, later_flat_items, picked_variants, steps_to, variant_flat_items}
 use Rattle.pg_rules.specs.IsState.{IsPlace}
-use Rattle.pg_places.proofs.Alike.{item_of}
+use Rattle.pg_cuts.proofs.Alike.{item_of}
 use Rattle.pg_places.proofs.Callouts.{take_all}
 use Rattle.pg_places.proofs.Measures.{block_inserts, count_before, inserted, inserted_append, inserted_inserts}
 use Rattle.pg_places.proofs.Places.{around_block, around_is, begins, begins_with, drop_head, drop_later, pick_named, suc_not}
-use Rattle.pg_places.proofs.Splits.{StandsAt, first_stands, next_stands, stands_at}
+use Rattle.pg_cuts.proofs.Splits.{StandsAt, first_stands, next_stands, stands_at}
 use Rattle.pg_places.proofs.Tests.{if_false, if_true, same_place}
 
 drop_none : {X : Type 0} (n : ℕ) (xs : List X) → drop n xs ≡ [] → take n xs ≡ xs

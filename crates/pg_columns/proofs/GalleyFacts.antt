@@ -15,9 +15,9 @@ use Rattle.pg_places.proofs.Among.{both_of}
 use Rattle.pg_places.proofs.Callouts.{called_total, entry_less, entry_zero, fit_ends, start_place}
 use Rattle.pg_places.proofs.Measures.{called_grows}
 use Rattle.pg_places.proofs.Tests.{eq_true, same_place}
-use Rattle.pg_laws.specs.Stands.{Stand}
-use Rattle.pg_laws.proofs.Beginnings.{Facts}
-use Rattle.pg_laws.proofs.Push.{HasTables}
+use Rattle.pg_columns.specs.Stands.{Stand}
+use Rattle.pg_columns.proofs.Beginnings.{Facts}
+use Rattle.pg_columns.proofs.Push.{HasTables}
 
 -- the columns that stand end at a place of the galley
 pub stand_place : (doc : Document) → AllByRecursion IsBlock doc.blocks → (ms : List PageMove) → Stand doc ms →

@@ -1,0 +1,4 @@
+pub mod Stands
+pub mod FollowsToo
+pub mod Ranges
+pub mod Laws

@@ -1,0 +1,4 @@
+pub mod Splits
+pub mod Alike
+pub mod Counted
+pub mod Contracts
