@@ -8,6 +8,7 @@ use Rattle.std.proofs.lemmas.List.{map-append, length-take}
 use Rattle.std.proofs.lemmas.List.Sums.{sum_by-cons}
 use Rattle.pg_list.specs.Places.{picked_items}
 use Rattle.pg_list.specs.Ranges.{IsItemInRange}
+use Rattle.pg_list.specs.Shapes.{HasItemsInRange, IsBlock}
 use Rattle.pg_list.specs.declared.blocks.Block.{Block}
 use Rattle.pg_list.specs.declared.blocks.Block.TheVariants.{One, Choice}
 use Rattle.pg_list.specs.declared.item.Item.{Item}
@@ -23,7 +24,6 @@ use Rattle.pg_rules.specs.Room.{Document, checked_height}
 use Rattle.pg_places.proofs.Among.{both_of}
 use Rattle.pg_places.proofs.Measures.{variant_items}
 use Rattle.pg_places.proofs.Tests.{eq_true}
-use Rattle.pg_columns.specs.Ranges.{AreItemsInRange}
 use Rattle.pg_columns.proofs.Simulation.{le_true}
 use Rattle.pg_bounds.proofs.Counts.{float_total}
 
@@ -51,12 +51,12 @@ all_drop P (suc n) (x ∷ xs) a = all_drop P n xs a.1
 -- ---- the sizes of floats
 
 first_items : (variants : List Variant) →
-    AllByRecursion (λ (variant : Variant). AllByRecursion IsItemInRange variant.items) variants →
+    AllByRecursion HasItemsInRange variants →
     AllByRecursion IsItemInRange (picked_items (Choice variants) 0)
 first_items [] a = tt
 first_items (v ∷ variants) a = a.0
 
-flat_range : (n : ℕ) (blocks : List Block) → AllByRecursion AreItemsInRange blocks →
+flat_range : (n : ℕ) (blocks : List Block) → AllByRecursion IsBlock blocks →
     AllByRecursion IsItemInRange (map (λ (flat_item : FlatItem). flat_item.item)
     (flat_items_from n blocks []))
 flat_range n [] a = tt
@@ -71,7 +71,7 @@ flat_range n (Choice variants ∷ blocks) a =
     ∙ ap (λ (xs : List Item). xs ++ map (λ (flat_item : FlatItem). flat_item.item)
     (flat_items_from (n + 1) blocks [])) (variant_items 0 n 0 (picked_items (Choice variants) 0)) in
     subst (AllByRecursion IsItemInRange) (sym e)
-    (all_append IsItemInRange (picked_items (Choice variants) 0) _ (first_items variants a.0)
+    (all_append IsItemInRange (picked_items (Choice variants) 0) _ (first_items variants a.0.ranges)
     (flat_range (n + 1) blocks a.1))
 
 sizes_range : (number : ℕ) (items : List Item) → AllByRecursion IsItemInRange items →
@@ -90,7 +90,7 @@ sizes_range number (Insert class size body ∷ items) a = by (class == number) (
     by true rest = ((a.0.1, a.0.2), rest)
     by false rest = rest
 
-floats_range : (blocks : List Block) (numbers : List ℕ) → AllByRecursion AreItemsInRange blocks →
+floats_range : (blocks : List Block) (numbers : List ℕ) → AllByRecursion IsBlock blocks →
     AllByRecursion (AllByRecursion IsSize) (map (λ number. sizes_of number (flat blocks [])) numbers)
 floats_range blocks [] a = tt
 floats_range blocks (number ∷ numbers) a =
@@ -177,7 +177,7 @@ area_range rule range (size ∷ sizes) a h =
         by a b c d e f = (omega (arith, ints), omega (arith, ints))
 
 -- the wide area that a page's first column makes
-pub wide_range : (doc : Document) (placed counts : List ℕ) → AllByRecursion AreItemsInRange doc.blocks →
+pub wide_range : (doc : Document) (placed counts : List ℕ) → AllByRecursion IsBlock doc.blocks →
     IsAreaRule doc.style.wide → (z : ℤ) → made_wide doc placed counts ≡ Some z → IsUpTo 8589934584 z
 wide_range doc placed counts items rule z e = by (nat_lt 0 (float_count doc.style counts)) e
   where

@@ -26,10 +26,10 @@ each_drop (suc n) (x ∷ xs) a = each_drop n xs a.1
 
 module _ (g : GalleyValue) (s : StyleValue) (range : AreInRange g s) where
   pub start_is_state : IsState (document g s) (state_at (document g s) [])
-  start_is_state = own_start (document g s) range.blocks range.items range.style_in
+  start_is_state = own_start (document g s) range.blocks range.style_in
 
   pub states_lead : StatesLeadToStates g s
-  states_lead = own_next (document g s) range.blocks range.items range.style_in
+  states_lead = own_next (document g s) range.blocks range.style_in
 
   pub columns_cost : ColumnsCostLittle g s
   columns_cost u m v c f =

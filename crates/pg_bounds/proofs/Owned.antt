@@ -30,7 +30,6 @@ use Rattle.pg_places.proofs.Among.{Among, all_at, all_of, both, both_of}
 use Rattle.pg_places.proofs.Callouts.{entry_less, entry_zero, fit_ends, start_place}
 use Rattle.pg_places.proofs.Measures.{called_grows}
 use Rattle.pg_places.proofs.Tests.{if_false, int_le_of, int_less, less_true, not_less, same_place}
-use Rattle.pg_columns.specs.Ranges.{AreItemsInRange}
 use Rattle.pg_columns.proofs.Simulation.{le_of, le_true}
 use Rattle.pg_columns.proofs.Waiting.{IsBetween, between_at, between_of, entry_slots, slot_below}
 use Rattle.pg_bounds.proofs.Areas.{IsUpTo, wide_range}
@@ -128,7 +127,7 @@ fit_next version text fit n h k = by (version == 1) refl text
 -- ---- the next state
 
 module _ (doc : Document) (blocks : AllByRecursion IsBlock doc.blocks)
-    (items : AllByRecursion AreItemsInRange doc.blocks) (range : IsStyle doc.style) where
+    (range : IsStyle doc.style) where
   -- the place of what follows is one of the galley
   pub next_place : (u : State) (m : PageMove) (v : State) (c : ℤ) → IsState doc u → Follow doc u m v c →
       IsPlace doc.blocks m.column.to
@@ -187,7 +186,7 @@ module _ (doc : Document) (blocks : AllByRecursion IsBlock doc.blocks)
           ≡ true
       made None e = refl
       made (Some z) e = both (not_first n) _ h
-          (wide_few z (wide_range doc u.placed m.wide items range.wide_in z (sym e)))
+          (wide_few z (wide_range doc u.placed m.wide blocks range.wide_in z (sym e)))
 
       kept : (o : Option ℤ) → option_map_or
           (λ (z : ℤ). not_first u.column && (int_le (pos 0) z && int_lt z (pos (2 ^ 33)))) o true ≡ true →

@@ -1,5 +1,5 @@
-ghost use Rattle.pg_list.specs.Shapes.{all_shaped, all_fit, same_insert, inserts, is_shaped as is_shaped_list};
-ghost use Rattle.std.specs.List.{list_all};
+ghost use Rattle.pg_list.specs.Shapes.{all_shaped, all_fit, same_insert, inserts, is_shaped as is_shaped_list, HasItemsInRange};
+ghost use Rattle.std.specs.List.{list_all, AllByRecursion};
 ghost use Rattle.std.specs.Cmp.Lexicographic.{pointwise};
 ghost use Rattle.std.specs.Prelude.{◌≡◌, IfOk, take};
 
@@ -37,7 +37,6 @@ impl Model for Choice {
 }
 
 impl Choice {
-    ghost use Rattle.std.specs.List.{AllByRecursion};
     ghost use Rattle.pg_list.specs.Shapes.{IsWithinLimits, Chooses};
     ghost use Rattle.pg_list.specs.Shapes.{IsChoice};
 
@@ -53,6 +52,7 @@ impl Choice {
         if !have_equal_inserts(variants.as_slice()) {
             return Err(ShapeFault::Inserts);
         }
+        keep_ranges(variants.as_slice());
         Ok(Choice::of(variants))
     }
 
@@ -79,6 +79,15 @@ impl Choice {
             variants.push(variant.copy()?)?;
         }
         Ok(Choice { variants })
+    }
+}
+
+/// The type of each variant's items keeps their ranges.
+fn keep_ranges(variants: &[Variant])
+    ensures { AllByRecursion HasItemsInRange variants.now }
+{
+    for variant in variants {
+        variant.keeps_ranges();
     }
 }
 

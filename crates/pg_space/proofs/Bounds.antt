@@ -277,8 +277,8 @@ module _ (g : GalleyValue) (s : StyleValue) (range : AreInRange g s) where
 
   pub moves : Moves (document g s)
   moves = record {
-    start = own_start (document g s) range.blocks range.items range.style_in;
-    own = own_next (document g s) range.blocks range.items range.style_in;
+    start = own_start (document g s) range.blocks range.style_in;
+    own = own_next (document g s) range.blocks range.style_in;
     rises = rises (document g s) range.blocks range.style_in.columns_to near near_climbs;
     onward = onward (document g s) range.blocks;
     within = λ u own. place_within g.blocks u.place own.place;
