@@ -3,7 +3,8 @@ use Rattle.std.proofs.Common.{◌≡◌, sym, subst, [], true}
 use Rattle.pg_list.specs.GalleyValue.{GalleyValue}
 use Rattle.pg_style.specs.Values.{StyleValue}
 use Rattle.pg_rules.specs.Legal.{document}
-use Rattle.pg_rules.specs.NoWorse.{PageKey, key, is_same_key, are_no_older}
+use Rattle.pg_plan.specs.declared.states.PageKey.{PageKey}
+use Rattle.pg_rules.specs.NoWorse.{key, is_same_key, are_no_older}
 use Rattle.pg_rules.specs.States.{is_done}
 use Rattle.pg_places.proofs.Among.{both_of}
 use Rattle.pg_columns.specs.Ranges.{AreInRange}

@@ -17,7 +17,8 @@ use Rattle.pg_rules.specs.Legal.{distance_table, added}
 use Rattle.pg_rules.specs.Cost.{column_cost, float_demerits, column_demerits, pick_demerits, run_demerits, fit_demerits}
 use Rattle.std.proofs.Common.{inl, inr}
 use Rattle.pg_rules.specs.Follow.{is_same_float, age_among, age_in, waiting_in, turns, waiting_behind, next_state, context_in, may_turn, Follow}
-use Rattle.pg_rules.specs.NoWorse.{PageKey, key, is_same_key, is_same_side, is_same_number, is_same_whole, are_same_counts, are_no_older, is_no_worse}
+use Rattle.pg_plan.specs.declared.states.PageKey.{PageKey}
+use Rattle.pg_rules.specs.NoWorse.{key, is_same_key, is_same_side, is_same_number, is_same_whole, are_same_counts, are_no_older, is_no_worse}
 use Rattle.pg_rules.specs.IsState.{IsState, are_young}
 use Rattle.pg_places.proofs.Among.{Among, all_at, all_of, both, both_of}
 use Rattle.pg_places.proofs.Tests.{eq_refl, eq_true, less_of, less_true, place_refl, same_place}

@@ -17,4 +17,4 @@ pub use comparing::{compare, compare_moves};
 pub use laws::{equal_moves_are_same, moves_are_ordered, paginations_are_ordered};
 pub use lists::{Ages, Counts, Picks};
 pub use pages::{Column, Columns, Moves, Page, PageMove, Pages, Pagination};
-pub use states::{Label, LabelList, Side, State};
+pub use states::{Label, LabelList, PageKey, Side, State};

@@ -12,3 +12,4 @@ pub mod IsState
 pub mod Frontier
 pub mod Closed
 pub mod Reach
+pub mod BestPicks

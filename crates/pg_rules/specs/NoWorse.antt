@@ -1,22 +1,13 @@
 -- When a state is no worse than another one.
 use Rattle.std.specs.Prelude.{ℕ, Bool, true, false, ◌==◌, ◌&&◌, nat_le, List, [], ◌∷◌, Option, Some, None, ℤ}
 use Rattle.std.specs.Ordering.{int_eq}
-use Rattle.pg_list.specs.declared.galley.Place.{Place}
 use Rattle.pg_plan.specs.declared.states.Side.{Side}
 use Rattle.pg_plan.specs.declared.states.Side.TheVariants.{L, R, S}
+use Rattle.pg_plan.specs.declared.states.PageKey.{PageKey}
 use Rattle.pg_plan.specs.declared.states.State.{State}
 use Rattle.pg_flat.specs.Flat.{is_same_place}
 
 -- a state but for its ages
-pub record PageKey : Type 0 where
-  pub place : Place
-  pub column : ℕ
-  pub side : Side
-  pub run : Option ℕ
-  pub wide : Option ℤ
-  pub fit : Option ℕ
-  pub placed : List ℕ
-
 abbrev pub key : State → PageKey
 key u = record { place = u.place; column = u.column; side = u.side; run = u.run; wide = u.wide; fit = u.fit; placed = u.placed }
 

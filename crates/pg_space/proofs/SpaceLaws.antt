@@ -5,7 +5,8 @@ use Rattle.std.proofs.lemmas.Int.{ints}
 use Rattle.pg_plan.specs.declared.pages.PageMove.{PageMove}
 use Rattle.pg_plan.specs.declared.states.State.{State}
 use Rattle.pg_rules.specs.Follow.{Follow}
-use Rattle.pg_rules.specs.NoWorse.{PageKey, key, is_same_key, is_no_worse, are_no_older}
+use Rattle.pg_plan.specs.declared.states.PageKey.{PageKey}
+use Rattle.pg_rules.specs.NoWorse.{key, is_same_key, is_no_worse, are_no_older}
 use Rattle.pg_rules.specs.Room.{Document}
 use Rattle.pg_rules.specs.States.{state_at, is_done}
 use Rattle.pg_table.specs.Space.{Lawful, Run, Small}
