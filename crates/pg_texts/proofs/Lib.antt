@@ -2,3 +2,5 @@ pub mod Once
 pub mod Reading
 pub mod Rules
 pub mod CalloutsPassed
+pub mod Picks
+pub mod EachOnce

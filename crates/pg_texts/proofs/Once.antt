@@ -3,23 +3,20 @@ use Rattle.std.proofs.Common.{◌≡◌, refl, sym, ap, subst, ◌∙◌, ℕ, z
 use Rattle.std.specs.Prelude.{◌&&◌, ◌==◌, cond, not, slice_get, ℤ}
 use Rattle.std.specs.List.{AllByRecursion, filter, list_all, enumerate_from}
 use Rattle.std.specs.Option.{option_map_or}
-use Rattle.std.proofs.lemmas.List.{append-nil, map-append, length-map}
+use Rattle.std.proofs.lemmas.List.{map-append}
 use Rattle.std.proofs.lemmas.List.Elements.{filter-append}
-use Rattle.std.proofs.lemmas.Option.{slice_get_within}
-use Rattle.pg_list.specs.GalleyValue.{GalleyValue}
 use Rattle.pg_list.specs.Shapes.{IsBlock, is_discardable}
 use Rattle.pg_list.specs.declared.galley.Place.{Place}
 use Rattle.pg_list.specs.declared.item.Item.{Item}
 use Rattle.pg_list.specs.declared.item.Item.TheVariants.{BoxItem, Rule, Glue, Kern, Penalty, Insert, Carry}
-use Rattle.pg_plan.specs.Order.{columns}
 use Rattle.pg_plan.specs.declared.pages.PageMove.{PageMove}
 use Rattle.pg_style.specs.Values.{StyleValue}
-use Rattle.pg_flat.specs.Flat.{FlatItem, flat, flat_items, flat_items_at, fronts, is_same_place}
+use Rattle.pg_flat.specs.Flat.{FlatItem, flat_items, flat_items_at, fronts, is_same_place}
 use Rattle.pg_flat.specs.Totals.{trimmed}
 use Rattle.pg_rules.specs.ColumnRules.{column_variants, does_fit}
-use Rattle.pg_rules.specs.Floats.{entry, float_numbers, floats, plus_counts, sizes_of}
+use Rattle.pg_rules.specs.Floats.{entry, float_numbers, plus_counts}
 use Rattle.pg_rules.specs.History.{context, place_of, placed_of, with_wide}
-use Rattle.pg_rules.specs.Legal.{document, has_dealt_all, is_chained}
+use Rattle.pg_rules.specs.Legal.{is_chained}
 use Rattle.pg_rules.specs.Room.{ColumnContext, Document, flat_items_of, items_of, size_of}
 use Rattle.pg_rules.specs.IsState.{IsPlace}
 use Rattle.pg_cuts.proofs.Alike.{item_of}
@@ -27,12 +24,9 @@ use Rattle.pg_places.proofs.Among.{both, both_of}
 use Rattle.pg_places.proofs.Callouts.{fit_ends, start_place}
 use Rattle.pg_cuts.proofs.Splits.{splits}
 use Rattle.pg_places.proofs.Tests.{eq_true, same_place}
-use Rattle.pg_laws.specs.Laws.{KeepsRules}
-use Rattle.pg_columns.specs.Ranges.{AreInRange}
 use Rattle.pg_columns.specs.Stands.{Stand}
-use Rattle.pg_laws.proofs.Contracts.{unbroken_keep_rules}
 use Rattle.pg_columns.proofs.Waiting.{entry_plus, entry_slots}
-use Rattle.pg_texts.specs.Texts.{Chained, LegalHaveEachOnce, column_floats, dealt_floats, is_kept, picks_of, segment_of, segments, text_of, texts}
+use Rattle.pg_texts.specs.Texts.{Chained, column_floats, dealt_floats, is_kept, picks_of, segment_of, segments, text_of, texts}
 
 -- ---- texts
 
@@ -82,7 +76,7 @@ passed_texts doc (m ∷ ms) =
     ∙ ap (λ (xs : List Item). texts doc ms ++ xs) (text_is (context doc m ms)))
 
 module _ (doc : Document) (blocks : AllByRecursion IsBlock doc.blocks) where
-  chain_from : (m : PageMove) (ms : List PageMove) → is_chained doc m ms ≡ true → m.column.from ≡ place_of ms
+  pub chain_from : (m : PageMove) (ms : List PageMove) → is_chained doc m ms ≡ true → m.column.from ≡ place_of ms
   chain_from m ms h = same_place m.column.from (place_of ms)
       (both_of (is_same_place m.column.from (place_of ms)) (does_fit (context doc m ms)) h).0
 
@@ -153,7 +147,7 @@ kept_segment it = by (size_of it)
     by None = refl
     by (Some n) = kept_trimmed (take n (items_of it))
 
-kept_segments : (doc : Document) (ms : List PageMove) →
+pub kept_segments : (doc : Document) (ms : List PageMove) →
     filter is_kept (segments doc ms) ≡ filter is_kept (texts doc ms)
 kept_segments doc [] = refl
 kept_segments doc (m ∷ ms) =
@@ -162,7 +156,7 @@ kept_segments doc (m ∷ ms) =
     ∙ (ap (λ (xs : List Item). filter is_kept (texts doc ms) ++ xs) (kept_segment (context doc m ms))
     ∙ sym (filter-append is_kept (texts doc ms) (text_of (context doc m ms)))))
 
-none_kept : (xs : List Item) → list_all is_discardable xs ≡ true → filter is_kept xs ≡ []
+pub none_kept : (xs : List Item) → list_all is_discardable xs ≡ true → filter is_kept xs ≡ []
 none_kept [] h = refl
 none_kept (x ∷ xs) h = let t = both_of (is_discardable x) _ h in let k : is_kept x ≡ false = ap not t.0 in
     ap (λ (b : Bool). cond b (x ∷ filter is_kept xs) (filter is_kept xs)) k ∙ none_kept xs t.1
@@ -179,7 +173,7 @@ take_plus (suc a) b [] = take_nil (suc a + b) ∙ sym (take_nil b)
 take_plus (suc a) b (x ∷ xs) = let e : suc a + b ≡ suc (a + b) = omega arith in
     ap (λ (n : ℕ). take n (x ∷ xs)) e ∙ ap (λ ys. x ∷ ys) (take_plus a b xs)
 
-dealt_take : (style : StyleValue) (sizes : List ℤ) (slot : ℕ) → slot < length (float_numbers style) →
+pub dealt_take : (style : StyleValue) (sizes : List ℤ) (slot : ℕ) → slot < length (float_numbers style) →
     (ms : List PageMove) → dealt_floats style sizes slot ms ≡ take (entry (placed_of style ms) slot) sizes
 dealt_take style sizes slot h [] = ap (λ (n : ℕ). take n sizes) (sym (entry_slots style (λ (_ : ℕ). 0) slot h))
 dealt_take style sizes slot h (m ∷ ms) =
@@ -214,7 +208,7 @@ dealt_take style sizes slot h (m ∷ ms) =
         (sym (take_plus x t sizes) ∙ ap (λ (n : ℕ). take n sizes) (sym f))
         ∙ (sym (take_plus y b sizes) ∙ ap (λ (n : ℕ). take n sizes) (sym g)))))
 
-all_dealt : (placed : List ℕ) (k : ℕ) (lists : List (List ℤ)) (slot : ℕ) (sizes : List ℤ) →
+pub all_dealt : (placed : List ℕ) (k : ℕ) (lists : List (List ℤ)) (slot : ℕ) (sizes : List ℤ) →
     list_all (λ (it : ℕ × List ℤ). entry placed it.0 == length it.1) (enumerate_from k lists) ≡ true →
     slice_get lists slot ≡ Some sizes → entry placed (k + slot) ≡ length sizes
 all_dealt placed k [] slot sizes h e = absurd cc
@@ -229,7 +223,7 @@ all_dealt placed k (x ∷ lists) (suc slot) sizes h e = let z : k + suc slot ≡
     ap (entry placed) z ∙ all_dealt placed (k + 1) lists slot sizes
     (both_of (entry placed k == length x) _ h).1 e
 
-take_whole : {X : Type 0} (xs : List X) → take (length xs) xs ≡ xs
+pub take_whole : {X : Type 0} (xs : List X) → take (length xs) xs ≡ xs
 take_whole [] = refl
 take_whole (x ∷ xs) = ap (λ ys. x ∷ ys) (take_whole xs)
 
@@ -242,42 +236,3 @@ stand_chained doc (m ∷ ms) (s, rest) = (
       s.stands.rules.fits,
   stand_chained doc ms rest,
 )
-
-pub each_once : (g : GalleyValue) (s : StyleValue) → AreInRange g s → LegalHaveEachOnce g s
-each_once g s range plan legal =
-    let k : KeepsRules g s plan = (unbroken_keep_rules g s range plan).0 legal.unbroken in
-    let c : Chained (document g s) (columns plan) = stand_chained (document g s) (columns plan) k.stand in
-    let rest : List Item = map item_of (flat_items_at g.blocks (place_of (columns plan)) []) in
-    let w : flat g.blocks (picks_of (columns plan)) ≡ texts (document g s) (columns plan) ++ map item_of
-    (flat_items_at g.blocks (place_of (columns plan)) []) =
-    ap (λ (p : List ℕ). flat g.blocks p) (sym (append-nil (picks_of (columns plan))))
-    ∙ (ap (map item_of) (whole_splits (document g s) range.blocks (columns plan) [] c)
-    ∙ (map-append item_of (passed (document g s) (columns plan))
-    (flat_items_at g.blocks (place_of (columns plan)) [])
-    ∙ ap (λ (xs : List Item). xs ++ map item_of (flat_items_at g.blocks (place_of (columns plan)) []))
-    (passed_texts (document g s) (columns plan)))) in
-    record {
-      rest = map item_of (flat_items_at g.blocks (place_of (columns plan)) []);
-      whole = w;
-      spent = k.spent;
-      kept = kept_segments (document g s) (columns plan)
-          ∙ sym (ap (filter is_kept) w ∙ (filter-append is_kept (texts (document g s) (columns plan))
-          (map item_of (flat_items_at g.blocks (place_of (columns plan)) []))
-          ∙ (ap (λ (xs : List Item). filter is_kept (texts (document g s) (columns plan)) ++ xs)
-          (none_kept (map item_of (flat_items_at g.blocks (place_of (columns plan)) [])) k.spent)
-          ∙ append-nil (filter is_kept (texts (document g s) (columns plan))))));
-      floats = λ slot sizes e. each k.dealt slot sizes e;
-    }
-  where
-    each : has_dealt_all (document g s) (placed_of s (columns plan)) ≡ true → (slot : ℕ) (sizes : List ℤ) →
-        slice_get (floats g.blocks s) slot ≡ Some sizes → dealt_floats s sizes slot (columns plan) ≡ sizes
-    each d slot sizes e =
-        let l : slot < length (floats g.blocks s) = slice_get_within (floats g.blocks s) slot sizes e in
-        let m : length (floats g.blocks s) ≡ length (float_numbers s) =
-        length-map (float_numbers s) (λ number. sizes_of number (flat g.blocks [])) in
-        let z : 0 + slot ≡ slot = omega arith in
-        let n : entry (placed_of s (columns plan)) slot ≡ length sizes =
-        ap (entry (placed_of s (columns plan))) (sym z) ∙ all_dealt (placed_of s (columns plan)) 0
-        (floats g.blocks s) slot sizes d e in
-        dealt_take s sizes slot (omega arith) (columns plan)
-        ∙ (ap (λ (i : ℕ). take i sizes) n ∙ take_whole sizes)

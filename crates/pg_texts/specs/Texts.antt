@@ -1,16 +1,18 @@
 -- The texts of columns, their segments and their floats, joined; and what the flat list says of a column.
-use Rattle.std.specs.Prelude.{◌≡◌, ℕ, ◌+◌, ◌-◌, ◌≤◌, Bool, true, ◌&&◌, ◌||◌, ◌==◌, not, nat_le, if◌then◌else◌, length, List, [], ◌∷◌, ◌++◌, take, drop, Some, slice_get, ℤ, pos, ◌+ℤ◌, ◌-ℤ◌, is_some}
-use Rattle.std.specs.List.{filter, list_all, list_any, range_with_len}
+use Rattle.std.specs.Prelude.{◌≡◌, ℕ, ◌+◌, ◌-◌, ◌≤◌, Bool, true, false, ◌&&◌, ◌||◌, ◌==◌, not, nat_le, if◌then◌else◌, length, List, [], ◌∷◌, ◌++◌, take, drop, Some, slice_get, ℤ, pos, ◌+ℤ◌, ◌-ℤ◌, is_some}
+use Rattle.std.specs.List.{count_by, filter, list_all, list_any, range_with_len}
 use Rattle.std.specs.Option.{option_map_or}
 use Rattle.pg_list.specs.GalleyValue.{GalleyValue}
 use Rattle.pg_list.specs.Shapes.{is_box, is_discardable}
+use Rattle.pg_list.specs.declared.blocks.Block.{Block}
+use Rattle.pg_list.specs.declared.blocks.Block.TheVariants.{One, Choice}
 use Rattle.pg_list.specs.declared.item.Item.{Item}
 use Rattle.pg_plan.specs.Order.{columns}
 use Rattle.pg_plan.specs.declared.pages.PageMove.{PageMove}
 use Rattle.pg_plan.specs.declared.pages.Pagination.{Pagination}
 use Rattle.pg_style.specs.Values.{StyleValue}
 use Rattle.pg_flat.specs.Break.{break_penalty, is_forced, is_spent, passes_between}
-use Rattle.pg_flat.specs.Flat.{flat, flat_items, flat_items_at, items_before}
+use Rattle.pg_flat.specs.Flat.{flat, flat_items, flat_items_at, items_before, picked_variants}
 use Rattle.pg_flat.specs.Badness.{is_over, page_badness}
 use Rattle.pg_flat.specs.Totals.{shrink, total, trimmed}
 use Rattle.pg_flat.specs.Whole.{square}
@@ -70,8 +72,13 @@ dealt_floats style sizes slot [] = []
 dealt_floats style sizes slot (m ∷ ms) =
     dealt_floats style sizes slot ms ++ column_floats style sizes slot (placed_of style ms) m
 
+abbrev pub is_choice : Block → Bool
+is_choice (One item) = false
+is_choice (Choice variants) = true
+
 -- the texts, joined, are the flat list, but for discardable items at its end; each box, rule, insert and carry
--- of the flat list stands once in the segments, in order; and each class's floats are dealt out once, in order
+-- of the flat list stands once in the segments, in order; each class's floats are dealt out once, in order; and
+-- there are as many picks as choices, each of which names a variant of its choice
 pub record EachOnce (galley : GalleyValue) (style : StyleValue) (plan : Pagination) : Type 0 where
   pub rest : List Item
   pub whole :
@@ -81,6 +88,8 @@ pub record EachOnce (galley : GalleyValue) (style : StyleValue) (plan : Paginati
       ≡ filter is_kept (flat galley.blocks (picks_of (columns plan)))
   pub floats : (slot : ℕ) (sizes : List ℤ) → slice_get (floats galley.blocks style) slot ≡ Some sizes →
       dealt_floats style sizes slot (columns plan) ≡ sizes
+  pub picks : length (picks_of (columns plan)) ≡ count_by is_choice galley.blocks
+  pub named : length (picked_variants galley.blocks (picks_of (columns plan))) ≡ count_by is_choice galley.blocks
 
 abbrev pub LegalHaveEachOnce : GalleyValue → StyleValue → Type 0
 LegalHaveEachOnce galley style = (plan : Pagination) → Legal galley style plan → EachOnce galley style plan

@@ -8,7 +8,8 @@ use pg_style::Style;
 
 /// The texts of a legal pagination's columns, joined, are the flat list of its picks, but for
 /// discardable items at its end; each box, rule, insert and carry stands once in the segments, in
-/// order; and the floats of each class are dealt out once, in order.
+/// order; the floats of each class are dealt out once, in order; and there are as many picks as
+/// choices, each of which names a variant of its choice.
 pub fn legal_plans_have_each_once(galley: &Galley, style: &Style)
     requires { AreInRange galley.now style.now }
     ensures { LegalHaveEachOnce galley.now style.now }

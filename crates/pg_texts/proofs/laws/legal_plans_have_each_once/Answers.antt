@@ -1,4 +1,4 @@
-use Rattle.pg_texts.proofs.Once.{each_once}
+use Rattle.pg_texts.proofs.EachOnce.{each_once}
 use Rattle.pg_texts.proofs.laws.legal_plans_have_each_once.Goals as goal
 
 pub returns : goal.returns
