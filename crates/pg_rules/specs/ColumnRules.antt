@@ -31,10 +31,12 @@ text_badness it n = page_badness (is_spent (items_of it) n) (text_goal it n) (te
 -- very loose 0, loose 1, decent 2, tight 3
 abbrev pub fitness_by : ℤ → ℤ → ℕ → ℕ
 fitness_by total goal badness =
-    if int_lt total goal then (if nat_lt 99 badness then 0 else (if nat_lt 12 badness then 1 else 2)) else (if int_lt goal total && nat_lt 12 badness then 3 else 2)
+    if int_lt total goal then (if nat_lt 99 badness then 0 else (if nat_lt 12 badness then 1 else 2))
+    else (if int_lt goal total && nat_lt 12 badness then 3 else 2)
 
 abbrev pub text_fitness : ColumnContext → ℕ → ℕ
-text_fitness it n = if it.document.style.version == 1 then 2 else fitness_by (text_total it n) (text_goal it n) (text_badness it n)
+text_fitness it n =
+    if it.document.style.version == 1 then 2 else fitness_by (text_total it n) (text_goal it n) (text_badness it n)
 
 -- the variants that the column's picks name
 abbrev pub column_variants : ColumnContext → List Variant
@@ -44,19 +46,25 @@ column_variants it = picked_variants (blocks_at it.document.blocks it.column.fro
 
 -- the column ends at a place that follows its start, and its picks name a variant of each choice whose front it meets
 abbrev pub does_fit : ColumnContext → Bool
-does_fit it = at_size it (λ n. (fronts (flat_items_of it) n == length it.column.picks) && (length (column_variants it) == length it.column.picks))
+does_fit it = at_size it (λ n. (fronts (flat_items_of it) n == length it.column.picks)
+    && (length (column_variants it) == length it.column.picks))
 
 abbrev pub is_idle : ColumnContext → Bool
-is_idle it = (float_count it.document.style it.column.top == 0) && (float_count it.document.style it.column.bottom == 0) && is_some it.wide
+is_idle it =
+    (float_count it.document.style it.column.top == 0) && (float_count it.document.style it.column.bottom == 0)
+    && is_some it.wide
 
 -- a text column has a box and ends at a break; a column without text has floats, or stands below wide floats
 abbrev pub is_well_formed : ColumnContext → Bool
 is_well_formed it =
     if is_text it then at_size it (λ n. list_any is_box (take n (items_of it)) && is_some (break_penalty (items_of it) n))
-    else ((length it.column.picks == 0) && ((nat_lt 0 (float_count it.document.style it.column.top) && (float_count it.document.style it.column.bottom == 0)) || is_idle it))
+    else ((length it.column.picks == 0)
+    && ((nat_lt 0 (float_count it.document.style it.column.top)
+    && (float_count it.document.style it.column.bottom == 0)) || is_idle it))
 
 abbrev pub is_tolerable : ColumnContext → Bool
-is_tolerable it = not (is_text it) || at_size it (λ n. not (text_is_over it n) && (is_forced (items_of it) n || nat_le (text_badness it n) it.document.style.tolerance))
+is_tolerable it = not (is_text it) || at_size it (λ n. not (text_is_over it n)
+    && (is_forced (items_of it) n || nat_le (text_badness it n) it.document.style.tolerance))
 
 abbrev pub passes_breaks : ColumnContext → Bool
 passes_breaks it = not (is_text it) || at_size it (passes_between (items_of it) (text_is_over it))
@@ -64,17 +72,24 @@ passes_breaks it = not (is_text it) || at_size it (passes_between (items_of it) 
 abbrev pub has_room : ColumnContext → Bool
 has_room it =
     if is_text it then int_le it.document.style.min_text (room it)
-    else int_le ((wide_height it +ℤ top_height it) -ℤ (if float_count it.document.style it.column.top == 0 then it.document.style.wide.gap else it.document.style.top.gap)) (full_height it)
+    else int_le ((wide_height it +ℤ top_height it)
+    -ℤ (if float_count it.document.style it.column.top == 0 then it.document.style.wide.gap
+    else it.document.style.top.gap)) (full_height it)
 
 abbrev pub has_counts : ColumnContext → Bool
 has_counts it =
-    (length it.column.top == length (float_numbers it.document.style)) && (length it.column.bottom == length (float_numbers it.document.style)) && is_top_allowed it && is_bottom_allowed it
+    (length it.column.top == length (float_numbers it.document.style))
+    && (length it.column.bottom == length (float_numbers it.document.style)) && is_top_allowed it
+    && is_bottom_allowed it
 
 abbrev pub has_dealable : ColumnContext → Bool
-has_dealable it = has_all (floats it.document.blocks it.document.style) it.before it.column.top && has_all (floats it.document.blocks it.document.style) (before_bottom it) it.column.bottom
+has_dealable it = has_all (floats it.document.blocks it.document.style) it.before it.column.top
+    && has_all (floats it.document.blocks it.document.style) (before_bottom it) it.column.bottom
 
 abbrev pub keeps_note_limits : ColumnContext → Bool
 keeps_note_limits it = not (is_text it) || at_size it (λ n. are_notes_within_limits it.document.style (segment it n))
 
 abbrev pub keeps_looseness : ColumnContext → Bool
-keeps_looseness it = list_all (λ (variant : Variant). nat_le (unsigned_abs variant.looseness) it.document.style.max_looseness) (column_variants it)
+keeps_looseness it =
+    list_all (λ (variant : Variant). nat_le (unsigned_abs variant.looseness) it.document.style.max_looseness)
+    (column_variants it)

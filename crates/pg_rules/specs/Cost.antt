@@ -21,10 +21,13 @@ penalty_demerits (pos p) = square (pos p)
 penalty_demerits (negsuc p) = if int_lt (negsuc 9999) (negsuc p) then pos 0 -ℤ square (negsuc p) else pos 0
 
 abbrev pub text_demerits : ColumnContext → ℕ → ℤ
-text_demerits it n = square (pos (it.document.style.line + text_badness it n)) +ℤ option_map_or penalty_demerits (break_penalty (items_of it) n) (pos 0)
+text_demerits it n = square (pos (it.document.style.line + text_badness it n))
+    +ℤ option_map_or penalty_demerits (break_penalty (items_of it) n) (pos 0)
 
 abbrev pub column_demerits : ColumnContext → ℤ
-column_demerits it = if is_text it then option_map_or (text_demerits it) (size_of it) (pos 0) else pos it.document.style.float_column.demerits
+column_demerits it =
+    if is_text it then option_map_or (text_demerits it) (size_of it) (pos 0)
+    else pos it.document.style.float_column.demerits
 
 abbrev pub pick_demerits : ColumnContext → ℤ
 pick_demerits it = whole_sum_by (λ (variant : Variant). pos variant.demerits) (column_variants it)
@@ -34,22 +37,28 @@ run_demerits style run = option_map_or (λ (it : Run). pos it.demerits) (slice_g
 
 -- each float pays by how long it waited
 abbrev pub float_demerits : StyleValue → (ℕ × ℕ → ℕ) → List (ℕ × ℕ) → ℤ
-float_demerits style wait floats = whole_sum_by (λ (float : ℕ × ℕ). pos (slice_index (distance_table style float.0) (wait float))) floats
+float_demerits style wait floats =
+    whole_sum_by (λ (float : ℕ × ℕ). pos (slice_index (distance_table style float.0) (wait float))) floats
 
 abbrev pub differs : ℕ → ℕ → Bool
 differs a b = not (nat_le a (b + 1) && nat_le b (a + 1))
 
 abbrev pub fit_demerits : Option ℕ → ColumnContext → ℤ
-fit_demerits fit it = option_map_or (λ (last : ℕ). if is_text it && differs last (column_fitness it) then pos it.document.style.fitness else pos 0) fit (pos 0)
+fit_demerits fit it = option_map_or (λ (last : ℕ). if is_text it && differs last (column_fitness it)
+    then pos it.document.style.fitness else pos 0) fit (pos 0)
 
 -- what a column adds, after a column with this fitness, where each float that it adds waited so long
 abbrev pub column_cost : ColumnContext → ℕ → Option ℕ → (ℕ × ℕ → ℕ) → List (ℕ × ℕ) → ℤ
 column_cost it column fit wait floats =
-    (column_demerits it +ℤ pick_demerits it) +ℤ (((if column == 1 then run_demerits it.document.style it.run else pos 0) +ℤ float_demerits it.document.style wait floats) +ℤ fit_demerits fit it)
+    (column_demerits it +ℤ pick_demerits it)
+    +ℤ (((if column == 1 then run_demerits it.document.style it.run else pos 0)
+    +ℤ float_demerits it.document.style wait floats) +ℤ fit_demerits fit it)
 
 abbrev pub cost_of : Document → List PageMove → ℤ
 cost_of doc [] = pos 0
-cost_of doc (m ∷ ms) = cost_of doc ms +ℤ column_cost (context doc m ms) (next_column doc.style ms) (fit_of doc ms) (distance doc m ms) (added doc (placed_of doc.style ms) m)
+cost_of doc (m ∷ ms) = cost_of doc ms
+    +ℤ column_cost (context doc m ms) (next_column doc.style ms) (fit_of doc ms) (distance doc m ms)
+    (added doc (placed_of doc.style ms) m)
 
 unfoldable pub cost : GalleyValue → StyleValue → Pagination → ℤ
 cost galley style plan = cost_of (document galley style) (columns plan)

@@ -29,7 +29,9 @@ float_class style number = option_map_or (λ (class : Class). float_kind class.k
 
 -- the numbers of the float classes, in increasing order
 abbrev pub float_numbers : StyleValue → List ℕ
-float_numbers style = filter (λ number. option_map_or (λ (kind : Area × List ℕ). true) (float_class style number) false) (range_with_len 0 255)
+float_numbers style =
+    filter (λ number. option_map_or (λ (kind : Area × List ℕ). true) (float_class style number) false)
+    (range_with_len 0 255)
 
 -- the size of an insert of a class
 abbrev pub insert_size : ℕ → Item → Option ℤ
@@ -71,7 +73,8 @@ floats_between style a b = flat_map (λ (slot : ℕ). numbered slot (entry a slo
 -- the counts deal out the next floats, class by class
 abbrev pub dealt_from : {X : Type 0} → ℕ → List (List X) → List ℕ → List ℕ → List X
 dealt_from slot [] before counts = []
-dealt_from slot (own ∷ floats) before counts = take (entry counts slot) (drop (entry before slot) own) ++ dealt_from (slot + 1) floats before counts
+dealt_from slot (own ∷ floats) before counts =
+    take (entry counts slot) (drop (entry before slot) own) ++ dealt_from (slot + 1) floats before counts
 
 abbrev pub dealt : {X : Type 0} → List (List X) → List ℕ → List ℕ → List X
 dealt floats before counts = dealt_from 0 floats before counts
@@ -80,7 +83,8 @@ dealt floats before counts = dealt_from 0 floats before counts
 abbrev pub has_all_from : ℕ → List (List ℤ) → List ℕ → List ℕ → Bool
 has_all_from slot [] before counts = true
 has_all_from slot (sizes ∷ floats) before counts =
-    ((entry counts slot == 0) || nat_le (entry before slot + entry counts slot) (length sizes)) && has_all_from (slot + 1) floats before counts
+    ((entry counts slot == 0) || nat_le (entry before slot + entry counts slot) (length sizes))
+    && has_all_from (slot + 1) floats before counts
 
 abbrev pub has_all : List (List ℤ) → List ℕ → List ℕ → Bool
 has_all floats before counts = has_all_from 0 floats before counts
@@ -99,7 +103,11 @@ float_count style counts = sum_by (λ (slot : ℕ). entry counts slot) (slots st
 -- a count for each class, and at most so many floats, each of a class that the area takes
 abbrev pub is_area_allowed : StyleValue → (Area → Bool) → ℕ → List ℕ → Bool
 is_area_allowed style takes limit counts =
-    (length counts == length (float_numbers style)) && nat_le (total_count counts) limit && list_all (λ (slot : ℕ). (entry counts slot == 0) || option_map_or (λ number. option_map_or (λ (kind : Area × List ℕ). takes kind.0) (float_class style number) false) (slice_get (float_numbers style) slot) true) (range_with_len 0 (length counts))
+    (length counts == length (float_numbers style)) && nat_le (total_count counts) limit
+    && list_all (λ (slot : ℕ). (entry counts slot == 0)
+    || option_map_or (λ number. option_map_or (λ (kind : Area × List ℕ). takes kind.0)
+    (float_class style number) false) (slice_get (float_numbers style) slot) true)
+    (range_with_len 0 (length counts))
 
 abbrev pub takes_top : Area → Bool
 takes_top Top = true

@@ -73,7 +73,9 @@ next_state doc u m = record {
 
 -- each float that still waits may wait on
 abbrev pub may_turn : Document → State → PageMove → Bool
-may_turn doc u m = list_all (λ (float : ℕ × ℕ). nat_lt (age_in doc u float + turns doc.style u) (length (distance_table doc.style float.0))) (waiting_behind doc u m)
+may_turn doc u m =
+    list_all (λ (float : ℕ × ℕ). nat_lt (age_in doc u float + turns doc.style u)
+    (length (distance_table doc.style float.0))) (waiting_behind doc u m)
 
 -- the rules on one column
 pub record KeepsColumnRules (it : ColumnContext) : Type 0 where
@@ -87,7 +89,8 @@ pub record KeepsColumnRules (it : ColumnContext) : Type 0 where
   pub looseness : keeps_looseness it ≡ true
 
 -- the column may stand on the page that must have this run, as the page's column of this number, after these floats
-pub record MayStand (doc : Document) (column : ℕ) (must : Option ℕ) (placed : List ℕ) (m : PageMove) (it : ColumnContext) : Type 0 where
+pub record MayStand (doc : Document) (column : ℕ) (must : Option ℕ) (placed : List ℕ) (m : PageMove)
+    (it : ColumnContext) : Type 0 where
   pub takes_run : has_run doc.style must m ≡ true
   pub wide : has_wide_counts doc column m ≡ true
   pub deals : deals_floats doc placed m it ≡ true

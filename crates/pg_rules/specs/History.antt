@@ -69,7 +69,8 @@ placed_of style (m ∷ ms) = placed_after style (placed_of style ms) m
 -- the height of a wide area that is made of the next floats, where it has any
 abbrev pub made_wide : Document → List ℕ → List ℕ → Option ℤ
 made_wide doc placed counts =
-    if nat_lt 0 (float_count doc.style counts) then Some (checked_height (floats doc.blocks doc.style) (is_area_allowed doc.style takes_wide doc.style.wide.count counts) doc.style.wide placed counts) else None
+    if nat_lt 0 (float_count doc.style counts) then Some (checked_height (floats doc.blocks doc.style)
+    (is_area_allowed doc.style takes_wide doc.style.wide.count counts) doc.style.wide placed counts) else None
 
 -- the height of the wide area of the last column's page
 abbrev pub wide_of : Document → List PageMove → Option ℤ
@@ -88,7 +89,8 @@ calling_page doc (m ∷ ms) float = if is_called doc (place_of ms) float then ca
 -- ---- a column in its context
 
 abbrev pub context_with : Document → Option ℤ → List ℕ → PageMove → ColumnContext
-context_with doc wide placed m = record { document = doc; column = m.column; run = m.run; wide = wide; before = with_wide doc.style placed m }
+context_with doc wide placed m =
+    record { document = doc; column = m.column; run = m.run; wide = wide; before = with_wide doc.style placed m }
 
 abbrev pub context : Document → PageMove → List PageMove → ColumnContext
 context doc m ms = context_with doc (wide_of doc (m ∷ ms)) (placed_of doc.style ms) m

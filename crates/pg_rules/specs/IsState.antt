@@ -51,9 +51,11 @@ pub record IsState (doc : Document) (u : State) : Type 0 where
   pub run : option_map_or (λ (run : ℕ). is_some (slice_get doc.style.runs run)) u.run true ≡ true
   pub run_free : (if u.column == 1 then (is_same_side u.side R || not_some u.run) else is_some u.run) ≡ true
   -- a page that has begun may have a wide area
-  pub wide : option_map_or (λ (z : ℤ). not_first u.column && (int_le (pos 0) z && int_lt z (pos (2 ^ 33)))) u.wide true ≡ true
+  pub wide : option_map_or (λ (z : ℤ). not_first u.column
+      && (int_le (pos 0) z && int_lt z (pos (2 ^ 33)))) u.wide true ≡ true
   pub fit : option_map_or (λ (f : ℕ). not_first doc.style.version && nat_le f 3) u.fit true ≡ true
   pub placed : length u.placed ≡ length (float_numbers doc.style)
-  pub called : list_all (λ (slot : ℕ). nat_le (entry u.placed slot) (entry (called doc.blocks doc.style u.place) slot)) (slots doc.style) ≡ true
+  pub called : list_all (λ (slot : ℕ). nat_le (entry u.placed slot)
+      (entry (called doc.blocks doc.style u.place) slot)) (slots doc.style) ≡ true
   pub waiting : length u.ages ≡ length (waiting_in doc u)
   pub young : are_young doc u.ages (waiting_in doc u) ≡ true

@@ -23,7 +23,9 @@ use Rattle.std.specs.Prelude.{map}
 -- the counts of wide floats are those that a page's column of this number may have
 abbrev pub has_wide_counts : Document → ℕ → PageMove → Bool
 has_wide_counts doc column m =
-    (length m.wide == length (float_numbers doc.style)) && (if column == 1 then is_area_allowed doc.style takes_wide doc.style.wide.count m.wide else total_count m.wide == 0)
+    (length m.wide == length (float_numbers doc.style))
+    && (if column == 1 then is_area_allowed doc.style takes_wide doc.style.wide.count m.wide
+    else total_count m.wide == 0)
 
 -- no class deals out a float that it has not
 abbrev pub deals_floats : Document → List ℕ → PageMove → ColumnContext → Bool
@@ -42,14 +44,18 @@ has_run style must m = is_some (slice_get style.runs m.run) && option_map_or (λ
 
 -- the demerits of a float by its distance
 abbrev pub distance_table : StyleValue → ℕ → List ℕ
-distance_table style slot = option_map_or (λ (number : ℕ). option_map_or (λ (kind : Area × List ℕ). kind.1) (float_class style number) []) (slice_get (float_numbers style) slot) []
+distance_table style slot =
+    option_map_or (λ (number : ℕ). option_map_or (λ (kind : Area × List ℕ). kind.1) (float_class style number) [])
+    (slice_get (float_numbers style) slot) []
 
 -- how many pages a float that the column adds stands behind its callout
 abbrev pub distance : Document → PageMove → List PageMove → ℕ × ℕ → ℕ
 distance doc m ms float = next_page doc.style ms - calling_page doc (m ∷ ms) float
 
 abbrev pub is_near : Document → PageMove → List PageMove → Bool
-is_near doc m ms = list_all (λ (float : ℕ × ℕ). nat_lt (distance doc m ms float) (length (distance_table doc.style float.0))) (added doc (placed_of doc.style ms) m)
+is_near doc m ms =
+    list_all (λ (float : ℕ × ℕ). nat_lt (distance doc m ms float) (length (distance_table doc.style float.0)))
+    (added doc (placed_of doc.style ms) m)
 
 -- ---- rules on the whole
 
@@ -65,7 +71,8 @@ abbrev pub ends_spent : Document → List PageMove → Bool
 ends_spent doc ms = is_spent_at doc (place_of ms)
 
 abbrev pub has_dealt_all : Document → List ℕ → Bool
-has_dealt_all doc placed = list_all (λ (it : ℕ × List ℤ). entry placed it.0 == length it.1) (enumerate_from 0 (floats doc.blocks doc.style))
+has_dealt_all doc placed =
+    list_all (λ (it : ℕ × List ℤ). entry placed it.0 == length it.1) (enumerate_from 0 (floats doc.blocks doc.style))
 
 -- ---- the least column at fault
 
@@ -80,11 +87,13 @@ unless false n = Some n
 -- of the pages from the last to the first: each but the last has all columns, and none has none
 abbrev pub underfilled : ℕ → List Page → Option ℕ
 underfilled full [] = None
-underfilled full (page ∷ pages) = or_else (underfilled full pages) (unless (nat_le 1 (length page.columns) && (length page.columns == full)) (length (columns_of pages) + 1))
+underfilled full (page ∷ pages) = or_else (underfilled full pages)
+    (unless (nat_le 1 (length page.columns) && (length page.columns == full)) (length (columns_of pages) + 1))
 
 abbrev pub misfilled : ℕ → List Page → Option ℕ
 misfilled full [] = None
-misfilled full (page ∷ pages) = or_else (underfilled full pages) (unless (nat_le 1 (length page.columns) && nat_le (length page.columns) full) (length (columns_of pages) + 1))
+misfilled full (page ∷ pages) = or_else (underfilled full pages)
+    (unless (nat_le 1 (length page.columns) && nat_le (length page.columns) full) (length (columns_of pages) + 1))
 
 abbrev pub first_at_fault : (PageMove → List PageMove → Bool) → List PageMove → Option ℕ
 first_at_fault keeps [] = None
@@ -112,7 +121,10 @@ abbrev pub document : GalleyValue → StyleValue → Document
 document galley style = record { blocks = galley.blocks; style = style }
 
 abbrev pub faults : Document → Pagination → List (Option ℕ)
-faults doc plan = faults_with doc (reverse plan.pages) (columns plan) (unless (ends_spent doc (columns plan)) (length (columns plan))) (unless (has_dealt_all doc (placed_of doc.style (columns plan))) (length (columns plan)))
+faults doc plan =
+    faults_with doc (reverse plan.pages) (columns plan)
+    (unless (ends_spent doc (columns plan)) (length (columns plan)))
+    (unless (has_dealt_all doc (placed_of doc.style (columns plan))) (length (columns plan)))
 
 abbrev pub first_breach : ℕ → List (Option ℕ) → Option (ℕ × ℕ)
 first_breach rule [] = None

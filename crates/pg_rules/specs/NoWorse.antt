@@ -33,7 +33,10 @@ are_same_counts (a ∷ xs) (b ∷ ys) = (a == b) && are_same_counts xs ys
 are_same_counts _ _ = false
 
 abbrev pub is_same_key : PageKey → PageKey → Bool
-is_same_key a b = is_same_place a.place b.place && ((a.column == b.column) && (is_same_side a.side b.side && (is_same_number a.run b.run && (is_same_whole a.wide b.wide && (is_same_number a.fit b.fit && are_same_counts a.placed b.placed)))))
+is_same_key a b =
+    is_same_place a.place b.place && ((a.column == b.column) && (is_same_side a.side b.side
+    && (is_same_number a.run b.run && (is_same_whole a.wide b.wide
+    && (is_same_number a.fit b.fit && are_same_counts a.placed b.placed)))))
 
 -- as many, and none greater
 abbrev pub are_no_older : List ℕ → List ℕ → Bool

@@ -22,14 +22,16 @@ greatest_extra (run ∷ next ∷ runs) = int_max run.extra (greatest_extra (next
 -- over in the tallest room, without notes
 abbrev pub is_over_at_most : StyleValue → List Item → ℕ → Bool
 is_over_at_most style items k =
-    is_over (total style.topskip style.maxdepth (trimmed (take k items))) (shrink (trimmed (take k items))) (style.height +ℤ greatest_extra style.runs)
+    is_over (total style.topskip style.maxdepth (trimmed (take k items))) (shrink (trimmed (take k items)))
+    (style.height +ℤ greatest_extra style.runs)
 
 -- some picks lead from the one place to the other, past no break that is forced or over
 pub record Reaches (doc : Document) (from to : Place) : Type 0 where
   pub picks : List ℕ
   pub size : ℕ
   pub leads : steps_to doc.blocks (flat_items_at doc.blocks from picks) to ≡ Some size
-  pub picked : ((fronts (flat_items_at doc.blocks from picks) size == length picks) && (length (picked_variants (blocks_at doc.blocks from) picks) == length picks)) ≡ true
+  pub picked : ((fronts (flat_items_at doc.blocks from picks) size == length picks)
+      && (length (picked_variants (blocks_at doc.blocks from) picks) == length picks)) ≡ true
   pub passes :
       passes_between (map (λ (it : FlatItem). it.item) (flat_items_at doc.blocks from picks))
       (is_over_at_most doc.style (map (λ (it : FlatItem). it.item) (flat_items_at doc.blocks from picks))) size ≡ true

@@ -65,13 +65,18 @@ is_bottom_allowed it =
 
 -- an area with counts that are not allowed, or with a float that is not there, has height 0
 abbrev pub checked_height : List (List ℤ) → Bool → AreaRuleValue → List ℕ → List ℕ → ℤ
-checked_height floats allowed rule before counts = if allowed && has_all floats before counts then area_height rule (dealt floats before counts) else pos 0
+checked_height floats allowed rule before counts =
+    if allowed && has_all floats before counts then area_height rule (dealt floats before counts) else pos 0
 
 abbrev pub top_height : ColumnContext → ℤ
-top_height it = checked_height (floats it.document.blocks it.document.style) (is_top_allowed it) it.document.style.top it.before it.column.top
+top_height it =
+    checked_height (floats it.document.blocks it.document.style) (is_top_allowed it) it.document.style.top
+    it.before it.column.top
 
 abbrev pub bottom_height : ColumnContext → ℤ
-bottom_height it = checked_height (floats it.document.blocks it.document.style) (is_bottom_allowed it) it.document.style.bottom (before_bottom it) it.column.bottom
+bottom_height it =
+    checked_height (floats it.document.blocks it.document.style) (is_bottom_allowed it) it.document.style.bottom
+    (before_bottom it) it.column.bottom
 
 abbrev pub full_height : ColumnContext → ℤ
 full_height it = it.document.style.height +ℤ extra it.document.style it.run
@@ -84,7 +89,8 @@ room it = ((full_height it -ℤ wide_height it) -ℤ top_height it) -ℤ bottom_
 
 -- for a note class with a note in the list, its skip and the sizes
 abbrev pub class_notes : List Item → ℕ → Kind → ℤ
-class_notes items number (Note skip limit) = if length (sizes_of number items) == 0 then pos 0 else (skip +ℤ whole_sum (sizes_of number items))
+class_notes items number (Note skip limit) =
+    if length (sizes_of number items) == 0 then pos 0 else (skip +ℤ whole_sum (sizes_of number items))
 class_notes items number (Float area distance) = pos 0
 
 abbrev pub notes : StyleValue → List Item → ℤ
@@ -95,4 +101,5 @@ is_within_limit items number (Note skip limit) = int_le (whole_sum (sizes_of num
 is_within_limit items number (Float area distance) = true
 
 abbrev pub are_notes_within_limits : StyleValue → List Item → Bool
-are_notes_within_limits style items = list_all (λ (class : Class). is_within_limit items class.number class.kind) style.classes
+are_notes_within_limits style items =
+    list_all (λ (class : Class). is_within_limit items class.number class.kind) style.classes

@@ -37,10 +37,13 @@ state_of galley style plan = state_at (document galley style) (columns plan)
 
 -- no float has waited too long
 abbrev pub can_wait : Document → List PageMove → Bool
-can_wait doc ms = list_all (λ (float : ℕ × ℕ). nat_lt (age doc ms float) (length (distance_table doc.style float.0))) (waiting doc ms)
+can_wait doc ms =
+    list_all (λ (float : ℕ × ℕ). nat_lt (age doc ms float) (length (distance_table doc.style float.0)))
+    (waiting doc ms)
 
 unfoldable pub prefix_breach : GalleyValue → StyleValue → Pagination → Option (ℕ × ℕ)
-prefix_breach galley style plan = first_breach 1 (faults_with (document galley style) (reverse plan.pages) (columns plan) None None)
+prefix_breach galley style plan =
+    first_breach 1 (faults_with (document galley style) (reverse plan.pages) (columns plan) None None)
 
 -- a beginning of a pagination: it need not be at the galley's end, nor have placed all floats, but none has waited too long
 pub record Prefix (galley : GalleyValue) (style : StyleValue) (plan : Pagination) : Type 0 where
