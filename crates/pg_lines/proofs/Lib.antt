@@ -1,0 +1,4 @@
+pub mod LineLemmas
+pub mod WholeLemmas
+pub mod WholeReads
+pub mod CleanLines

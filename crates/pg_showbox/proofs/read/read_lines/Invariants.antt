@@ -1,0 +1,17 @@
+use Rattle.std.proofs.Common.{◌≡◌, ◌<◌, ◌+◌, ◌^◌, length}
+use Rattle.pg_lines.specs.Lines.{raw_lines, joined}
+use Rattle.pg_showbox.specs.State.{Sound}
+use Rattle.pg_showbox.specs.Reading.{run}
+use Rattle.pg_showbox.proofs.read.read_lines.Given as goal
+
+abbrev pub invariant-lines : goal.invariant-lines
+invariant-lines l = record {
+  said : run l.is_file l.fn.draft (joined l.wrap l.first (raw_lines l.text)) ≡ run l.is_file l.draft
+      (joined l.wrap l.number (raw_lines l.rest));
+  count : l.number + length (raw_lines l.rest) ≡ l.first + length (raw_lines l.text);
+  room : l.number + length l.rest < 2 ^ 32;
+  sound : Sound l.draft;
+}
+
+abbrev pub decreases-lines : goal.decreases-lines
+decreases-lines l = length l.rest
