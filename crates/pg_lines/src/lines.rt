@@ -14,7 +14,8 @@ fn line_len(text: &[u8]) -> usize
 
 // The first line, and what follows it.
 fn split_line(text: &[u8]) -> Option<(&[u8], &[u8])>
-    ensures lines { MatchOption result (lines_of text.now ≡ []) (λ x. lines_of text.now ≡ x.0.now ∷ lines_of x.1.now) }
+    ensures lines { MatchOption result (lines_of text.now ≡ [])
+        (λ x. lines_of text.now ≡ x.0.now ∷ lines_of x.1.now) }
     ensures shorter { IfSome result (λ x. length x.1.now < length text.now) }
 {
     if text.is_empty() {
@@ -64,8 +65,11 @@ pub fn take_line<'a>(
     line: &mut Vec<u8>,
 ) -> Result<Option<(&'a [u8], u32)>, AllocError>
     requires { number + length text.now < 2 ^ 32 }
-    ensures none { IfOk result (λ found. MatchOption found (raw_lines text.now ≡ []) (λ x. joined wrap number (raw_lines text.now) ≡ record { number = number; text = line.new.items } ∷ joined wrap x.1 (raw_lines x.0.now))) }
-    ensures count { IfOk result (λ found. IfSome found (λ x. x.1 + length (raw_lines x.0.now) ≡ number + length (raw_lines text.now))) }
+    ensures line { IfOk result (λ found. MatchOption found (raw_lines text.now ≡ [])
+        (λ x. joined wrap number (raw_lines text.now)
+        ≡ record { number = number; text = line.new.items } ∷ joined wrap x.1 (raw_lines x.0.now))) }
+    ensures count { IfOk result (λ found. IfSome found
+        (λ x. x.1 + length (raw_lines x.0.now) ≡ number + length (raw_lines text.now))) }
     ensures shorter { IfOk result (λ found. IfSome found (λ x. length x.0.now < length text.now)) }
     ensures room { IfOk result (λ found. IfSome found (λ x. x.1 + length x.0.now ≤ number + length text.now)) }
 {

@@ -9,7 +9,7 @@ use std::marker::Brand;
 use std::sync::ledger::{Blank, Ledger};
 
 /// The room of each sink.
-const ROOM: usize = 4096;
+const ROOM: usize = 4194304;
 
 /// What a call leaves.
 #[derive(Drop)]
@@ -80,4 +80,32 @@ pub fn call(alloc: Global, line: &str, world: World) -> Result<Outcome, AllocErr
         out: out.bytes().to_vec(alloc)?,
         say: say.bytes().to_vec(alloc)?,
     })
+}
+
+// Puts the line of a letter at the end of a galley's text.
+fn push_line(galley: &mut Vec<u8>, letter: u8) -> Result<(), AllocError> {
+    match letter {
+        b'R' => galley.extend_from_slice(b"\\vbox(0.0+0.0)x345.0\n"),
+        b'B' => galley.extend_from_slice(b".\\hbox(7.0+2.0)x345.0\n"),
+        b'G' => galley.extend_from_slice(b".\\glue 3.0\n"),
+        b'C' => galley.extend_from_slice(b".\\special{pg:choice}\n"),
+        b'V' => galley.extend_from_slice(b".\\special{pg:variant 0 0}\n"),
+        b'E' => galley.extend_from_slice(b".\\special{pg:end}\n"),
+        b'I' => galley
+            .extend_from_slice(b".\\insert200, natural size 9.0; split(0.0,0.0); float cost 0\n"),
+        _ => {
+            galley.push(letter)?;
+            Ok(())
+        }
+    }
+}
+
+/// A galley's text, with the line that each of these letters stands for: R a root, B a box, G glue, C, V and E the
+/// markers of a choice, of a variant and of the choice's end, I an insert. All else stands for itself.
+pub fn galley(alloc: Global, short: &str) -> Result<Vec<u8>, AllocError> {
+    let mut text = Vec::new(alloc);
+    for letter in short.as_bytes() {
+        push_line(&mut text, *letter)?;
+    }
+    Ok(text)
 }

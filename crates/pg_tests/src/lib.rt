@@ -6,6 +6,10 @@
 #[cfg(test)]
 mod cases;
 #[cfg(test)]
+mod logs;
+#[cfg(test)]
+mod notation;
+#[cfg(test)]
 mod refusals;
 #[cfg(test)]
 mod rows;

@@ -4,7 +4,7 @@ use Rattle.std.specs.Io.KnownBytes.{Keeps}
 use Rattle.pg_outside.specs.Outside.{Held, Rose}
 use Rattle.pg_top.specs.declared.status.Status.{Status}
 use Rattle.pg_top.specs.declared.status.Status.TheVariants.{Done, NoLegal, Usage, Refused, ReadFault, WriteFault, Memory, NotProved}
-use Rattle.pg_top.specs.Words.{Command, run, command_of}
+use Rattle.pg_top.specs.Words.{Command, run, show, command_of}
 use Rattle.pg_top.specs.Lines.{usage_line, output_line, memory_line, Says}
 use Rattle.pg_top.specs.Course.{Course, Ended, EndedBefore, OnSettled, OnReadFault, OnWriteFault, OnMemory, ReadLine}
 
@@ -42,7 +42,8 @@ pub record WriteFailed (command : Option Command) (shelf : OverShelf) (out : Ove
 -- the texts that are written before memory runs out: none of a command that writes one text
 abbrev pub WroteWhole : Option Command → OverSink → Type 0
 WroteWhole None out = Keeps out.old out.new
-WroteWhole (Some (run style galley)) out = Keeps out.old out.new
+WroteWhole (Some (run style galley wrap)) out = Keeps out.old out.new
+WroteWhole (Some (show galley wrap)) out = Keeps out.old out.new
 
 -- the course ends with this status, where the bytes are told; memory may run out instead
 abbrev pub EndsAsCourse : Option Command → Option Held → Status → Type 0

@@ -7,24 +7,23 @@ ghost use Rattle.pg_outside.specs.Outside.{Rose};
 ghost use Rattle.pg_top.specs.Words.{run as run_command, style_name, IsStyle};
 ghost use Rattle.pg_top.specs.declared.status.Status.TheVariants.{Usage};
 ghost use Rattle.pg_top.specs.Lines.{status_of, line_of};
-ghost use Rattle.pg_top.specs.Course.{Ended, EndedBefore, OnSettled, OnReadFault, OnWriteFault, OnMemory, ReadLine, Shows, ShowsBefore};
+ghost use Rattle.pg_top.specs.Course.{EndsBy, BeginsBy, RunGalley, Ended, EndedBefore, OnSettled, OnReadFault, OnWriteFault, OnMemory, ReadLine, Shows, ShowsBefore};
 
+use crate::built::{are_built, first_strange_class};
 use crate::event::Event;
 use crate::first_path::{Found, show};
+use crate::open::open_galley;
 use crate::words::StyleWord;
 use pg_list::Galley;
-use pg_outside::{Fetch, Shelf, Sink};
-use pg_showbox::{ListKind, read_galley};
+use pg_outside::{Shelf, Sink};
 use pg_style::{Style, plain_style};
 use std::alloc::Global;
-
-/// The most bytes that a file may have.
-const FILE_LIMIT: u64 = 67108864;
 
 // The style of this word.
 fn style_of(alloc: Global, word: StyleWord) -> Style
     requires { IsStyle word }
-    ensures { result ≡ Rattle.pg_top.specs.Words.style_of (style_name word) }
+    ensures style { result ≡ Rattle.pg_top.specs.Words.style_of (style_name word) }
+    ensures plain { IsPlainStyle result }
 {
     match word {
         StyleWord::Plain(height) => plain_style(alloc, height),
@@ -43,6 +42,7 @@ fn write_shown<'a, O: Sink>(alloc: Global, galley: &Galley, style: &Style, out: 
         (ShowsBefore galley.now style.now (O.written out.old) (O.written out.new)) }
     ensures memory { OnMemory (status_of result) (Keeps (O.written out.old) (O.written out.new)) }
     ensures no_read { OnReadFault (status_of result) ⊥ }
+    ensures no_usage { status_of result ≢ Usage }
 {
     match show(alloc, galley, style) {
         Err(_) => Event::Memory,
@@ -56,42 +56,58 @@ fn write_shown<'a, O: Sink>(alloc: Global, galley: &Galley, style: &Style, out: 
     }
 }
 
+// Paginates a galley with a style, and writes the text in one piece.
+fn run_galley<'a, O: Sink>(
+    alloc: Global,
+    galley: &Galley,
+    style: &Style,
+    name: &'a str,
+    out: &mut O,
+) -> Event<'a>
+    requires { IsPlainStyle style.now }
+    ensures settled { OnSettled (status_of result) (EndsBy (RunGalley style.now name.now galley.now)
+        (O.written out.old) (O.written out.new) (status_of result) (line_of result)) }
+    ensures write { OnWriteFault (status_of result) (Rose (O.faults out.old) (O.faults out.new)) }
+    ensures front { OnWriteFault (status_of result) (BeginsBy (RunGalley style.now name.now galley.now)
+        (O.written out.old) (O.written out.new)) }
+    ensures memory { OnMemory (status_of result) (Keeps (O.written out.old) (O.written out.new)) }
+    ensures no_read { OnReadFault (status_of result) ⊥ }
+    ensures no_usage { status_of result ≢ Usage }
+{
+    let blocks = galley.blocks().as_slice();
+    if let Some(class) = first_strange_class(style, blocks) {
+        return Event::StrangeClass(class);
+    }
+    if !are_built(blocks) {
+        return Event::NotBuilt(name);
+    }
+    write_shown(alloc, galley, style, out)
+}
+
 /// Paginates the galley of this name, and writes the text in one piece.
 pub fn run<'a, H: Shelf, O: Sink>(
     alloc: Global,
     style: StyleWord,
     name: &'a str,
+    wrap: Option<u32>,
     shelf: &mut H,
     out: &mut O,
 ) -> Event<'a>
     requires { IsStyle style }
     ensures settled { OnSettled (status_of result) (IfSome (H.held shelf.old) (λ held.
-        Ended (Some (run_command (style_name style) name.now)) held
+        Ended (Some (run_command (style_name style) name.now wrap)) held
         (O.written out.old) (O.written out.new) (status_of result) (line_of result))) }
-    ensures read { OnReadFault (status_of result) (ReadLine (Some (run_command (style_name style) name.now))
+    ensures read { OnReadFault (status_of result) (ReadLine (Some (run_command (style_name style) name.now wrap))
         (H.held shelf.old) (H.faults shelf.old) (H.faults shelf.new) (H.last_failed shelf.new) (line_of result)) }
     ensures read_keeps { OnReadFault (status_of result) (Keeps (O.written out.old) (O.written out.new)) }
     ensures write { OnWriteFault (status_of result) (Rose (O.faults out.old) (O.faults out.new)) }
     ensures front { OnWriteFault (status_of result) (IfSome (H.held shelf.old) (λ held.
-        EndedBefore (Some (run_command (style_name style) name.now)) held (O.written out.old) (O.written out.new))) }
+        EndedBefore (Some (run_command (style_name style) name.now wrap)) held (O.written out.old) (O.written out.new))) }
     ensures memory { OnMemory (status_of result) (Keeps (O.written out.old) (O.written out.new)) }
     ensures no_usage { status_of result ≢ Usage }
 {
-    let mut bytes = Vec::new(alloc);
-    match shelf.fetch(alloc, name, FILE_LIMIT, &mut bytes) {
-        Err(Fetch::Memory) => return Event::Memory,
-        Err(Fetch::TooLong) => return Event::TooLong(name),
-        Err(Fetch::Failed | Fetch::Missing) => return Event::Unread(name),
-        Ok(()) => {}
+    match open_galley(alloc, name, wrap, shelf) {
+        Err(event) => event,
+        Ok(galley) => run_galley(alloc, &galley, &style_of(alloc, style), name, out),
     }
-    let galley = match read_galley(alloc, &bytes) {
-        Ok(galley) => galley,
-        Err(fault) => {
-            return match fault.kind {
-                ListKind::Memory => Event::Memory,
-                ListKind::NotBuilt => Event::NotBuilt(name),
-            };
-        }
-    };
-    write_shown(alloc, &galley, &style_of(alloc, style), out)
 }

@@ -19,8 +19,8 @@ parts-init c =
       room = let shorter = c.in-Some.ensures.shorter in omega arith;
     }
 
-pub returns-in_default-split_line-clause-none : goal.returns-in_default-split_line-clause-none
-returns-in_default-split_line-clause-none c =
+pub returns-in_default-split_line-clause-line : goal.returns-in_default-split_line-clause-line
+returns-in_default-split_line-clause-line c =
     c.parts.invariant.said
     ∙ ap (λ (full : Bool). with_rest full c.args.number c.parts.line.items
     (joined c.args.wrap c.parts.next (raw_lines c.parts.rest.now))) c.parts-test.true

@@ -8,14 +8,14 @@ use Rattle.pg_showbox.proofs.read.read_lines.Goals as goal
 
 pub returns-in-Ok-None-clause-run : goal.returns-in-Ok-None-clause-run
 returns-in-Ok-None-clause-run c =
-    let none = rw c.in-Ok-None.field-0-is at c.in-Ok-None.ensures.none in
+    let none = rw c.in-Ok-None.field-0-is at c.in-Ok-None.ensures.line in
     c.lines.invariant.said
     ∙ run_end c.args.is_file c.lines.draft (joined c.args.wrap c.lines.number (raw_lines c.lines.rest.now))
     (joined_none c.args.wrap c.lines.number (raw_lines c.lines.rest.now) none)
 
 pub returns-in-Err-read_line-clause-run : goal.returns-in-Err-read_line-clause-run
 returns-in-Err-read_line-clause-run c =
-    let more = rw c.in-Ok-Some.field-0-is at c.in-Ok-Some.ensures.none in
+    let more = rw c.in-Ok-Some.field-0-is at c.in-Ok-Some.ensures.line in
     let lines : joined c.args.wrap c.lines.number (raw_lines c.lines.rest.now) ≡ record {
       number = c.lines.number;
       text = c.deref.result.now;
@@ -33,7 +33,7 @@ returns-in-Err-read_line-clause-run c =
 
 pub lines-preserved : goal.lines-preserved
 lines-preserved c =
-    let more = rw c.in-Ok-Some.field-0-is at c.in-Ok-Some.ensures.none in
+    let more = rw c.in-Ok-Some.field-0-is at c.in-Ok-Some.ensures.line in
     let count = rw c.in-Ok-Some.field-0-is at c.in-Ok-Some.ensures.count in
     let room = rw c.in-Ok-Some.field-0-is at c.in-Ok-Some.ensures.room in
     let lines : joined c.args.wrap c.lines.number (raw_lines c.lines.rest.now) ≡ record {

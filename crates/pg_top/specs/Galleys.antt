@@ -1,0 +1,53 @@
+-- Which galleys a style takes, and which are built.
+use Rattle.std.specs.Prelude.{ℕ, Bool, true, false, ◌&&◌, List, [], ◌∷◌, Option, Some, None, is_some, pos, if◌then◌else◌}
+use Rattle.std.specs.Ordering.{int_eq}
+use Rattle.pg_list.specs.declared.item.Item.{Item}
+use Rattle.pg_list.specs.declared.item.Item.TheVariants.{BoxItem, Rule, Glue, Kern, Penalty, Insert, Carry}
+use Rattle.pg_list.specs.declared.variants.Variant.{Variant}
+use Rattle.pg_list.specs.declared.blocks.Block.{Block}
+use Rattle.pg_list.specs.declared.blocks.Block.TheVariants.{One, Choice}
+use Rattle.pg_style.specs.Values.{StyleValue}
+use Rattle.pg_style.specs.Classes.{class_in}
+
+-- the class of an insert, where the style does not have it
+abbrev pub strange_class : StyleValue → Item → Option ℕ
+strange_class style (Insert class size body) = if is_some (class_in style.classes class) then None else Some class
+strange_class style _ = None
+
+abbrev pub or_else : Option ℕ → Option ℕ → Option ℕ
+or_else None other = other
+or_else (Some class) other = Some class
+
+-- the first class of the items that the style does not have
+abbrev pub strange_items : StyleValue → List Item → Option ℕ
+strange_items style [] = None
+strange_items style (item ∷ items) = or_else (strange_class style item) (strange_items style items)
+
+abbrev pub strange_variants : StyleValue → List Variant → Option ℕ
+strange_variants style [] = None
+strange_variants style (variant ∷ variants) =
+    or_else (strange_items style variant.items) (strange_variants style variants)
+
+abbrev pub strange_block : StyleValue → Block → Option ℕ
+strange_block style (One item) = strange_class style item
+strange_block style (Choice variants) = strange_variants style variants
+
+-- the class of the first insert of a galley, in its order, that the style does not have
+abbrev pub strange_in : StyleValue → List Block → Option ℕ
+strange_in style [] = None
+strange_in style (block ∷ blocks) = or_else (strange_block style block) (strange_in style blocks)
+
+-- a box, or a glue that neither stretches nor shrinks
+abbrev pub is_built_item : Item → Bool
+is_built_item (BoxItem height depth body) = true
+is_built_item (Rule height depth body) = false
+is_built_item (Glue width stretch order shrink body) = int_eq stretch (pos 0) && int_eq shrink (pos 0)
+is_built_item (Kern width body) = false
+is_built_item (Penalty value body) = false
+is_built_item (Insert class size body) = false
+is_built_item (Carry body) = false
+
+-- galleys of other blocks are not paginated yet
+abbrev pub is_built_block : Block → Bool
+is_built_block (One item) = is_built_item item
+is_built_block (Choice variants) = false

@@ -1,0 +1,114 @@
+//! Which galleys a style takes, and which are built.
+ghost use Rattle.std.specs.Prelude.{◌≡◌};
+ghost use Rattle.std.specs.Bool.{OnTrue};
+ghost use Rattle.std.specs.List.{list_all};
+ghost use Rattle.pg_flat.specs.Rigid.{AreRigid};
+ghost use Rattle.pg_top.specs.Galleys.{strange_class as strange_class_of, strange_items as strange_items_of, strange_variants as strange_variants_of, strange_block as strange_block_of, strange_in, is_built_item as is_built_item_test, is_built_block as is_built_block_test};
+
+use pg_list::{Block, Item, Variant};
+use pg_style::Style;
+
+// The class of an insert, where the style does not have it.
+fn strange_class(style: &Style, item: &Item) -> Option<u8>
+    ensures { result ≡ strange_class_of style.now item.now }
+{
+    match item {
+        Item::Insert { class, .. } => {
+            if style.class_of(*class).is_some() {
+                None
+            } else {
+                Some(*class)
+            }
+        }
+        _ => None,
+    }
+}
+
+fn strange_items(style: &Style, items: &[Item]) -> Option<u8>
+    ensures { result ≡ strange_items_of style.now items.now }
+{
+    let mut rest = items;
+    'items: while let [item, after @ ..] = rest {
+        if let Some(class) = strange_class(style, item) {
+            return Some(class);
+        }
+        rest = after;
+    }
+    None
+}
+
+fn strange_variants(style: &Style, variants: &[Variant]) -> Option<u8>
+    ensures { result ≡ strange_variants_of style.now variants.now }
+{
+    let mut rest = variants;
+    'variants: while let [variant, after @ ..] = rest {
+        if let Some(class) = strange_items(style, variant.items.as_slice()) {
+            return Some(class);
+        }
+        rest = after;
+    }
+    None
+}
+
+fn strange_block(style: &Style, block: &Block) -> Option<u8>
+    ensures { result ≡ strange_block_of style.now block.now }
+{
+    match block {
+        Block::One(item) => strange_class(style, item),
+        Block::Choice(choice) => strange_variants(style, choice.variants()),
+    }
+}
+
+/// The class of the first insert of a galley, in its order, that the style does not have. None
+/// exactly where it has all.
+pub fn first_strange_class(style: &Style, blocks: &[Block]) -> Option<u8>
+    ensures { result ≡ strange_in style.now blocks.now }
+{
+    let mut rest = blocks;
+    'each: while let [block, after @ ..] = rest {
+        if let Some(class) = strange_block(style, block) {
+            return Some(class);
+        }
+        rest = after;
+    }
+    None
+}
+
+fn is_built_item(item: &Item) -> bool
+    ensures { result ≡ is_built_item_test item.now }
+{
+    match item {
+        Item::BoxItem { .. } => true,
+        Item::Glue {
+            stretch,
+            shrink,
+            ..
+        } => *stretch == 0 && *shrink == 0,
+        _ => false,
+    }
+}
+
+fn is_built_block(block: &Block) -> bool
+    ensures { result ≡ is_built_block_test block.now }
+{
+    match block {
+        Block::One(item) => is_built_item(item),
+        Block::Choice(_) => false,
+    }
+}
+
+/// Galleys of these blocks are paginated: each block is a box, or a glue that neither stretches nor
+/// shrinks.
+pub fn are_built(blocks: &[Block]) -> bool
+    ensures built { result ≡ list_all is_built_block_test blocks.now }
+    ensures rigid { OnTrue result (AreRigid blocks.now) }
+{
+    let built = all_built(blocks);
+    built
+}
+
+fn all_built(blocks: &[Block]) -> bool
+    ensures { result ≡ list_all is_built_block_test blocks.now }
+{
+    blocks.iter().all(|block| is_built_block(block))
+}
