@@ -1,6 +1,6 @@
 -- The ends at the offsets below a number, one offset after another.
-use Rattle.std.proofs.Common.{◌≡◌, ◌∙◌, refl, sym, ap, subst, arith, ℕ, zero, suc, ◌+◌, ◌-◌, ◌≤◌, ◌<◌, ◌⊎◌, List, [], ◌∷◌, ◌++◌, length, take, map, Bool, true, false, ℤ, pos, inl, inr, append-nil}
-use Rattle.std.specs.Prelude.{◌&&◌, ◌||◌, not, if◌then◌else◌, is_some, int_le, filter, Contains, AllPairs, nat_lt}
+use Rattle.std.proofs.Common.{◌≡◌, ◌∙◌, refl, sym, ap, subst, arith, ℕ, zero, suc, ◌+◌, ◌-◌, ◌<◌, List, [], ◌∷◌, ◌++◌, length, take, map, Bool, true, false, Option, Some, None, ℤ, inl, inr, append-nil}
+use Rattle.std.specs.Prelude.{◌&&◌, ◌||◌, not, if◌then◌else◌, is_some, int_le, filter, nat_le, Contains, AllPairs, nat_lt}
 use Rattle.std.specs.List.{list_any, list_all, range_with_len}
 use Rattle.std.specs.Cmp.{nat_cmp_is}
 use Rattle.std.specs.Ordering.{nat_cmp}
@@ -16,11 +16,10 @@ use Rattle.std.proofs.lemmas.List.Quantifiers.{all_pairs_push}
 use Rattle.pg_list.specs.declared.item.Item.{Item}
 use Rattle.pg_list.specs.Shapes.{is_box}
 use Rattle.pg_flat.specs.Break.{break_penalty, is_forced, passes_between}
-use Rattle.pg_plan.specs.Order.{place_cmp}
 use Rattle.pg_style.specs.Values.{StyleValue}
 use Rattle.pg_walk.specs.declared.end.End.{End}
 use Rattle.pg_walk.specs.Ends.{IsBefore}
-use Rattle.pg_walk.specs.Walk.{is_over_at, is_passable_at, is_end_at, is_tolerable_at, keeps_at, end_at, ends_below}
+use Rattle.pg_walk.specs.Walk.{badness_at, end_penalty, is_over_at, is_passable_at, is_end_at, is_tolerable_at, keeps_at, end_at, ends_below}
 
 range-more : (a n : ℕ) → range_with_len a (suc n) ≡ range_with_len a n ++ (a + n) ∷ []
 range-more a zero = let here : a ≡ a + 0 = omega arith in ap (λ (k : ℕ). k ∷ []) here
@@ -34,6 +33,12 @@ stop-fails true false c d e = refl
 stop-fails true true true d e = absurd cc
 stop-fails true true false d e = refl
 
+last-fails : (a b c d : Bool) → d ≡ false → (a && (b && (c && d))) ≡ false
+last-fails false b c d e = refl
+last-fails true false c d e = refl
+last-fails true true false d e = refl
+last-fails true true true d e = e
+
 no-box : (b x : Bool) → (not (b && false) || x) ≡ true
 no-box true x = refl
 no-box false x = refl
@@ -44,11 +49,49 @@ not-both b e f = absurd cc
 filter-one : {X : Type 0} (p : X → Bool) (x : X) (b : Bool) → p x ≡ b → filter p (x ∷ []) ≡ (if b then x ∷ [] else [])
 filter-one p x b e = rw e refl
 
+none-of : (b : Bool) (o : Option ℤ) → (if b then o else None) ≡ None → (b && is_some o) ≡ false
+none-of true None e = refl
+none-of true (Some p) e = absurd cc
+none-of false o e = refl
+
+some-of : (b : Bool) (o : Option ℤ) (p : ℤ) → (if b then o else None) ≡ Some p → (b ≡ true) × (o ≡ Some p)
+some-of true o p e = (refl, e)
+some-of false o p e = absurd cc
+
+first-fails : (a b : Bool) → a ≡ false → (a && b) ≡ false
+first-fails a b e = rw e refl
+
+passable-none : (b s x : Bool) → (b && s) ≡ false → (not (s && b) || x) ≡ true
+passable-none true true x e = absurd cc
+passable-none true false x e = refl
+passable-none false true x e = refl
+passable-none false false x e = refl
+
+over-fails : (e over tolerable rest : Bool) → over ≡ true → (e && ((not over && tolerable) && rest)) ≡ false
+over-fails true over tolerable rest is = rw is refl
+over-fails false over tolerable rest is = refl
+
+over-stops : (b s f over : Bool) → (b && s) ≡ true → over ≡ true → (not (s && b) || not (f || over)) ≡ false
+over-stops true true true over e is = refl
+over-stops true true false over e is = rw is refl
+over-stops true false f over e is = absurd cc
+over-stops false s f over e is = absurd cc
+
+under-keeps : (e over tolerable passes text : Bool) → e ≡ true → over ≡ false → passes ≡ true → text ≡ true →
+    (e && ((not over && tolerable) && (passes && text))) ≡ tolerable
+under-keeps e over true passes text a b c d = rw (a, b, c, d) refl
+under-keeps e over false passes text a b c d = rw (a, b) refl
+
+under-passable : (b s f over : Bool) → (b && s) ≡ true → over ≡ false → not f ≡ (not (s && b) || not (f || over))
+under-passable true true true over e is = refl
+under-passable true true false over e is = rw is refl
+under-passable true false f over e is = absurd cc
+under-passable false s f over e is = absurd cc
+
 cmp-less : (a b : ℕ) → a < b → nat_cmp a b ≡ Less
 cmp-less a b less = sym (nat_cmp_is a b Less less)
 
 module _ (style : StyleValue) (room : ℤ) (items : List Item) (block : ℕ) where
-
   -- ---- one offset more
 
   step : (n : ℕ) → ends_below style room items block (suc n) ≡
@@ -96,12 +139,12 @@ module _ (style : StyleValue) (room : ℤ) (items : List Item) (block : ℕ) whe
       let more : suc (suc m) - 1 ≡ suc m = omega arith in
       let next : 1 + m ≡ suc m = omega arith in
       let front : list_all (is_passable_at style room items) (range_with_len 1 m) ≡ true =
-          subst (λ (k : ℕ). list_all (is_passable_at style room items) (range_with_len 1 k) ≡ true) less before in
+      subst (λ (k : ℕ). list_all (is_passable_at style room items) (range_with_len 1 k) ≡ true) less before in
       let here' : is_passable_at style room items (1 + m) ≡ true =
-          subst (λ (k : ℕ). is_passable_at style room items k ≡ true) (sym next) here in
+      subst (λ (k : ℕ). is_passable_at style room items k ≡ true) (sym next) here in
       let all : list_all (is_passable_at style room items) (range_with_len 1 m ++ (1 + m) ∷ []) ≡ true =
-          list_all-append (is_passable_at style room items) (range_with_len 1 m) ((1 + m) ∷ [])
-          ∙ rw (front, here') refl in
+      list_all-append (is_passable_at style room items) (range_with_len 1 m) ((1 + m) ∷ [])
+      ∙ rw (front, here') refl in
       ap (λ (k : ℕ). list_all (is_passable_at style room items) (range_with_len 1 k)) more
       ∙ (ap (list_all (is_passable_at style room items)) (range-more 1 m) ∙ all)
 
@@ -115,8 +158,8 @@ module _ (style : StyleValue) (room : ℤ) (items : List Item) (block : ℕ) whe
       let count = length-range_with_len 1 (m - 1) in
       let at : get_or (range_with_len 1 (m - 1)) i 0 ≡ suc i = get_or-range_with_len 1 (m - 1) i 0 (omega (arith, less)) ∙ next in
       let fails : passes_between items (is_over_at style room items) m ≡ false =
-          list_all_at (is_passable_at style room items) (range_with_len 1 (m - 1)) i 0 (omega (arith, less, count))
-          (ap (is_passable_at style room items) at ∙ stop) in
+      list_all_at (is_passable_at style room items) (range_with_len 1 (m - 1)) i 0 (omega (arith, less, count))
+      (ap (is_passable_at style room items) at ∙ stop) in
       stop-fails (is_end_at items m) (is_tolerable_at style room items m) (passes_between items (is_over_at style room items) m)
       (int_le style.min_text room) fails
 
@@ -135,6 +178,61 @@ module _ (style : StyleValue) (room : ℤ) (items : List Item) (block : ℕ) whe
       let there : m ≡ (m - suc j) + suc j = omega (arith, less) in
       ap (ends_below style room items block) there ∙ stopped-by j (m - suc j) stop
 
+  -- ---- one offset
+
+  pub end-step : (n : ℕ) (b : Bool) → keeps_at style room items n ≡ b →
+      ends_below style room items block (suc n) ≡ ends_below style room items block n ++ (if b then end_at style room items block n ∷ [] else [])
+  end-step n true kept = one-more n kept
+  end-step n false broken = no-more n broken ∙ sym (append-nil (ends_below style room items block n))
+
+  -- no break behind a box
+  pub not-end : (n : ℕ) → end_penalty items n ≡ None →
+      (ends_below style room items block (suc n) ≡ ends_below style room items block n) × (is_passable_at style room items n ≡ true)
+  unfolding keeps_at
+  not-end n none =
+      let t = none-of (list_any is_box (take n items)) (break_penalty items n) none in
+      (no-more n (first-fails (is_end_at items n) _ t), passable-none (list_any is_box (take n items)) (is_some (break_penalty items n)) _ t)
+
+  pub end-some : (n : ℕ) (penalty : ℤ) → end_penalty items n ≡ Some penalty → break_penalty items n ≡ Some penalty
+  end-some n penalty some = (some-of (list_any is_box (take n items)) (break_penalty items n) penalty some).1
+
+  is-end : (n : ℕ) (penalty : ℤ) → end_penalty items n ≡ Some penalty → is_end_at items n ≡ true
+  is-end n penalty some =
+      let t = some-of (list_any is_box (take n items)) (break_penalty items n) penalty some in
+      rw (t.0, t.1) refl
+
+  -- a break behind a box at which the column is over
+  pub over-end : (n : ℕ) (penalty : ℤ) → end_penalty items n ≡ Some penalty → is_over_at style room items n ≡ true →
+      (ends_below style room items block (suc n) ≡ ends_below style room items block n) × (is_passable_at style room items n ≡ false)
+  unfolding keeps_at
+  over-end n penalty some over = (
+    no-more n (over-fails (is_end_at items n) (is_over_at style room items n) (is_forced items n || nat_le (badness_at style room items n) style.tolerance) (passes_between items (is_over_at style room items) n && int_le style.min_text room) over),
+    over-stops (list_any is_box (take n items)) (is_some (break_penalty items n)) (is_forced items n) (is_over_at style room items n) (is-end n penalty some) over,
+  )
+
+  -- one at which it is not
+  pub under-end : (n : ℕ) (penalty : ℤ) (forced : Bool) → end_penalty items n ≡ Some penalty → is_over_at style room items n ≡ false →
+      passes_between items (is_over_at style room items) n ≡ true → int_le style.min_text room ≡ true → forced ≡ is_forced items n →
+      (ends_below style room items block (suc n) ≡ ends_below style room items block n
+      ++ (if forced || nat_le (badness_at style room items n) style.tolerance then end_at style room items block n ∷ [] else []))
+      × (not forced ≡ is_passable_at style room items n)
+  unfolding keeps_at
+  under-end n penalty forced some under passes text is = (
+    end-step n (forced || nat_le (badness_at style room items n) style.tolerance)
+        (under-keeps (is_end_at items n) (is_over_at style room items n) (is_forced items n || nat_le (badness_at style room items n) style.tolerance)
+        (passes_between items (is_over_at style room items) n) (int_le style.min_text room) (is-end n penalty some) under passes text
+        ∙ ap (λ (b : Bool). b || nat_le (badness_at style room items n) style.tolerance) (sym is)),
+    ap not is ∙ under-passable (list_any is_box (take n items)) (is_some (break_penalty items n)) (is_forced items n) (is_over_at style room items n) (is-end n penalty some) under,
+  )
+
+  -- nothing in a room that text may not stand in
+  pub low-room : int_le style.min_text room ≡ false → (m : ℕ) → ends_below style room items block m ≡ []
+  unfolding keeps_at
+  low-room low zero = none-below
+  low-room low (suc m) =
+      no-more m (last-fails (is_end_at items m) (is_tolerable_at style room items m) (passes_between items (is_over_at style room items) m) (int_le style.min_text room) low)
+      ∙ low-room low m
+
   -- ---- what is listed
 
   pub record IsListed (m : ℕ) (end : End) : Type 0 where
@@ -149,7 +247,7 @@ module _ (style : StyleValue) (room : ℤ) (items : List Item) (block : ℕ) whe
   listed (suc m) end has = elim (cases_Bool (keeps_at style room items m)) [
     | inl kept ↦
         let t = Contains-push_cases (ends_below style room items block m) (end_at style room items block m) end
-            (subst (λ (them : List End). Contains them end) (one-more m kept) has) in
+        (subst (λ (them : List End). Contains them end) (one-more m kept) has) in
         elim t [
           | inl before ↦ longer (listed m end before)
           | inr here ↦ record { n = m; below = omega arith; kept = kept; is = sym here }

@@ -1,7 +1,7 @@
 -- What the rules see of any column of text in a galley of single items, under a plain style.
-use Rattle.std.proofs.Common.{◌≡◌, ◌∙◌, refl, sym, ap, subst, arith, ℕ, zero, suc, ◌+◌, ◌-◌, ◌≤◌, ◌<◌, List, [], ◌∷◌, length, drop, take, map, Bool, true, false, Option, Some, None, ℤ, pos, ◌+ℤ◌, ◌-ℤ◌, inl, inr}
+use Rattle.std.proofs.Common.{◌≡◌, ◌∙◌, refl, sym, ap, arith, ℕ, zero, suc, ◌+◌, ◌-◌, ◌≤◌, ◌<◌, List, [], ◌∷◌, length, drop, take, map, Bool, true, false, Option, Some, None, ℤ, pos, ◌+ℤ◌, ◌-ℤ◌, inl, inr}
 use Rattle.std.specs.Prelude.{◌==◌, ◌&&◌, ◌||◌, not, nat_le, if◌then◌else◌, is_some, int_le}
-use Rattle.std.specs.List.{count_by, list_any, list_all, position, range_with_len}
+use Rattle.std.specs.List.{list_any, list_all, position, range_with_len}
 use Rattle.std.specs.Option.{option_map_or}
 use Rattle.std.proofs.Math.ListN.{get_or}
 use Rattle.std.proofs.lemmas.Bool.{cases_Bool}
@@ -13,22 +13,19 @@ use Rattle.pg_list.specs.declared.item.Item.{Item}
 use Rattle.pg_list.specs.declared.blocks.Block.{Block}
 use Rattle.pg_list.specs.declared.blocks.Block.TheVariants.{One, Choice}
 use Rattle.pg_list.specs.declared.galley.Place.{Place}
-use Rattle.pg_list.specs.declared.variants.Variant.{Variant}
 use Rattle.pg_list.specs.Places.{place}
 use Rattle.pg_list.specs.Shapes.{is_box}
 use Rattle.pg_flat.specs.Badness.{is_over, page_badness}
 use Rattle.pg_flat.specs.Break.{break_penalty, is_forced, is_spent, passes_between}
-use Rattle.pg_flat.specs.Totals.{trimmed, shrink, total}
+use Rattle.pg_flat.specs.Totals.{shrink}
 use Rattle.pg_flat.specs.Whole.{square}
 use Rattle.pg_flat.specs.Flat.{FlatItem, flat_items_at, flat_items_from, fronts, is_same_place, picked_variants, blocks_at, end_of}
-use Rattle.pg_style.specs.Values.{StyleValue}
-use Rattle.pg_style.specs.declared.style.Class.{Class}
 use Rattle.pg_rules.specs.Room.{ColumnContext, flat_items_of, items_of, size_of, is_text, room, notes, are_notes_within_limits}
 use Rattle.pg_rules.specs.ColumnRules.{column_variants, text_goal, text_total, text_is_over, text_badness, text_fitness, segment, does_fit, is_well_formed, is_tolerable, passes_breaks, has_room, fitness_by, keeps_note_limits, keeps_looseness}
 use Rattle.pg_rules.specs.Cost.{penalty_demerits, text_demerits, pick_demerits}
 use Rattle.pg_rules.specs.BestPicks.{keeps_text}
 use Rattle.pg_plain.specs.Plain.{AreSingle, single_items, IsPlainStyle}
-use Rattle.pg_plain.proofs.Singles.{items-are, flat-length, items-length, drop-single, drop-items, position-is}
+use Rattle.pg_plain.proofs.Singles.{items-are, flat-length, drop-single, drop-items, position-is}
 use Rattle.pg_places.proofs.Among.{both_of}
 use Rattle.pg_places.proofs.Tests.{if_true, same_place}
 use Rattle.pg_walk.specs.Walk.{total_at, is_over_at, badness_at, fit_at, demerits_at, keeps_at, is_end_at, is_tolerable_at}
@@ -107,7 +104,6 @@ passes-alike items f g alike n =
 
 module _ (it : ColumnContext) (block : ℕ) (single : AreSingle it.document.blocks)
     (plain : IsPlainStyle it.document.style) (starts : it.column.from ≡ place block 0 0) where
-
   flats : flat_items_of it ≡ flat_items_from block (drop block it.document.blocks) it.column.picks
   flats = ap (λ (at : Place). flat_items_at it.document.blocks at it.column.picks) starts
 
@@ -138,7 +134,7 @@ module _ (it : ColumnContext) (block : ℕ) (single : AreSingle it.document.bloc
   size-to n to within =
       let rest = length-drop block it.document.blocks in
       let is-end : is_same_place it.column.to (end_of it.document.blocks) ≡ ((block + n) == length it.document.blocks) =
-          rw to (and-true ((block + n) == length it.document.blocks && true) ∙ and-true ((block + n) == length it.document.blocks)) in
+      rw to (and-true ((block + n) == length it.document.blocks && true) ∙ and-true ((block + n) == length it.document.blocks)) in
       elim (cases_Bool ((block + n) == length it.document.blocks)) [
         | inl last ↦ let same : block + n ≡ length it.document.blocks = grind (arith, nat_tests) in
             rw (is-end ∙ last) (ap Some (flat-count ∙ omega (arith, same)))
@@ -162,18 +158,18 @@ module _ (it : ColumnContext) (block : ℕ) (single : AreSingle it.document.bloc
         let single' = drop-single block it.document.blocks single in
         let test : FlatItem → Bool = λ x. is_same_place x.place it.column.to in
         let e : position test (flat_items_from block (drop block it.document.blocks) it.column.picks) ≡ Some n =
-            ap (λ (them : List FlatItem). position test them) (sym flats) ∙ (sym (rw inside refl) ∙ size) in
+        ap (λ (them : List FlatItem). position test them) (sym flats) ∙ (sym (rw inside refl) ∙ size) in
         let t = found test (flat_items_from block (drop block it.document.blocks) it.column.picks) n e in
         let count = flat-length block (drop block it.document.blocks) it.column.picks single' in
-        let less : n < length (drop block it.document.blocks) = omega (arith, t.1.0, count) in
-        (sym (same_place _ it.column.to t.1.1) ∙ place-of block (drop block it.document.blocks) it.column.picks n t.0 single' less,
-            omega (arith, less, rest))
+        let less : n < length (drop block it.document.blocks) = omega (arith, t.1.0, count) in (
+          sym (same_place _ it.column.to t.1.1) ∙ place-of block (drop block it.document.blocks) it.column.picks n t.0 single' less,
+          omega (arith, less, rest),
+        )
   ]
 
   -- ---- the rules on a column of n items that has no picks
 
   module _ (n : ℕ) (height : ℤ) (size : size_of it ≡ Some n) (text : is_text it ≡ true) (height-is : room it ≡ height) where
-
     no-notes : (xs : List Item) → notes it.document.style xs ≡ pos 0
     no-notes xs = rw plain.no_classes refl
 

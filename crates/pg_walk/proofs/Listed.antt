@@ -1,22 +1,21 @@
 -- The ends at all offsets are the ends of the columns of text.
-use Rattle.std.proofs.Common.{◌≡◌, ◌∙◌, refl, sym, ap, subst, arith, ℕ, zero, suc, ◌+◌, ◌-◌, ◌≤◌, ◌<◌, ◌⊎◌, List, [], ◌∷◌, length, drop, take, Bool, true, false, Option, Some, None, ℤ, pos, inl, inr}
-use Rattle.std.specs.Prelude.{◌==◌, ◌&&◌, if◌then◌else◌, is_some, int_le, unwrap_or, option_map, slice_get, Contains, ◌<ℤ◌}
+use Rattle.std.proofs.Common.{◌≡◌, ◌∙◌, refl, sym, ap, subst, arith, ℕ, zero, suc, ◌+◌, ◌-◌, ◌≤◌, ◌<◌, List, [], ◌∷◌, length, drop, take, Bool, true, Option, Some, None, ℤ, pos, inl, inr}
+use Rattle.std.specs.Prelude.{◌==◌, if◌then◌else◌, is_some, unwrap_or, option_map, slice_get, Contains}
 use Rattle.std.specs.List.{list_any}
 use Rattle.std.specs.Ordering.{is_gt}
 use Rattle.std.specs.Option.{option_map_or}
 use Rattle.std.proofs.lemmas.Bool.{cases_Bool}
 use Rattle.std.proofs.lemmas.Bool.Decides.{nat_tests}
-use Rattle.std.proofs.lemmas.List.{length-drop}
 use Rattle.pg_list.specs.declared.item.Item.{Item}
 use Rattle.pg_list.specs.declared.blocks.Block.{Block}
 use Rattle.pg_list.specs.declared.blocks.Block.TheVariants.{One, Choice}
 use Rattle.pg_list.specs.declared.galley.Place.{Place}
-use Rattle.pg_list.specs.Places.{place, picked_items, items_around}
+use Rattle.pg_list.specs.Places.{place, picked_items}
 use Rattle.pg_list.specs.Shapes.{is_box}
-use Rattle.pg_flat.specs.Break.{break_penalty, passes_between}
-use Rattle.pg_flat.specs.Flat.{is_same_place, end_of}
+use Rattle.pg_flat.specs.Break.{break_penalty}
+use Rattle.pg_flat.specs.Flat.{end_of}
 use Rattle.pg_plan.specs.Order.{picks_cmp}
-use Rattle.pg_rules.specs.Room.{ColumnContext, Document, size_of, is_text, room, items_of}
+use Rattle.pg_rules.specs.Room.{ColumnContext, Document, size_of, is_text, room}
 use Rattle.pg_rules.specs.BestPicks.{IsLeast, keeps_text, text_cost, with_picks}
 use Rattle.pg_rules.specs.History.{column_fitness}
 use Rattle.pg_rules.specs.ColumnRules.{text_fitness}
@@ -25,8 +24,8 @@ use Rattle.pg_plain.specs.Plain.{AreSingle, single_items, IsPlainStyle}
 use Rattle.pg_places.proofs.Among.{both_of}
 use Rattle.pg_places.proofs.Tests.{same_place}
 use Rattle.pg_walk.specs.declared.end.End.{End}
-use Rattle.pg_walk.specs.Ends.{AreEnds, AreNumbers, HasEnd, IsColumnIn, IsEndOf}
-use Rattle.pg_walk.specs.Walk.{cost_at, end_at, ends_below, is_end_at, is_over_at, is_tolerable_at, keeps_at}
+use Rattle.pg_walk.specs.Ends.{AreEnds, HasEnd, IsColumnIn, IsEndOf}
+use Rattle.pg_walk.specs.Walk.{cost_at, end_at, ends_below, is_end_at, keeps_at}
 use Rattle.pg_walk.proofs.Below.{IsListed, contained, listed, ordered}
 use Rattle.pg_walk.proofs.Columns.{badness-is, demerits-are, end-of-size, fit-is, goal, items, keeps, no-pick-demerits, size-of-kept, size-to, total-is}
 
@@ -76,7 +75,6 @@ fitness-of it n size = ap (λ (o : Option ℕ). option_map_or (text_fitness it) 
 module _ (it : ColumnContext) (block : ℕ) (single : AreSingle it.document.blocks)
     (plain : IsPlainStyle it.document.style) (starts : it.column.from ≡ place block 0 0)
     (text : is_text it ≡ true) (height : ℤ) (height-is : room it ≡ height) where
-
   -- no other picks fit
   least : it.column.picks ≡ [] → IsLeast it
   least none = record {
@@ -124,7 +122,7 @@ module _ (it : ColumnContext) (block : ℕ) (single : AreSingle it.document.bloc
       let xs = drop block (single_items it.document.blocks) in
       let e = end-of-size it block single plain starts onward n t.1.0 in
       let kept' : keeps_at it.document.style height xs n ≡ true =
-          sym (keeps it block single plain starts n height t.1.0 text height-is t.1.1) ∙ kept in
+      sym (keeps it block single plain starts n height t.1.0 text height-is t.1.1) ∙ kept in
       record {
         end = end_at it.document.style height xs block n;
         listed = contained it.document.style height xs block (suc (length it.document.blocks - block)) n (omega (arith, e.1)) kept';
@@ -140,7 +138,6 @@ all_ends doc from height = ends_below doc.style height (drop from.block (single_
 
 module _ (doc : Document) (single : AreSingle doc.blocks) (plain : IsPlainStyle doc.style) (from : Place)
     (is-place : IsPlace doc.blocks from) (height : ℤ) where
-
   front : (from ≡ place from.block 0 0) × (from.block ≤ length doc.blocks)
   front = front-of doc.blocks from single is-place
 
@@ -150,12 +147,12 @@ module _ (doc : Document) (single : AreSingle doc.blocks) (plain : IsPlainStyle 
       let single' : AreSingle it.document.blocks = subst (λ (d : Document). AreSingle d.blocks) (sym is.document) single in
       let plain' : IsPlainStyle it.document.style = subst (λ (d : Document). IsPlainStyle d.style) (sym is.document) plain in
       let has' : Contains (all_ends it.document from height) end =
-          subst (λ (d : Document). Contains (all_ends d from height) end) (sym is.document) has in
+      subst (λ (d : Document). Contains (all_ends d from height) end) (sym is.document) has in
       let within : from.block ≤ length it.document.blocks =
-          subst (λ (d : Document). from.block ≤ length d.blocks) (sym is.document) front.1 in
+      subst (λ (d : Document). from.block ≤ length d.blocks) (sym is.document) front.1 in
       let xs = drop from.block (single_items it.document.blocks) in
       let t : IsListed it.document.style height xs from.block (suc (length it.document.blocks - from.block)) end =
-          listed it.document.style height xs from.block (suc (length it.document.blocks - from.block)) end has' in
+      listed it.document.style height xs from.block (suc (length it.document.blocks - from.block)) end has' in
       subst (λ (e : End). IsEndOf it e) (sym t.is)
       (end-is it from.block single' plain' (is.starts ∙ front.0) is.text height is.height_is t.n
       (to ∙ ap (λ (e : End). e.to) t.is) (picks ∙ ap (λ (e : End). e.picks) t.is) (omega (arith, t.below, within)) t.kept)
@@ -165,7 +162,7 @@ module _ (doc : Document) (single : AreSingle doc.blocks) (plain : IsPlainStyle 
       let single' : AreSingle it.document.blocks = subst (λ (d : Document). AreSingle d.blocks) (sym is.document) single in
       let plain' : IsPlainStyle it.document.style = subst (λ (d : Document). IsPlainStyle d.style) (sym is.document) plain in
       let within : from.block ≤ length it.document.blocks =
-          subst (λ (d : Document). from.block ≤ length d.blocks) (sym is.document) front.1 in
+      subst (λ (d : Document). from.block ≤ length d.blocks) (sym is.document) front.1 in
       subst (λ (d : Document). HasEnd (all_ends d from height) it) is.document
       (has-end it from.block single' plain' (is.starts ∙ front.0) is.text height is.height_is within kept)
 

@@ -1,8 +1,10 @@
 -- At which of the items behind a place a column of text may end, in a room, and with which numbers.
-use Rattle.std.specs.Prelude.{ℕ, ◌+◌, Bool, ◌==◌, ◌&&◌, ◌||◌, not, nat_le, if◌then◌else◌, List, [], take, filter, map, is_some, unwrap_or, ℤ, pos, ◌+ℤ◌, int_le}
+use Rattle.std.specs.Prelude.{ℕ, ◌+◌, Bool, ◌==◌, ◌&&◌, ◌||◌, not, nat_le, if◌then◌else◌, List, [], take, drop, filter, map, Option, Some, None, is_some, unwrap_or, ℤ, pos, ◌+ℤ◌, int_le}
 use Rattle.std.specs.List.{list_any, range_with_len}
 use Rattle.std.specs.Option.{option_map_or}
 use Rattle.pg_list.specs.declared.item.Item.{Item}
+use Rattle.pg_list.specs.declared.blocks.Block.{Block}
+use Rattle.pg_list.specs.declared.blocks.Block.TheVariants.{One, Choice}
 use Rattle.pg_list.specs.Places.{place}
 use Rattle.pg_list.specs.Shapes.{is_box}
 use Rattle.pg_flat.specs.Badness.{is_over, page_badness}
@@ -10,10 +12,19 @@ use Rattle.pg_flat.specs.Break.{break_penalty, is_forced, is_spent, passes_betwe
 use Rattle.pg_flat.specs.Totals.{shrink, total, trimmed}
 use Rattle.pg_flat.specs.Whole.{square}
 use Rattle.pg_style.specs.Values.{StyleValue}
+use Rattle.pg_plain.specs.Plain.{single_items}
 use Rattle.pg_rules.specs.ColumnRules.{fitness_by}
 use Rattle.pg_rules.specs.Cost.{penalty_demerits}
 use Rattle.pg_walk.specs.declared.end.End.{End}
 use Rattle.pg_walk.specs.declared.end.TextCost.{TextCost}
+
+abbrev pub item_in : Block → Option Item
+item_in (One item) = Some item
+item_in (Choice variants) = None
+
+-- the items from a block on
+abbrev pub items_from : List Block → ℕ → List Item
+items_from blocks from = drop from (single_items blocks)
 
 -- the natural size of the first n items as a column
 abbrev pub total_at : StyleValue → List Item → ℕ → ℤ
@@ -28,6 +39,10 @@ badness_at style room items n = page_badness (is_spent items n) room (total_at s
 -- a break behind a box
 abbrev pub is_end_at : List Item → ℕ → Bool
 is_end_at items n = list_any is_box (take n items) && is_some (break_penalty items n)
+
+-- the penalty at an end
+abbrev pub end_penalty : List Item → ℕ → Option ℤ
+end_penalty items n = if list_any is_box (take n items) then break_penalty items n else None
 
 -- a longer column may pass this offset
 abbrev pub is_passable_at : StyleValue → ℤ → List Item → ℕ → Bool
