@@ -4,6 +4,10 @@
 //! rules on one column, with its numbers and its best picks, in order, and nothing else (`specs/Ends`).
 #![tactic(auto)]
 
+mod breaks;
+mod cost;
 mod end;
+mod walk;
 
 pub use end::{End, EndList, TextCost};
+pub use walk::ends;

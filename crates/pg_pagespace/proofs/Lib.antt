@@ -1,0 +1,6 @@
+mod Members
+mod PlainStates
+mod Moves
+mod Spent
+mod RunsBack
+mod OneColumn

@@ -1,0 +1,5 @@
+pub mod Columns
+pub mod Below
+pub mod Listed
+pub mod Items
+pub mod Step
