@@ -1,16 +1,21 @@
--- A galley that is built has boxes and rigid glue alone.
-use Rattle.std.proofs.Common.{◌≡◌, refl, List, [], ◌∷◌, true, false, Bool}
-use Rattle.std.specs.Prelude.{◌&&◌, pos}
+-- A galley that is built has boxes and rigid glue alone, and a style that is built is plain.
+use Rattle.std.proofs.Common.{◌≡◌, refl, List, [], ◌∷◌, true, false, Bool, ℕ, ◌<◌, length, arith}
+use Rattle.std.specs.Prelude.{◌&&◌, ◌==◌, pos}
 use Rattle.std.specs.Bool.{OnTrue}
 use Rattle.std.specs.List.{list_all}
 use Rattle.std.specs.Ordering.{int_eq}
-use Rattle.std.proofs.lemmas.Bool.Decides.{Decides-int_eq}
+use Rattle.std.proofs.lemmas.Bool.Decides.{Decides-int_eq, nat_tests}
 use Rattle.pg_list.specs.declared.item.Item.{Item}
 use Rattle.pg_list.specs.declared.item.Item.TheVariants.{BoxItem, Rule, Glue, Kern, Penalty, Insert, Carry}
 use Rattle.pg_list.specs.declared.blocks.Block.{Block}
 use Rattle.pg_list.specs.declared.blocks.Block.TheVariants.{One, Choice}
 use Rattle.pg_flat.specs.Rigid.{IsRigid, IsRigidBlock, AreRigid}
+use Rattle.pg_plain.specs.Plain.{IsPlainStyle}
+use Rattle.pg_style.specs.Values.{StyleValue}
+use Rattle.pg_style.specs.declared.style.First.{First}
+use Rattle.pg_style.specs.declared.style.First.TheVariants.{Left, Right, Single}
 use Rattle.pg_top.specs.Galleys.{is_built_item, is_built_block}
+use Rattle.pg_top.specs.Styles.{is_single, is_built_style}
 
 both : (a b : Bool) → (a && b) ≡ true → (a ≡ true) × (b ≡ true)
 both true b e = (refl, e)
@@ -40,3 +45,29 @@ are_rigid (block ∷ blocks) e =
 pub on_true : {P : Type 0} → (b : Bool) → (b ≡ true → P) → OnTrue b P
 on_true true h = h refl
 on_true false h = tt
+
+single_side : (first : First) → is_single first ≡ true → first ≡ Single
+single_side Left e = absurd (cc)
+single_side Right e = absurd (cc)
+single_side Single e = refl
+
+empty_list : {X : Type 0} (xs : List X) → (length xs == 0) ≡ true → xs ≡ []
+empty_list [] e = refl
+empty_list (x ∷ xs) e = let long : 0 < length (x ∷ xs) = omega arith in
+    let none : length (x ∷ xs) ≡ 0 = grind (arith, nat_tests) in absurd (omega (arith, long, none))
+
+same_number : (a b : ℕ) → (a == b) ≡ true → a ≡ b
+same_number a b e = grind (arith, nat_tests)
+
+pub plain_built : (style : StyleValue) → is_built_style style ≡ true → IsPlainStyle style
+plain_built style e =
+    let a = both (style.columns == 1) _ e in
+    let b = both (is_single style.first) _ a.1 in
+    let d = both (length style.runs == 1) _ b.1 in
+    let f = both (length style.classes == 0) _ d.1 in
+    record {
+      one_column = same_number style.columns 1 a.0;
+      single_sides = single_side style.first b.0;
+      one_run = same_number (length style.runs) 1 d.0;
+      no_classes = empty_list style.classes f.0;
+    }

@@ -1,12 +1,14 @@
-//! Which galleys a style takes, and which are built.
+//! Which galleys a style takes, and which galleys and styles are built.
 ghost use Rattle.std.specs.Prelude.{◌≡◌};
 ghost use Rattle.std.specs.Bool.{OnTrue};
 ghost use Rattle.std.specs.List.{list_all};
 ghost use Rattle.pg_flat.specs.Rigid.{AreRigid};
+ghost use Rattle.pg_plain.specs.Plain.{IsPlainStyle};
+ghost use Rattle.pg_top.specs.Styles.{is_single as is_single_test, is_built_style as is_built_style_test};
 ghost use Rattle.pg_top.specs.Galleys.{strange_class as strange_class_of, strange_items as strange_items_of, strange_variants as strange_variants_of, strange_block as strange_block_of, strange_in, is_built_item as is_built_item_test, is_built_block as is_built_block_test};
 
 use pg_list::{Block, Item, Variant};
-use pg_style::Style;
+use pg_style::{First, Style};
 
 // The class of an insert, where the style does not have it.
 fn strange_class(style: &Style, item: &Item) -> Option<u8>
@@ -111,4 +113,29 @@ fn all_built(blocks: &[Block]) -> bool
     ensures { result ≡ list_all is_built_block_test blocks.now }
 {
     blocks.iter().all(|block| is_built_block(block))
+}
+
+fn is_single(first: First) -> bool
+    ensures { result ≡ is_single_test first }
+{
+    matches!(first, First::Single)
+}
+
+fn passes_style_test(style: &Style) -> bool
+    ensures { result ≡ is_built_style_test style.now }
+{
+    style.columns == 1
+        && (is_single(style.first)
+            && (style.runs.as_slice().len() == 1
+                && (style.classes.as_slice().len() == 0 && style.fitness == 0)))
+}
+
+/// Galleys are paginated with this style: it has one column, single sides, one run, no classes and
+/// no price of fitness.
+pub fn is_built_style(style: &Style) -> bool
+    ensures built { result ≡ is_built_style_test style.now }
+    ensures plain { OnTrue result (IsPlainStyle style.now) }
+{
+    let built = passes_style_test(style);
+    built
 }

@@ -7,28 +7,17 @@ ghost use Rattle.pg_outside.specs.Outside.{Rose};
 ghost use Rattle.pg_top.specs.Words.{run as run_command, style_name, IsStyle};
 ghost use Rattle.pg_top.specs.declared.status.Status.TheVariants.{Usage};
 ghost use Rattle.pg_top.specs.Lines.{status_of, line_of};
-ghost use Rattle.pg_top.specs.Course.{EndsBy, BeginsBy, RunGalley, Ended, EndedBefore, OnSettled, OnReadFault, OnWriteFault, OnMemory, ReadLine, Shows, ShowsBefore};
+ghost use Rattle.pg_top.specs.Course.{EndsBy, BeginsBy, RunGalley, RunCourse, UnreadFile, opened, Ended, EndedBefore, OnSettled, OnReadFault, OnWriteFault, OnMemory, ReadLine, Shows, ShowsBefore};
 
 use crate::built::{are_built, first_strange_class};
 use crate::event::Event;
 use crate::first_path::{Found, show};
-use crate::open::open_galley;
+use crate::open::{open_galley, open_style};
 use crate::words::StyleWord;
 use pg_list::Galley;
 use pg_outside::{Shelf, Sink};
-use pg_style::{Style, plain_style};
+use pg_style::Style;
 use std::alloc::Global;
-
-// The style of this word.
-fn style_of(alloc: Global, word: StyleWord) -> Style
-    requires { IsStyle word }
-    ensures style { result ≡ Rattle.pg_top.specs.Words.style_of (style_name word) }
-    ensures plain { IsPlainStyle result }
-{
-    match word {
-        StyleWord::Plain(height) => plain_style(alloc, height),
-    }
-}
 
 // Writes the text for a galley, and answers how that ends the run.
 fn write_shown<'a, O: Sink>(alloc: Global, galley: &Galley, style: &Style, out: &mut O) -> Event<'a>
@@ -84,30 +73,60 @@ fn run_galley<'a, O: Sink>(
     write_shown(alloc, galley, style, out)
 }
 
-/// Paginates the galley of this name, and writes the text in one piece.
-pub fn run<'a, H: Shelf, O: Sink>(
+// Paginates the galley of this name with a style, and writes the text in one piece.
+fn run_file<'a, H: Shelf, O: Sink>(
     alloc: Global,
-    style: StyleWord,
+    style: &Style,
     name: &'a str,
     wrap: Option<u32>,
     shelf: &mut H,
     out: &mut O,
 ) -> Event<'a>
-    requires { IsStyle style }
+    requires { IsPlainStyle style.now }
     ensures settled { OnSettled (status_of result) (IfSome (H.held shelf.old) (λ held.
-        Ended (Some (run_command (style_name style) name.now wrap)) held
+        EndsBy (RunCourse style.now name.now (opened name.now wrap (held name.now)))
         (O.written out.old) (O.written out.new) (status_of result) (line_of result))) }
-    ensures read { OnReadFault (status_of result) (ReadLine (Some (run_command (style_name style) name.now wrap))
+    ensures read { OnReadFault (status_of result) (UnreadFile name.now
         (H.held shelf.old) (H.faults shelf.old) (H.faults shelf.new) (H.last_failed shelf.new) (line_of result)) }
     ensures read_keeps { OnReadFault (status_of result) (Keeps (O.written out.old) (O.written out.new)) }
     ensures write { OnWriteFault (status_of result) (Rose (O.faults out.old) (O.faults out.new)) }
     ensures front { OnWriteFault (status_of result) (IfSome (H.held shelf.old) (λ held.
-        EndedBefore (Some (run_command (style_name style) name.now wrap)) held (O.written out.old) (O.written out.new))) }
+        BeginsBy (RunCourse style.now name.now (opened name.now wrap (held name.now)))
+        (O.written out.old) (O.written out.new))) }
     ensures memory { OnMemory (status_of result) (Keeps (O.written out.old) (O.written out.new)) }
     ensures no_usage { status_of result ≢ Usage }
 {
     match open_galley(alloc, name, wrap, shelf) {
         Err(event) => event,
-        Ok(galley) => run_galley(alloc, &galley, &style_of(alloc, style), name, out),
+        Ok(galley) => run_galley(alloc, &galley, style, name, out),
+    }
+}
+
+/// Paginates the galley of this name with the style of this word, which is read first, and writes the text in one
+/// piece.
+pub fn run<'a, H: Shelf, O: Sink>(
+    alloc: Global,
+    style: StyleWord<'a>,
+    name: &'a str,
+    wrap: Option<u32>,
+    shelf: &mut H,
+    out: &mut O,
+) -> Event<'a>
+    requires { IsStyle style.entry }
+    ensures settled { OnSettled (status_of result) (IfSome (H.held shelf.old) (λ held.
+        Ended (Some (run_command (style_name style.entry) name.now wrap)) held
+        (O.written out.old) (O.written out.new) (status_of result) (line_of result))) }
+    ensures read { OnReadFault (status_of result) (ReadLine (Some (run_command (style_name style.entry) name.now wrap))
+        (H.held shelf.old) (H.faults shelf.old) (H.faults shelf.new) (H.last_failed shelf.new) (line_of result)) }
+    ensures read_keeps { OnReadFault (status_of result) (Keeps (O.written out.old) (O.written out.new)) }
+    ensures write { OnWriteFault (status_of result) (Rose (O.faults out.old) (O.faults out.new)) }
+    ensures front { OnWriteFault (status_of result) (IfSome (H.held shelf.old) (λ held.
+        EndedBefore (Some (run_command (style_name style.entry) name.now wrap)) held (O.written out.old) (O.written out.new))) }
+    ensures memory { OnMemory (status_of result) (Keeps (O.written out.old) (O.written out.new)) }
+    ensures no_usage { status_of result ≢ Usage }
+{
+    match open_style(alloc, style, shelf) {
+        Err(event) => event,
+        Ok(style) => run_file(alloc, &style, name, wrap, shelf, out),
     }
 }

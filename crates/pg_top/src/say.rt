@@ -56,18 +56,30 @@ fn write_counted<E: Sink>(say: &mut E, number: Option<u32>, text: &str) -> Resul
     }
 }
 
-// Writes two texts, each behind its number, if it has one.
+// Writes a key, and a text behind its number, if it has one.
+#[tactic(auto, using(crate::proofs::Fronts::appends_both, crate::proofs::Fronts::front_of_more, crate::proofs::Fronts::front_after))]
+fn write_key<E: Sink>(say: &mut E, key: &[u8], number: Option<u32>, text: &str) -> Result<(), WriteFailed>
+    ensures all { OnOk result (Appends (E.written say.old) (E.written say.new) (key.now ++ counted number text.now)) }
+    ensures front { OnErr result (AppendsFront (E.written say.old) (E.written say.new) (key.now ++ counted number text.now)) }
+    ensures cause { OnErr result (Rose (E.faults say.old) (E.faults say.new)) }
+    ensures later { E.faults say.old ≤ E.faults say.new }
+{
+    say.write(key)?;
+    write_counted(say, number, text)
+}
+
+// Writes two texts, each behind its number, if it has one, and a key between them.
 #[tactic(auto, using(crate::proofs::Fronts::appends_both, crate::proofs::Fronts::front_of_more, crate::proofs::Fronts::front_after))]
 fn write_numbers<E: Sink>(say: &mut E, parts: &Parts<'_>) -> Result<(), WriteFailed>
     ensures all { OnOk result (Appends (E.written say.old) (E.written say.new)
-        (counted parts.now.first parts.now.between.now ++ counted parts.now.second parts.now.end.now)) }
+        (counted parts.now.first parts.now.between.now ++ (parts.now.key.now ++ counted parts.now.second parts.now.end.now))) }
     ensures front { OnErr result (AppendsFront (E.written say.old) (E.written say.new)
-        (counted parts.now.first parts.now.between.now ++ counted parts.now.second parts.now.end.now)) }
+        (counted parts.now.first parts.now.between.now ++ (parts.now.key.now ++ counted parts.now.second parts.now.end.now))) }
     ensures cause { OnErr result (Rose (E.faults say.old) (E.faults say.new)) }
     ensures later { E.faults say.old ≤ E.faults say.new }
 {
     write_counted(say, parts.first, parts.between)?;
-    write_counted(say, parts.second, parts.end)
+    write_key(say, parts.key, parts.second, parts.end)
 }
 
 // Writes the parts of a line in turn, until one fails.
@@ -82,9 +94,9 @@ fn write_line<E: Sink>(say: &mut E, parts: &Parts<'_>) -> Result<(), WriteFailed
 }
 
 /// Writes the event's line, in parts and without memory. A fault ends the writing.
-pub fn say_line<E: Sink>(event: Event<'_>, say: &mut E)
+pub fn say_line<E: Sink>(event: &Event<'_>, say: &mut E)
     ensures line { Says (E.written say.old) (E.written say.new) (E.faults say.old) (E.faults say.new)
-        (line_of event.entry) }
+        (line_of event.now) }
     ensures later { E.faults say.old ≤ E.faults say.new }
 {
     let parts = event.parts();

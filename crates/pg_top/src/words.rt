@@ -1,5 +1,5 @@
 //! The words of a command.
-ghost use Rattle.std.specs.Prelude.{◌≡◌, IfSome, IsTrue, map};
+ghost use Rattle.std.specs.Prelude.{◌≡◌, IfSome, IsTrue, map, ◌∷◌, []};
 ghost use Rattle.std.specs.Option.{option_map};
 ghost use Rattle.std.specs.String.{string_bytes};
 ghost use Rattle.pg_top.specs.Words.{command_in, command_of, texts_of, height_of, wrap_of, is_name, is_option as is_option_word, with_option as one_more, no_options, options_in, run_named, show_named, IsHeight, HasHeight};
@@ -8,8 +8,10 @@ use pg_lines::whole_word;
 use pg_scaled::{Front, read_scaled};
 
 /// Which style a run takes.
-#[derive(Clone, Copy, Debug, PartialEq, Eq)]
-pub enum StyleWord {
+#[derive(Clone, Copy)]
+pub enum StyleWord<'a> {
+    /// The style of the file of this name.
+    Named(&'a str),
     /// The plain style of this page height in scaled points, above 0 and below 2^30.
     Plain(i32),
 }
@@ -20,7 +22,7 @@ pub enum StyleWord {
 pub enum Job<'a> {
     /// To paginate a galley.
     Run {
-        style: StyleWord,
+        style: StyleWord<'a>,
         galley: &'a str,
         wrap: Option<u32>,
     },
@@ -125,10 +127,19 @@ fn run_job<'a>(options: &Options, names: &'a [String]) -> Option<Job<'a>>
     ensures job { option_map command_in result ≡ run_named options.now (map string_bytes names.now) }
     ensures in_range { IfSome result HasHeight }
 {
-    let [galley] = names else {
-        return None;
-    };
-    let galley = galley.as_str();
+    match names {
+        [galley] => plain_job(options, galley.as_str()),
+        [style, galley] => styled_job(options, style.as_str(), galley.as_str()),
+        _ => None,
+    }
+}
+
+// A run with the plain style.
+fn plain_job<'a>(options: &Options, galley: &'a str) -> Option<Job<'a>>
+    requires { IfSome options.now.height IsHeight }
+    ensures job { option_map command_in result ≡ run_named options.now (galley.now ∷ []) }
+    ensures in_range { IfSome result HasHeight }
+{
     if !is_file_name(galley) {
         return None;
     }
@@ -138,6 +149,22 @@ fn run_job<'a>(options: &Options, names: &'a [String]) -> Option<Job<'a>>
         galley,
         wrap: options.wrap,
     })
+}
+
+// A run with the style of a file.
+fn styled_job<'a>(options: &Options, style: &'a str, galley: &'a str) -> Option<Job<'a>>
+    ensures job { option_map command_in result ≡ run_named options.now (style.now ∷ galley.now ∷ []) }
+    ensures in_range { IfSome result HasHeight }
+{
+    if is_file_name(style) && (is_file_name(galley) && !options.height.is_some()) {
+        Some(Job::Run {
+            style: StyleWord::Named(style),
+            galley,
+            wrap: options.wrap,
+        })
+    } else {
+        None
+    }
 }
 
 // A show with these options and names.
@@ -160,8 +187,8 @@ fn show_job<'a>(options: &Options, names: &'a [String]) -> Option<Job<'a>>
 
 /// What the words after the program's name ask for, or None where they are no command.
 ///
-/// A command is `run --height H [--wrap N] GALLEY` or `show [--wrap N] GALLEY`. Options stand between the command
-/// and the name, in any order, each at most once and with its value as the next word. H is wholly a scaled number
+/// A command is `run [--wrap N] STYLE GALLEY`, `run --height H [--wrap N] GALLEY` or `show [--wrap N] GALLEY`.
+/// Options stand between the command and the names, in any order, each at most once and with its value as the next word. H is wholly a scaled number
 /// above 0 and below 16384, N is 1 to 65535 in 1 to 10 digits, and a name is not empty and does not begin with a
 /// minus. No memory is taken.
 pub fn command(words: &Vec<String>) -> Option<Job<'_>>

@@ -13,7 +13,7 @@ returns-in_err-write_parts-clause-front g c =
     let name = c.args.parts.now.name.now in
     let after = c.args.parts.now.after.now in
     let rest = counted c.args.parts.now.first c.args.parts.now.between.now
-    ++ counted c.args.parts.now.second c.args.parts.now.end.now in
+    ++ (c.args.parts.now.key.now ++ counted c.args.parts.now.second c.args.parts.now.end.now) in
     on_err c.from_residual.result (subst (AppendsFront old new) (three_and_more before name after rest)
     (front_of_more old new (before ++ (name ++ after)) rest c.in_err-write_parts.ensures.front))
 
@@ -26,7 +26,7 @@ returns-clause-front g c =
     let name = c.args.parts.now.name.now in
     let after = c.args.parts.now.after.now in
     let rest = counted c.args.parts.now.first c.args.parts.now.between.now
-    ++ counted c.args.parts.now.second c.args.parts.now.end.now in
+    ++ (c.args.parts.now.key.now ++ counted c.args.parts.now.second c.args.parts.now.end.now) in
     on_err_weaker c.write_numbers.result
     (λ (front : AppendsFront mid new rest). subst (AppendsFront old new) (three_and_more before name after rest)
     (front_after old mid new (before ++ (name ++ after)) rest c.in_ok-write_parts.ensures.all front))

@@ -1,12 +1,10 @@
-use Rattle.pg_top.specs.Words.{style_name, style_of}
 use Rattle.pg_top.specs.Lines.{status_of}
 use Rattle.pg_top.proofs.Runs.{file_begins}
-use Rattle.pg_top.proofs.run.run.Goals as goal
+use Rattle.pg_top.proofs.run.run_file.Goals as goal
 
 pub returns-in-Ok-clause-front : goal.returns-in-Ok-clause-front
 returns-in-Ok-clause-front g c =
-    file_begins (g.H.Shelf.held c.args.shelf.now) c.style_of.result
-    (style_of (style_name c.args.style)) c.args.name.now
+    file_begins (g.H.Shelf.held c.args.shelf.now) c.args.style.now c.args.name.now
     c.args.wrap c.in-Ok.galley (g.O.Sink.written c.args.out.now) (g.O.Sink.written c.run_galley-in-Ok.new.out)
-    (status_of c.run_galley-in-Ok.result) c.in-Ok.ensures.galley c.style_of.ensures.style
+    (status_of c.run_galley-in-Ok.result) c.in-Ok.ensures.galley
     c.run_galley-in-Ok.ensures.front
