@@ -5,8 +5,11 @@ use pg_top::Status;
 use std::test::Fail;
 
 // A line of exactly 79 bytes, and one in two parts of which the first has 79 bytes.
-const FULL: &str = ".\\special{12345678901234567890123456789012345678901234567890123456789012345678}\n";
-const WRAPPED: &str = ".\\special{12345678901234567890123456789012345678901234567890123456789012345678\n9}\n";
+const FULL: &str =
+    ".\\special{12345678901234567890123456789012345678901234567890123456789012345678}\n";
+
+const WRAPPED: &str =
+    ".\\special{12345678901234567890123456789012345678901234567890123456789012345678\n9}\n";
 
 #[test]
 fn texts_that_are_no_galley(rt: HostRuntime) -> Result<(), Fail> {
@@ -60,7 +63,11 @@ fn texts_that_are_no_galley(rt: HostRuntime) -> Result<(), Fail> {
         ("R.\\glue 0.0 minus 20000.0fil", 2, 5),
         ("R.\\rule(*+0.0)x5.0", 2, 8),
         ("R.\\rule(1.0+*)x5.0", 2, 8),
-        ("R.\\insert200, natural size -1.0; split(0.0,0.0); float cost 0", 2, 9),
+        (
+            "R.\\insert200, natural size -1.0; split(0.0,0.0); float cost 0",
+            2,
+            9,
+        ),
         // a choice that is no choice
         ("RE", 2, 10),
         ("RC", 3, 10),
@@ -106,7 +113,11 @@ fn galleys_that_print_as_they_are(rt: HostRuntime) -> Result<(), Fail> {
         "R.\\mark{\u{e9}\u{20ac}}\n",
     ] {
         let bytes = galley(alloc, text)?;
-        let end = call(alloc, "show g", World::of(alloc, bytes.as_slice().to_vec(alloc)?)?)?;
+        let end = call(
+            alloc,
+            "show g",
+            World::of(alloc, bytes.as_slice().to_vec(alloc)?)?,
+        )?;
         assert_eq!(rt; end.out.as_slice(), bytes.as_slice(), "of {text}");
         assert_eq!(rt; end.status, Status::Done, "of {text}");
         assert_eq!(rt; end.say.as_slice(), b"".as_slice(), "of {text}");
@@ -120,21 +131,37 @@ fn galleys_that_print_otherwise(rt: HostRuntime) -> Result<(), Fail> {
     for (words, text, printed) in [
         // carriage returns, a last line without its line feed, what stands round a listing
         ("show g", "log\r\nR.\\penalty 5\r\r\n", "R.\\penalty 5\n"),
-        ("show g", "\\vbox(0.0+0.0)x345.0\r\n.\\mark{a}\r", "R.\\mark{a}\n"),
+        (
+            "show g",
+            "\\vbox(0.0+0.0)x345.0\r\n.\\mark{a}\r",
+            "R.\\mark{a}\n",
+        ),
         ("show g", "RB\nnot read\n", "RB"),
         // several listings, of which the first has the width
         ("show g", "RB\n\\vbox(99999.0+-5.0)x1.0, shifted\nG", "RBG"),
         ("show g", "R\\vbox(0.0+0.0)x1.0\nB", "RB"),
-        ("show g", "\\vbox(20000.0+0.0)x99.0", "\\vbox(0.0+0.0)x99.0\n"),
+        (
+            "show g",
+            "\\vbox(20000.0+0.0)x99.0",
+            "\\vbox(0.0+0.0)x99.0\n",
+        ),
         // numbers of a marker are printed anew
-        ("show g", "RC.\\special{pg:variant -0 007}\nBE", "RC.\\special{pg:variant 0 7}\nBE"),
+        (
+            "show g",
+            "RC.\\special{pg:variant -0 007}\nBE",
+            "RC.\\special{pg:variant 0 7}\nBE",
+        ),
         // wrapped lines
         (
             "show --wrap 20 g",
             "\\vbox(0.0+0.0)x99.0\n.\\hbox(7.0+2.0)x345.\n0\n",
             "\\vbox(0.0+0.0)x99.0\nB",
         ),
-        ("show --wrap 9 g", "\\vbox(0.0\r\n+0.0)x345\n.0\n.\\penalty\n 5\r\r\n", "R.\\penalty 5\n"),
+        (
+            "show --wrap 9 g",
+            "\\vbox(0.0\r\n+0.0)x345\n.0\n.\\penalty\n 5\r\r\n",
+            "R.\\penalty 5\n",
+        ),
     ] {
         let end = call(alloc, words, World::of(alloc, galley(alloc, text)?)?)?;
         let want = galley(alloc, printed)?;
@@ -145,12 +172,7 @@ fn galleys_that_print_otherwise(rt: HostRuntime) -> Result<(), Fail> {
 }
 
 // What is shown of a root, this line and a box.
-fn shown_behind(
-    rt: &HostRuntime,
-    words: &str,
-    line: &str,
-    printed: &str,
-) -> Result<(), Fail> {
+fn shown_behind(rt: &HostRuntime, words: &str, line: &str, printed: &str) -> Result<(), Fail> {
     let alloc = rt.alloc();
     let mut text = galley(alloc, "R")?;
     text.extend_from_slice(line.as_bytes())?;

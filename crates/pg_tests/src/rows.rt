@@ -48,6 +48,52 @@ fn ten_lines_fill_two_pages(rt: HostRuntime) -> Result<(), Fail> {
     Ok(())
 }
 
+// A page of one column with its numbers, and the lines of its text behind the first glue, of 0 points.
+fn page(
+    alloc: Global,
+    head: &[u8],
+    places: &[u8],
+    numbers: &[u8],
+    lines: &[u8],
+) -> Result<Vec<u8>, AllocError> {
+    let mut page = b"page ".to_vec(alloc)?;
+    page.extend_from_slice(head)?;
+    page.extend_from_slice(b" side S run 0 wide -\ncolumn 1 from ")?;
+    page.extend_from_slice(places)?;
+    page.extend_from_slice(b" top - bottom - picks -\nset goal 30.0 total ")?;
+    page.extend_from_slice(numbers)?;
+    page.extend_from_slice(b"\narea text\n.\\glue(\\topskip) 0.0\n")?;
+    page.extend_from_slice(lines)?;
+    Ok(page)
+}
+
+// Lines of 12, 12, 18 and 20 points on pages of 30. A page that is not full costs 10010 squared, a full one and the last
+// 100. Two lines on the first page leave neither it nor the second full; one leaves the second full.
+#[test]
+fn a_page_looks_ahead(rt: HostRuntime) -> Result<(), Fail> {
+    let alloc = rt.alloc();
+    let mut galley = b"\\vbox(0.0+0.0)x345.0\n.\\hbox(12.0+0.0)x345.0\n.\\glue 0.0\n".to_vec(
+        alloc,
+    )?;
+    galley.extend_from_slice(b".\\hbox(12.0+0.0)x345.0\n.\\glue 0.0\n")?;
+    galley.extend_from_slice(b".\\hbox(18.0+0.0)x345.0\n.\\glue 0.0\n")?;
+    galley.extend_from_slice(b".\\hbox(20.0+0.0)x345.0\n")?;
+    let end = call(alloc, "run --height 30.0 g", World::of(alloc, galley)?)?;
+    let mut want = b"pages 3 cost 100200300 width 345.0\n".to_vec(alloc)?;
+    let under = b"12.0 badness 10000 penalty 0 demerits 100200100";
+    let full = b"30.0 badness 0 penalty 0 demerits 100";
+    let last = b"20.0 badness 0 penalty 0 demerits 100";
+    let one = b".\\hbox(12.0+0.0)x345.0\n";
+    let two = b".\\hbox(12.0+0.0)x345.0\n.\\glue 0.0, set 0.0\n.\\hbox(18.0+0.0)x345.0\n";
+    let three = b".\\hbox(20.0+0.0)x345.0\n";
+    want.extend_from_slice(&page(alloc, b"1", b"0 0 0 to 1 0 0", under, one)?)?;
+    want.extend_from_slice(&page(alloc, b"2", b"1 0 0 to 5 0 0", full, two)?)?;
+    want.extend_from_slice(&page(alloc, b"3", b"5 0 0 to 7 0 0", last, three)?)?;
+    assert_eq!(rt; end.status, Status::Done);
+    assert_eq!(rt; end.out.as_slice(), want.as_slice());
+    Ok(())
+}
+
 #[test]
 fn a_root_alone_has_no_pages(rt: HostRuntime) -> Result<(), Fail> {
     let alloc = rt.alloc();

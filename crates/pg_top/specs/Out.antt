@@ -1,33 +1,32 @@
 -- What is written for a galley.
-use Rattle.std.specs.Prelude.{◌≡◌, ◌<◌, ℕ, List, ℤ}
+use Rattle.std.specs.Prelude.{◌≡◌, ℕ, List}
 use Rattle.pg_list.specs.GalleyValue.{GalleyValue}
 use Rattle.pg_plan.specs.declared.pages.Pagination.{Pagination}
 use Rattle.pg_style.specs.Values.{StyleValue}
-use Rattle.pg_list.specs.Places.{tail}
-use Rattle.pg_rules.specs.Legal.{document}
+use Rattle.pg_rules.specs.Best.{Best}
+use Rattle.pg_rules.specs.Cost.{cost}
+use Rattle.pg_rules.specs.Legal.{Legal}
 use Rattle.pg_pages.specs.PageText.{page_text, none_text}
-use Rattle.pg_pages.specs.PlainText.{ArePlainPages}
-use Rattle.pg_top.specs.declared.first_path.Found.{Found}
-use Rattle.pg_top.specs.declared.first_path.Found.TheVariants as found
+use Rattle.pg_top.specs.declared.shown.Found.{Found}
+use Rattle.pg_top.specs.declared.shown.Found.TheVariants as found
 use Rattle.pg_top.specs.declared.status.Status.{Status}
 use Rattle.pg_top.specs.declared.status.Status.TheVariants.{Done, NoLegal}
 
--- the page text of pages that were found, each one column of text that is not over, with a cost
-pub record IsPageText (galley : GalleyValue) (style : StyleValue) (text : List ℕ) : Type 0 where
+-- the page text of the best pagination, with its cost
+pub record IsBestText (galley : GalleyValue) (style : StyleValue) (text : List ℕ) : Type 0 where
   pub plan : Pagination
-  pub cost : ℤ
-  pub pages : ArePlainPages (document galley style) plan.pages
-  pub written : text ≡ page_text galley style plan cost
+  pub best : Best galley style plan
+  pub written : text ≡ page_text galley style plan (cost galley style plan)
 
--- the line for none, for a galley that holds a box
-pub record IsNoneText (galley : GalleyValue) (text : List ℕ) : Type 0 where
-  pub holds_box : 0 < tail galley.blocks
+-- the line for none, where no pagination is legal
+pub record IsNoneText (galley : GalleyValue) (style : StyleValue) (text : List ℕ) : Type 0 where
+  pub none : (plan : Pagination) → Legal galley style plan → ⊥
   pub written : text ≡ none_text
 
--- what is written for a galley and how that ends: the text of its pages, or the line for none
+-- what is written for a galley and how that ends: the text of its best pagination, or the line for none
 abbrev pub Out : GalleyValue → StyleValue → List ℕ → Status → Type 0
-Out galley style text Done = IsPageText galley style text
-Out galley style text NoLegal = IsNoneText galley text
+Out galley style text Done = IsBestText galley style text
+Out galley style text NoLegal = IsNoneText galley style text
 Out galley style text end = ⊥
 
 abbrev pub end_of : Found → Status

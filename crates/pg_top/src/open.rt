@@ -128,7 +128,7 @@ pub fn open_style<'a, H: Shelf>(
     word: StyleWord<'a>,
     shelf: &mut H,
 ) -> Result<Style, Event<'a>>
-    requires { IsStyle word.entry }
+    requires { IsStyle word }
     ensures style { IfOk result (λ style. IfSome (H.held shelf.old) (λ held.
         opened_style (style_name word.entry) held ≡ Ok style)) }
     ensures plain { IfOk result (λ style. IsPlainStyle style) }

@@ -11,16 +11,24 @@ ghost use Rattle.pg_top.specs.Course.{EndsBy, BeginsBy, RunGalley, RunCourse, Un
 
 use crate::built::{are_built, first_strange_class};
 use crate::event::Event;
-use crate::first_path::{Found, show};
 use crate::open::{open_galley, open_style};
+use crate::shown::{Found, show};
 use crate::words::StyleWord;
 use pg_list::Galley;
 use pg_outside::{Shelf, Sink};
+use pg_steps::Steps;
 use pg_style::Style;
 use std::alloc::Global;
+use std::sync::ledger::Ledger;
 
 // Writes the text for a galley, and answers how that ends the run.
-fn write_shown<'a, O: Sink>(alloc: Global, galley: &Galley, style: &Style, out: &mut O) -> Event<'a>
+fn write_shown<'a, O: Sink, L: Ledger>(
+    alloc: Global,
+    galley: &Galley,
+    style: &Style,
+    out: &mut O,
+    steps: &mut Steps<L>,
+) -> Event<'a>
     requires rigid { AreRigid galley.now.blocks }
     requires plain { IsPlainStyle style.now }
     ensures settled { OnSettled (status_of result)
@@ -33,7 +41,7 @@ fn write_shown<'a, O: Sink>(alloc: Global, galley: &Galley, style: &Style, out: 
     ensures no_read { OnReadFault (status_of result) ⊥ }
     ensures no_usage { status_of result ≢ Usage }
 {
-    match show(alloc, galley, style) {
+    match show(alloc, galley, style, steps) {
         Err(_) => Event::Memory,
         Ok(shown) => match out.write(&shown.text) {
             Err(_) => Event::WriteFault,
@@ -46,12 +54,13 @@ fn write_shown<'a, O: Sink>(alloc: Global, galley: &Galley, style: &Style, out: 
 }
 
 // Paginates a galley with a style, and writes the text in one piece.
-fn run_galley<'a, O: Sink>(
+fn run_galley<'a, O: Sink, L: Ledger>(
     alloc: Global,
     galley: &Galley,
     style: &Style,
     name: &'a str,
     out: &mut O,
+    steps: &mut Steps<L>,
 ) -> Event<'a>
     requires { IsPlainStyle style.now }
     ensures settled { OnSettled (status_of result) (EndsBy (RunGalley style.now name.now galley.now)
@@ -70,17 +79,18 @@ fn run_galley<'a, O: Sink>(
     if !are_built(blocks) {
         return Event::NotBuilt(name);
     }
-    write_shown(alloc, galley, style, out)
+    write_shown(alloc, galley, style, out, steps)
 }
 
 // Paginates the galley of this name with a style, and writes the text in one piece.
-fn run_file<'a, H: Shelf, O: Sink>(
+fn run_file<'a, H: Shelf, O: Sink, L: Ledger>(
     alloc: Global,
     style: &Style,
     name: &'a str,
     wrap: Option<u32>,
     shelf: &mut H,
     out: &mut O,
+    steps: &mut Steps<L>,
 ) -> Event<'a>
     requires { IsPlainStyle style.now }
     ensures settled { OnSettled (status_of result) (IfSome (H.held shelf.old) (λ held.
@@ -98,21 +108,22 @@ fn run_file<'a, H: Shelf, O: Sink>(
 {
     match open_galley(alloc, name, wrap, shelf) {
         Err(event) => event,
-        Ok(galley) => run_galley(alloc, &galley, style, name, out),
+        Ok(galley) => run_galley(alloc, &galley, style, name, out, steps),
     }
 }
 
 /// Paginates the galley of this name with the style of this word, which is read first, and writes the text in one
 /// piece.
-pub fn run<'a, H: Shelf, O: Sink>(
+pub fn run<'a, H: Shelf, O: Sink, L: Ledger>(
     alloc: Global,
     style: StyleWord<'a>,
     name: &'a str,
     wrap: Option<u32>,
     shelf: &mut H,
     out: &mut O,
+    steps: &mut Steps<L>,
 ) -> Event<'a>
-    requires { IsStyle style.entry }
+    requires { IsStyle style }
     ensures settled { OnSettled (status_of result) (IfSome (H.held shelf.old) (λ held.
         Ended (Some (run_command (style_name style.entry) name.now wrap)) held
         (O.written out.old) (O.written out.new) (status_of result) (line_of result))) }
@@ -127,6 +138,6 @@ pub fn run<'a, H: Shelf, O: Sink>(
 {
     match open_style(alloc, style, shelf) {
         Err(event) => event,
-        Ok(style) => run_file(alloc, &style, name, wrap, shelf, out),
+        Ok(style) => run_file(alloc, &style, name, wrap, shelf, out, steps),
     }
 }

@@ -58,7 +58,12 @@ fn write_counted<E: Sink>(say: &mut E, number: Option<u32>, text: &str) -> Resul
 
 // Writes a key, and a text behind its number, if it has one.
 #[tactic(auto, using(crate::proofs::Fronts::appends_both, crate::proofs::Fronts::front_of_more, crate::proofs::Fronts::front_after))]
-fn write_key<E: Sink>(say: &mut E, key: &[u8], number: Option<u32>, text: &str) -> Result<(), WriteFailed>
+fn write_key<E: Sink>(
+    say: &mut E,
+    key: &[u8],
+    number: Option<u32>,
+    text: &str,
+) -> Result<(), WriteFailed>
     ensures all { OnOk result (Appends (E.written say.old) (E.written say.new) (key.now ++ counted number text.now)) }
     ensures front { OnErr result (AppendsFront (E.written say.old) (E.written say.new) (key.now ++ counted number text.now)) }
     ensures cause { OnErr result (Rose (E.faults say.old) (E.faults say.new)) }

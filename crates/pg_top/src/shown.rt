@@ -4,11 +4,14 @@ ghost use Rattle.pg_flat.specs.Rigid.{AreRigid};
 ghost use Rattle.pg_plain.specs.Plain.{IsPlainStyle};
 ghost use Rattle.pg_top.specs.Out.{Out, end_of};
 
+use pg_legal::legal_pages_are_plain;
 use pg_list::Galley;
 use pg_pages::{print_none, print_pages};
-use pg_search::paginate;
+use pg_pagespace::{Outcome, solve};
+use pg_steps::Steps;
 use pg_style::Style;
 use std::alloc::{AllocError, Global};
+use std::sync::ledger::Ledger;
 
 /// Whether a galley has a legal pagination.
 #[derive(Clone, Copy, Debug, PartialEq, Eq)]
@@ -24,19 +27,25 @@ pub struct Shown {
     pub found: Found,
 }
 
-/// The text for a galley: of the pages that the search finds, or the line for none.
-pub fn show(alloc: Global, galley: &Galley, style: &Style) -> Result<Shown, AllocError>
+/// The text for a galley: of its best pagination, or the line for none where none is legal.
+pub fn show<L: Ledger>(
+    alloc: Global,
+    galley: &Galley,
+    style: &Style,
+    steps: &mut Steps<L>,
+) -> Result<Shown, AllocError>
     requires rigid { AreRigid galley.now.blocks }
     requires plain { IsPlainStyle style.now }
     ensures { IfOk result (λ shown. Out galley.now style.now shown.text.items (end_of shown.found)) }
 {
+    legal_pages_are_plain(galley, style);
     let mut text = Vec::new(alloc);
-    let found = match paginate(alloc, galley, style)? {
-        Some(it) => {
-            print_pages(galley, style, &it.plan, it.cost, &mut text)?;
+    let found = match solve(alloc, galley, style, steps)? {
+        Outcome::Best(plan, cost) => {
+            print_pages(galley, style, &plan, cost, &mut text)?;
             Found::Pages
         }
-        None => {
+        Outcome::NoLegal => {
             print_none(&mut text)?;
             Found::NoLegal
         }
