@@ -91,8 +91,9 @@ fn push_line(galley: &mut Vec<u8>, letter: u8) -> Result<(), AllocError> {
         b'C' => galley.extend_from_slice(b".\\special{pg:choice}\n"),
         b'V' => galley.extend_from_slice(b".\\special{pg:variant 0 0}\n"),
         b'E' => galley.extend_from_slice(b".\\special{pg:end}\n"),
-        b'I' => galley
-            .extend_from_slice(b".\\insert200, natural size 9.0; split(0.0,0.0); float cost 0\n"),
+        b'I' => galley.extend_from_slice(
+            b".\\insert200, natural size 9.0; split(0.0,0.0); float cost 0\n",
+        ),
         _ => {
             galley.push(letter)?;
             Ok(())

@@ -4,9 +4,9 @@ use crate::cases::{World, call, galley};
 use pg_top::Status;
 use std::test::Fail;
 
-// A line of exactly 79 bytes, and one in two parts of which the first has 79 bytes.
-const FULL: &str = ".\\special{12345678901234567890123456789012345678901234567890123456789012345678}\n";
-const WRAPPED: &str = ".\\special{12345678901234567890123456789012345678901234567890123456789012345678\n9}\n";
+// A line of exactly 79 bytes.
+const FULL: &str =
+    ".\\special{12345678901234567890123456789012345678901234567890123456789012345678}\n";
 
 #[test]
 fn texts_that_are_no_galley(rt: HostRuntime) -> Result<(), Fail> {
@@ -60,7 +60,11 @@ fn texts_that_are_no_galley(rt: HostRuntime) -> Result<(), Fail> {
         ("R.\\glue 0.0 minus 20000.0fil", 2, 5),
         ("R.\\rule(*+0.0)x5.0", 2, 8),
         ("R.\\rule(1.0+*)x5.0", 2, 8),
-        ("R.\\insert200, natural size -1.0; split(0.0,0.0); float cost 0", 2, 9),
+        (
+            "R.\\insert200, natural size -1.0; split(0.0,0.0); float cost 0",
+            2,
+            9,
+        ),
         // a choice that is no choice
         ("RE", 2, 10),
         ("RC", 3, 10),
@@ -76,8 +80,8 @@ fn texts_that_are_no_galley(rt: HostRuntime) -> Result<(), Fail> {
         ("RC.\\special{pg:variant 0 0 }", 3, 10),
         ("R.\\special{pg:other}", 2, 10),
         // inserts that differ: one is wanting, or the bodies differ
-        ("RCVBVBIE", 7, 11),
-        ("RCVBIVB.\\insert200, natural size 9.0\nE", 8, 11),
+        ("RCVBVBIE", 8, 11),
+        ("RCVBIVB.\\insert200, natural size 9.0\nE", 9, 11),
         // a sixth variant
         ("RCVBVBVBVBVBVBE", 13, 12),
     ] {
@@ -106,7 +110,11 @@ fn galleys_that_print_as_they_are(rt: HostRuntime) -> Result<(), Fail> {
         "R.\\mark{\u{e9}\u{20ac}}\n",
     ] {
         let bytes = galley(alloc, text)?;
-        let end = call(alloc, "show g", World::of(alloc, bytes.as_slice().to_vec(alloc)?)?)?;
+        let end = call(
+            alloc,
+            "show g",
+            World::of(alloc, bytes.as_slice().to_vec(alloc)?)?,
+        )?;
         assert_eq!(rt; end.out.as_slice(), bytes.as_slice(), "of {text}");
         assert_eq!(rt; end.status, Status::Done, "of {text}");
         assert_eq!(rt; end.say.as_slice(), b"".as_slice(), "of {text}");
@@ -120,21 +128,37 @@ fn galleys_that_print_otherwise(rt: HostRuntime) -> Result<(), Fail> {
     for (words, text, printed) in [
         // carriage returns, a last line without its line feed, what stands round a listing
         ("show g", "log\r\nR.\\penalty 5\r\r\n", "R.\\penalty 5\n"),
-        ("show g", "\\vbox(0.0+0.0)x345.0\r\n.\\mark{a}\r", "R.\\mark{a}\n"),
+        (
+            "show g",
+            "\\vbox(0.0+0.0)x345.0\r\n.\\mark{a}\r",
+            "R.\\mark{a}\n",
+        ),
         ("show g", "RB\nnot read\n", "RB"),
         // several listings, of which the first has the width
         ("show g", "RB\n\\vbox(99999.0+-5.0)x1.0, shifted\nG", "RBG"),
         ("show g", "R\\vbox(0.0+0.0)x1.0\nB", "RB"),
-        ("show g", "\\vbox(20000.0+0.0)x99.0", "\\vbox(0.0+0.0)x99.0\n"),
+        (
+            "show g",
+            "\\vbox(20000.0+0.0)x99.0",
+            "\\vbox(0.0+0.0)x99.0\n",
+        ),
         // numbers of a marker are printed anew
-        ("show g", "RC.\\special{pg:variant -0 007}\nBE", "RC.\\special{pg:variant 0 7}\nBE"),
+        (
+            "show g",
+            "RC.\\special{pg:variant -0 007}\nBE",
+            "RC.\\special{pg:variant 0 7}\nBE",
+        ),
         // wrapped lines
         (
             "show --wrap 20 g",
             "\\vbox(0.0+0.0)x99.0\n.\\hbox(7.0+2.0)x345.\n0\n",
             "\\vbox(0.0+0.0)x99.0\nB",
         ),
-        ("show --wrap 9 g", "\\vbox(0.0\r\n+0.0)x345\n.0\n.\\penalty\n 5\r\r\n", "R.\\penalty 5\n"),
+        (
+            "show --wrap 9 g",
+            "\\vbox(0.0\r\n+0.0)x345\n.0\n.\\penalty\n 5\r\r\n",
+            "R.\\penalty 5\n",
+        ),
     ] {
         let end = call(alloc, words, World::of(alloc, galley(alloc, text)?)?)?;
         let want = galley(alloc, printed)?;
@@ -144,31 +168,56 @@ fn galleys_that_print_otherwise(rt: HostRuntime) -> Result<(), Fail> {
     Ok(())
 }
 
-// What is shown of a root, this line and a box.
-fn shown_behind(
-    rt: &HostRuntime,
-    words: &str,
-    line: &str,
-    printed: &str,
-) -> Result<(), Fail> {
+#[test]
+fn lines_of_79_bytes(rt: HostRuntime) -> Result<(), Fail> {
     let alloc = rt.alloc();
-    let mut text = galley(alloc, "R")?;
-    text.extend_from_slice(line.as_bytes())?;
-    text.extend_from_slice(b"\n.\\penalty 5\n")?;
-    let end = call(alloc, words, World::of(alloc, text)?)?;
-    let mut want = galley(alloc, "R")?;
-    want.extend_from_slice(printed.as_bytes())?;
-    assert_eq!(rt; end.out.as_slice(), want.as_slice(), "of {words}");
+    // TeX writes an empty line after a line that fills its width: the listing goes on behind it, and is lost to a reader
+    // that does not know the width
+    let mut wrapped = galley(alloc, "R")?;
+    wrapped.extend_from_slice(FULL.as_bytes())?;
+    wrapped.extend_from_slice(b"\n.\\penalty 5\n")?;
+    let mut front = galley(alloc, "R")?;
+    front.extend_from_slice(FULL.as_bytes())?;
+    let mut whole = front.as_slice().to_vec(alloc)?;
+    whole.extend_from_slice(b".\\penalty 5\n")?;
+    for (words, printed) in [
+        ("show g", front.as_slice()),
+        ("show --wrap 78 g", front.as_slice()),
+        ("show --wrap 79 g", whole.as_slice()),
+    ] {
+        let end = call(
+            alloc,
+            words,
+            World::of(alloc, wrapped.as_slice().to_vec(alloc)?)?,
+        )?;
+        assert_eq!(rt; end.out.as_slice(), printed, "of {words}");
+        assert_eq!(rt; end.status, Status::Done, "of {words}");
+    }
     Ok(())
 }
 
 #[test]
-fn lines_of_79_bytes(rt: HostRuntime) -> Result<(), Fail> {
-    // TeX writes an empty line after a line that fills it: read without the width, the listing ends there
-    shown_behind(&rt, "show g", FULL, FULL)?;
-    let mut both = String::from_str(rt.alloc(), FULL)?;
-    both.push_str(".\\penalty 5\n")?;
-    shown_behind(&rt, "show --wrap 79 g", FULL, both.as_str())?;
-    shown_behind(&rt, "show --wrap 79 g", WRAPPED, &both_parts(&rt)?)?;
+fn many_items(rt: HostRuntime) -> Result<(), Fail> {
+    let alloc = rt.alloc();
+    let mut text = galley(alloc, "R")?;
+    for _ in 0..262145u32 {
+        text.extend_from_slice(b".\\penalty 0\n")?;
+    }
+    let end = call(
+        alloc,
+        "show g",
+        World::of(alloc, text.as_slice().to_vec(alloc)?)?,
+    )?;
+    assert_eq!(rt; end.status, Status::Done);
+    assert!(rt; end.out.as_slice() == text.as_slice());
+    for _ in 262145..1048577u32 {
+        text.extend_from_slice(b".\\penalty 0\n")?;
+    }
+    let end = call(alloc, "show g", World::of(alloc, text)?)?;
+    assert_eq!(rt; end.status, Status::Refused);
+    assert_eq!(rt;
+        end.say.as_slice(),
+        b"pg: g: line 1048578: list fault 12\n".as_slice()
+    );
     Ok(())
 }
