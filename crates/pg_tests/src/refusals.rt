@@ -3,46 +3,63 @@ use crate::cases::{World, call, galley};
 use pg_top::Status;
 use std::test::Fail;
 
+// Words that are no command, the first of them none.
+const NO_COMMANDS: &str = r"
+run
+run --height 58.0
+run --height 58.0 g more
+run 58.0 --height g
+show --height 58.0 g
+show
+show g more
+show --wrap g
+show --wrap 0 g
+show --wrap 65536 g
+show --wrap 00000000079 g
+show --wrap 79 --wrap 79 g
+show --wrap 79
+show g --wrap 79
+run --wrap 79 g
+run --height 58.0 --height 58.0 g
+run --height 58.0 --wrap 7.9 g
+run --height --wrap 79 g
+run --labels --height 58.0 g
+run style g
+edit style g script
+check style g output
+make 1
+run --width 58.0 g
+run --height x g
+run --height 58 g
+run --height 58.0pt g
+run --height 0.0 g
+run --height -58.0 g
+run --height 16384.0 g
+run --height 58.0 
+run --height 58.0 -g";
+
+// Galleys in short that are not built yet.
+const NOT_BUILT: &str = r"RB.\penalty 150~
+R.\rule(1.0+0.0)x*~
+R.\kern 1.0~B
+RB.\mark{x}
+RCVBE
+RB.\glue 3.0 plus 1.0~
+RB.\glue 3.0 minus 1.0~
+RB.\glue 3.0 plus 1.0fil~
+R.\leaders 2.0 plus -1.0~";
+
+// Galleys in short whose first insert has the class 200: it counts, and it comes before what is not yet built.
+const STRANGE: &str = r"RBI
+R.\penalty 150~BI.\insert100, natural size 9.0~
+RCVBI.\insert100, natural size 9.0~E";
+
 const TWO_LINES: &[u8] = b"\\vbox(0.0+0.0)x345.0\n.\\hbox(7.0+2.0)x345.0\n";
 
 #[test]
 fn words_that_are_no_command(rt: HostRuntime) -> Result<(), Fail> {
     let alloc = rt.alloc();
-    for line in [
-        "",
-        "run",
-        "run --height 58.0",
-        "run --height 58.0 g more",
-        "run 58.0 --height g",
-        "show --height 58.0 g",
-        "show",
-        "show g more",
-        "show --wrap g",
-        "show --wrap 0 g",
-        "show --wrap 65536 g",
-        "show --wrap 00000000079 g",
-        "show --wrap 79 --wrap 79 g",
-        "show --wrap 79",
-        "show g --wrap 79",
-        "run --wrap 79 g",
-        "run --height 58.0 --height 58.0 g",
-        "run --height 58.0 --wrap 7.9 g",
-        "run --height --wrap 79 g",
-        "run --labels --height 58.0 g",
-        "run style g",
-        "edit style g script",
-        "check style g output",
-        "make 1",
-        "run --width 58.0 g",
-        "run --height x g",
-        "run --height 58 g",
-        "run --height 58.0pt g",
-        "run --height 0.0 g",
-        "run --height -58.0 g",
-        "run --height 16384.0 g",
-        "run --height 58.0 ",
-        "run --height 58.0 -g",
-    ] {
+    for line in NO_COMMANDS.lines() {
         let end = call(alloc, line, World::of(alloc, TWO_LINES.to_vec(alloc)?)?)?;
         assert_eq!(rt; end.status, Status::Usage, "of {line}");
         assert_eq!(rt; end.out.as_slice(), b"".as_slice(), "of {line}");
@@ -58,27 +75,16 @@ fn words_that_are_no_command(rt: HostRuntime) -> Result<(), Fail> {
 #[test]
 fn galleys_that_are_not_built(rt: HostRuntime) -> Result<(), Fail> {
     let alloc = rt.alloc();
-    for text in [
-        "RB.\\penalty 150\n",
-        "R.\\rule(1.0+0.0)x*\n",
-        "R.\\kern 1.0\nB",
-        "RB.\\mark{x}",
-        "RCVBE",
-        "RB.\\glue 3.0 plus 1.0\n",
-        "RB.\\glue 3.0 minus 1.0\n",
-        "RB.\\glue 3.0 plus 1.0fil\n",
-        "R.\\leaders 2.0 plus -1.0\n",
-    ] {
-        for words in ["run --height 58.0 g", "run --wrap 79 --height 58.0 g"] {
-            let end = call(alloc, words, World::of(alloc, galley(alloc, text)?)?)?;
-            assert_eq!(rt; end.status, Status::Refused, "of {text}");
-            assert_eq!(rt; end.out.as_slice(), b"".as_slice(), "of {text}");
-            assert_eq!(rt;
-                end.say.as_slice(),
-                b"pg: g: not yet built\n".as_slice(),
-                "of {text}"
-            );
-        }
+    for text in NOT_BUILT.lines() {
+        let words = "run --wrap 79 --height 58.0 g";
+        let end = call(alloc, words, World::of(alloc, galley(alloc, text)?)?)?;
+        assert_eq!(rt; end.status, Status::Refused, "of {text}");
+        assert_eq!(rt; end.out.as_slice(), b"".as_slice(), "of {text}");
+        assert_eq!(rt;
+            end.say.as_slice(),
+            b"pg: g: not yet built\n".as_slice(),
+            "of {text}"
+        );
         let end = call(alloc, "show g", World::of(alloc, galley(alloc, text)?)?)?;
         assert_eq!(rt; end.status, Status::Done, "of {text}");
     }
@@ -88,12 +94,7 @@ fn galleys_that_are_not_built(rt: HostRuntime) -> Result<(), Fail> {
 #[test]
 fn inserts_of_a_class_that_the_style_does_not_have(rt: HostRuntime) -> Result<(), Fail> {
     let alloc = rt.alloc();
-    for text in [
-        "RBI",
-        // the first one counts, and it comes before what is not yet built
-        "R.\\penalty 150\nBI.\\insert100, natural size 9.0\n",
-        "RCVBI.\\insert100, natural size 9.0\nE",
-    ] {
+    for text in STRANGE.lines() {
         let end = call(
             alloc,
             "run --height 58.0 g",
