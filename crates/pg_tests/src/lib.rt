@@ -6,6 +6,8 @@
 #[cfg(test)]
 mod cases;
 #[cfg(test)]
+mod logs;
+#[cfg(test)]
 mod notation;
 #[cfg(test)]
 mod refusals;
