@@ -94,6 +94,8 @@ fn push_line(galley: &mut Vec<u8>, letter: u8) -> Result<(), AllocError> {
         b'I' => galley.extend_from_slice(
             b".\\insert200, natural size 9.0; split(0.0,0.0); float cost 0\n",
         ),
+        b'~' => galley.extend_from_slice(b"\n"),
+        b'^' => galley.extend_from_slice(b"\r"),
         _ => {
             galley.push(letter)?;
             Ok(())
@@ -102,7 +104,8 @@ fn push_line(galley: &mut Vec<u8>, letter: u8) -> Result<(), AllocError> {
 }
 
 /// A galley's text, with the line that each of these letters stands for: R a root, B a box, G glue, C, V and E the
-/// markers of a choice, of a variant and of the choice's end, I an insert. All else stands for itself.
+/// markers of a choice, of a variant and of the choice's end, I an insert. `~` stands for a line feed and `^` for a
+/// carriage return. All else stands for itself.
 pub fn galley(alloc: Global, short: &str) -> Result<Vec<u8>, AllocError> {
     let mut text = Vec::new(alloc);
     for letter in short.as_bytes() {

@@ -2,97 +2,127 @@
 //! notation give.
 use crate::cases::{World, call, galley};
 use pg_top::Status;
+use std::alloc::{AllocError, Global};
 use std::test::Fail;
 
-// A line of exactly 79 bytes, and one in two parts of which the first has 79 bytes.
-const FULL: &str =
-    ".\\special{12345678901234567890123456789012345678901234567890123456789012345678}\n";
+// A line, the kind of its fault, and a galley's text in short.
+const FAULTS: &str = r"0 1 
+0 1 \vbo
+0 1 ^^^~^
+0 1 B
+1 2 \vbox(0.0+0.0
+2 2 Rx
+2 2 R..x~
+5 2 RB~R..x~
+6 2 RCVBE..x~
+3 2 RC..x~
+2 2 R.\hbox
+2 2 R.\glue 3.0 plus
+2 2 R.\glue 3.0 []
+2 2 R.\glue(\parskip 3.0
+2 2 R.\penalty(1)
+2 2 R.\insert1234, natural size 1.0
+2 3 R.
+2 3 R.x
+2 3 R.\@x
+2 3 R.\unsetbox(1.0+0.0)x1.0
+2 3 R.etc. x
+2 3 R.\é
+1 4 \vbox(0.0+0.0)x
+2 4 R.\glue 3.0 plus 
+2 4 R.\kern(1.0)
+2 4 R.\insert, natural size 1.0
+3 4 RC.\special{pg:variant x 0}
+2 5 R.\penalty 2147483648
+2 5 R.\penalty -2147483649
+2 5 R.\hbox(16384.0+0.0)x1.0
+2 5 R.\insert255, natural size 1.0
+3 5 RC.\special{pg:variant 101 x}
+3 5 RC.\special{pg:variant 0 100000001}
+1 6 \vbox(0.0+0.0)x1.0 []
+3 6 RB.etc.
+3 6 RC\vbox(0.0+0.0)x1.0 []
+2 7 R.\glue 0.0 minus 1.0fil
+2 7 R.\glue 0.0 minus 1.0fil x
+2 5 R.\glue 0.0 minus 20000.0fil
+2 8 R.\rule(*+0.0)x5.0
+2 8 R.\rule(1.0+*)x5.0
+2 9 R.\insert200, natural size -1.0; split(0.0,0.0); float cost 0
+2 10 RE
+3 10 RC
+3 10 RCB
+5 10 RCVB~
+5 10 RCVBR
+5 10 RCVB
+3 10 RCC
+4 10 RCVE
+5 10 RCVGE
+6 10 RCVBGE
+3 10 RC.\special{pg:variant 0}
+3 10 RC.\special{pg:variant 0 0 }
+2 10 R.\special{pg:other}
+8 11 RCVBVBIE
+9 11 RCVBIVB.\insert200, natural size 9.0~E
+13 12 RCVBVBVBVBVBVBE";
 
-const WRAPPED: &str =
-    ".\\special{12345678901234567890123456789012345678901234567890123456789012345678\n9}\n";
+// Galleys in short that print as they are.
+const PRINTED: &str = r"R
+RBG..deeper~...~..~B
+R.\rule(1.0+0.0)x*~.\leaders 2.0 plus 1.0fil~..\hbox(1.0+0.0)x1.0~
+R.\rule(1.0+0.0)x*~.\leaders 2.0 plus 1.0fil []~
+R.\kern-1.0x~.\kern 2.0~.\penalty -0~.\mark{a}~
+R.\glue(\parskip) 3.0 plus 1.0filll minus 0.5~.\xleaders 1.0~.\cleaders 1.0 minus 2.0 []~
+RCVBI.\special{pg:variant -100 100000000}~B.\penalty 10~IB..x~EB
+RCVBVBVBVBVBE
+R.\insert254, natural size 0.0~.\vbox(-1.0+0.5)x1.0~.\write3{}~
+R.\mark{é€}~";
+
+// Words, a text and what is printed of it: carriage returns, a last line without its line feed, what stands round a listing;
+// several listings, of which the first has the width; numbers of markers, printed anew; wrapped lines, joined or not.
+const PRINTED_OTHERWISE: &str = r"show g|log^~R.\penalty 5^^~|R.\penalty 5~
+show g|\vbox(0.0+0.0)x345.0^~.\mark{a}^|R.\mark{a}~
+show g|RB~not read~|RB
+show g|RB~\vbox(99999.0+-5.0)x1.0, shifted~G|RBG
+show g|R\vbox(0.0+0.0)x1.0~B|RB
+show g|\vbox(20000.0+0.0)x99.0|\vbox(0.0+0.0)x99.0~
+show g|RC.\special{pg:variant -0 007}~BE|RC.\special{pg:variant 0 7}~BE
+show --wrap 20 g|\vbox(0.0+0.0)x99.0~.\hbox(7.0+2.0)x345.~0~|\vbox(0.0+0.0)x99.0~B
+show --wrap 9 g|\vbox(0.0^~+0.0)x345~.0~.\penalty~ 5^^~|R.\penalty 5~
+show g|R.\special{12345678901234567890123456789012345678901234567890123456789012345678}~~.\penalty 5~|R.\special{12345678901234567890123456789012345678901234567890123456789012345678}~
+show --wrap 78 g|R.\special{12345678901234567890123456789012345678901234567890123456789012345678}~~.\penalty 5~|R.\special{12345678901234567890123456789012345678901234567890123456789012345678}~
+show --wrap 79 g|R.\special{12345678901234567890123456789012345678901234567890123456789012345678}~~.\penalty 5~|R.\special{12345678901234567890123456789012345678901234567890123456789012345678}~.\penalty 5~";
+
+// The parts of a row: between blanks or bars.
+fn parts<'a>(row: &'a str, mark: char) -> (&'a str, &'a str, &'a str) {
+    match row.split_once(mark) {
+        None => (row, "", ""),
+        Some((first, rest)) => match rest.split_once(mark) {
+            None => (first, rest, ""),
+            Some((second, third)) => (first, second, third),
+        },
+    }
+}
+
+// The line for the user at such a fault.
+fn fault_line(alloc: Global, line: &str, kind: &str) -> Result<String, AllocError> {
+    let mut text = String::from_str(alloc, "pg: g: line ")?;
+    text.push_str(line)?;
+    text.push_str(": list fault ")?;
+    text.push_str(kind)?;
+    text.push_str("\n")?;
+    Ok(text)
+}
 
 #[test]
 fn texts_that_are_no_galley(rt: HostRuntime) -> Result<(), Fail> {
     let alloc = rt.alloc();
-    for (text, line, kind) in [
-        // no listing
-        ("", 0u32, 1u32),
-        ("\\vbo", 0, 1),
-        ("\r\r\r\n\r", 0, 1),
-        ("B", 0, 1),
-        // a line that is not as it must be
-        ("\\vbox(0.0+0.0", 1, 2),
-        ("Rx", 2, 2),
-        ("R..x\n", 2, 2),
-        ("RB\n\nR..x\n", 6, 2),
-        ("RCVBE..x\n", 6, 2),
-        ("RC..x\n", 3, 2),
-        ("R.\\hbox", 2, 2),
-        ("R.\\glue 3.0 plus", 2, 2),
-        ("R.\\glue 3.0 []", 2, 2),
-        ("R.\\glue(\\parskip 3.0", 2, 2),
-        ("R.\\penalty(1)", 2, 2),
-        ("R.\\insert1234, natural size 1.0", 2, 2),
-        // a node that no list has
-        ("R.", 2, 3),
-        ("R.x", 2, 3),
-        ("R.\\@x", 2, 3),
-        ("R.\\unsetbox(1.0+0.0)x1.0", 2, 3),
-        ("R.etc. ", 2, 3),
-        ("R.\\\u{e9}", 2, 3),
-        // a number that is not there
-        ("\\vbox(0.0+0.0)x", 1, 4),
-        ("R.\\glue 3.0 plus ", 2, 4),
-        ("R.\\kern(1.0)", 2, 4),
-        ("R.\\insert, natural size 1.0", 2, 4),
-        ("RC.\\special{pg:variant x 0}", 3, 4),
-        // a number out of range
-        ("R.\\penalty 2147483648", 2, 5),
-        ("R.\\penalty -2147483649", 2, 5),
-        ("R.\\hbox(16384.0+0.0)x1.0", 2, 5),
-        ("R.\\insert255, natural size 1.0", 2, 5),
-        ("RC.\\special{pg:variant 101 x}", 3, 5),
-        ("RC.\\special{pg:variant 0 100000001}", 3, 5),
-        // a listing that was cut
-        ("\\vbox(0.0+0.0)x1.0 []", 1, 6),
-        ("RB.etc.", 3, 6),
-        ("RC\\vbox(0.0+0.0)x1.0 []", 3, 6),
-        // shrink without bound, a running height, a size below 0
-        ("R.\\glue 0.0 minus 1.0fil", 2, 7),
-        ("R.\\glue 0.0 minus 1.0fil x", 2, 7),
-        ("R.\\glue 0.0 minus 20000.0fil", 2, 5),
-        ("R.\\rule(*+0.0)x5.0", 2, 8),
-        ("R.\\rule(1.0+*)x5.0", 2, 8),
-        (
-            "R.\\insert200, natural size -1.0; split(0.0,0.0); float cost 0",
-            2,
-            9,
-        ),
-        // a choice that is no choice
-        ("RE", 2, 10),
-        ("RC", 3, 10),
-        ("RCB", 3, 10),
-        ("RCVB\n", 5, 10),
-        ("RCVBR", 5, 10),
-        ("RCVB", 5, 10),
-        ("RCC", 3, 10),
-        ("RCVE", 4, 10),
-        ("RCVGE", 5, 10),
-        ("RCVBGE", 6, 10),
-        ("RC.\\special{pg:variant 0}", 3, 10),
-        ("RC.\\special{pg:variant 0 0 }", 3, 10),
-        ("R.\\special{pg:other}", 2, 10),
-        // inserts that differ: one is wanting, or the bodies differ
-        ("RCVBVBIE", 7, 11),
-        ("RCVBIVB.\\insert200, natural size 9.0\nE", 8, 11),
-        // a sixth variant
-        ("RCVBVBVBVBVBVBE", 13, 12),
-    ] {
+    for row in FAULTS.lines() {
+        let (line, kind, text) = parts(row, ' ');
         let end = call(alloc, "show g", World::of(alloc, galley(alloc, text)?)?)?;
-        let want = format!(in alloc; "pg: g: line {line}: list fault {kind}\n")?;
-        assert_eq!(rt; end.say.as_slice(), want.as_bytes(), "of {text}");
-        assert_eq!(rt; end.status, Status::Refused, "of {text}");
-        assert_eq!(rt; end.out.as_slice(), b"".as_slice(), "of {text}");
+        let want = fault_line(alloc, line, kind)?;
+        assert_eq!(rt; end.say.as_slice(), want.as_bytes(), "of {row}");
+        assert_eq!(rt; end.status, Status::Refused, "of {row}");
+        assert_eq!(rt; end.out.as_slice(), b"".as_slice(), "of {row}");
     }
     Ok(())
 }
@@ -100,27 +130,12 @@ fn texts_that_are_no_galley(rt: HostRuntime) -> Result<(), Fail> {
 #[test]
 fn galleys_that_print_as_they_are(rt: HostRuntime) -> Result<(), Fail> {
     let alloc = rt.alloc();
-    for text in [
-        "R",
-        "RBG..deeper\n...\n..\nB",
-        "R.\\rule(1.0+0.0)x*\n.\\leaders 2.0 plus 1.0fil\n..\\hbox(1.0+0.0)x1.0\n",
-        "R.\\rule(1.0+0.0)x*\n.\\leaders 2.0 plus 1.0fil []\n",
-        "R.\\kern-1.0x\n.\\kern 2.0\n.\\penalty -0\n.\\mark{a}\n",
-        "R.\\glue(\\parskip) 3.0 plus 1.0filll minus 0.5\n.\\xleaders 1.0\n.\\cleaders 1.0 minus 2.0 []\n",
-        "RCVBI.\\special{pg:variant -100 100000000}\nB.\\penalty 10\nIB..x\nEB",
-        "RCVBVBVBVBVBE",
-        "R.\\insert254, natural size 0.0\n.\\vbox(-1.0+0.5)x1.0\n.\\write3{}\n",
-        "R.\\mark{\u{e9}\u{20ac}}\n",
-    ] {
-        let bytes = galley(alloc, text)?;
-        let end = call(
-            alloc,
-            "show g",
-            World::of(alloc, bytes.as_slice().to_vec(alloc)?)?,
-        )?;
-        assert_eq!(rt; end.out.as_slice(), bytes.as_slice(), "of {text}");
-        assert_eq!(rt; end.status, Status::Done, "of {text}");
-        assert_eq!(rt; end.say.as_slice(), b"".as_slice(), "of {text}");
+    for row in PRINTED.lines() {
+        let want = galley(alloc, row)?;
+        let end = call(alloc, "show g", World::of(alloc, galley(alloc, row)?)?)?;
+        assert_eq!(rt; end.out.as_slice(), want.as_slice(), "of {row}");
+        assert_eq!(rt; end.status, Status::Done, "of {row}");
+        assert_eq!(rt; end.say.as_slice(), b"".as_slice(), "of {row}");
     }
     Ok(())
 }
@@ -128,69 +143,12 @@ fn galleys_that_print_as_they_are(rt: HostRuntime) -> Result<(), Fail> {
 #[test]
 fn galleys_that_print_otherwise(rt: HostRuntime) -> Result<(), Fail> {
     let alloc = rt.alloc();
-    for (words, text, printed) in [
-        // carriage returns, a last line without its line feed, what stands round a listing
-        ("show g", "log\r\nR.\\penalty 5\r\r\n", "R.\\penalty 5\n"),
-        (
-            "show g",
-            "\\vbox(0.0+0.0)x345.0\r\n.\\mark{a}\r",
-            "R.\\mark{a}\n",
-        ),
-        ("show g", "RB\nnot read\n", "RB"),
-        // several listings, of which the first has the width
-        ("show g", "RB\n\\vbox(99999.0+-5.0)x1.0, shifted\nG", "RBG"),
-        ("show g", "R\\vbox(0.0+0.0)x1.0\nB", "RB"),
-        (
-            "show g",
-            "\\vbox(20000.0+0.0)x99.0",
-            "\\vbox(0.0+0.0)x99.0\n",
-        ),
-        // numbers of a marker are printed anew
-        (
-            "show g",
-            "RC.\\special{pg:variant -0 007}\nBE",
-            "RC.\\special{pg:variant 0 7}\nBE",
-        ),
-        // wrapped lines
-        (
-            "show --wrap 20 g",
-            "\\vbox(0.0+0.0)x99.0\n.\\hbox(7.0+2.0)x345.\n0\n",
-            "\\vbox(0.0+0.0)x99.0\nB",
-        ),
-        (
-            "show --wrap 9 g",
-            "\\vbox(0.0\r\n+0.0)x345\n.0\n.\\penalty\n 5\r\r\n",
-            "R.\\penalty 5\n",
-        ),
-    ] {
-        let end = call(alloc, words, World::of(alloc, galley(alloc, text)?)?)?;
+    for row in PRINTED_OTHERWISE.lines() {
+        let (words, text, printed) = parts(row, '|');
         let want = galley(alloc, printed)?;
-        assert_eq!(rt; end.out.as_slice(), want.as_slice(), "of {text}");
-        assert_eq!(rt; end.status, Status::Done, "of {text}");
+        let end = call(alloc, words, World::of(alloc, galley(alloc, text)?)?)?;
+        assert_eq!(rt; end.out.as_slice(), want.as_slice(), "of {row}");
+        assert_eq!(rt; end.status, Status::Done, "of {row}");
     }
-    Ok(())
-}
-
-// What is shown of a root, this line and a box.
-fn shown_behind(rt: &HostRuntime, words: &str, line: &str, printed: &str) -> Result<(), Fail> {
-    let alloc = rt.alloc();
-    let mut text = galley(alloc, "R")?;
-    text.extend_from_slice(line.as_bytes())?;
-    text.extend_from_slice(b"\n.\\penalty 5\n")?;
-    let end = call(alloc, words, World::of(alloc, text)?)?;
-    let mut want = galley(alloc, "R")?;
-    want.extend_from_slice(printed.as_bytes())?;
-    assert_eq!(rt; end.out.as_slice(), want.as_slice(), "of {words}");
-    Ok(())
-}
-
-#[test]
-fn lines_of_79_bytes(rt: HostRuntime) -> Result<(), Fail> {
-    // TeX writes an empty line after a line that fills it: read without the width, the listing ends there
-    shown_behind(&rt, "show g", FULL, FULL)?;
-    let mut both = String::from_str(rt.alloc(), FULL)?;
-    both.push_str(".\\penalty 5\n")?;
-    shown_behind(&rt, "show --wrap 79 g", FULL, both.as_str())?;
-    shown_behind(&rt, "show --wrap 79 g", WRAPPED, &both_parts(&rt)?)?;
     Ok(())
 }

@@ -1,30 +1,65 @@
 //! Words, files and faults that are answered with one line, and never with half a text.
-use crate::cases::{World, call};
+use crate::cases::{World, call, galley};
 use pg_top::Status;
 use std::test::Fail;
+
+// Words that are no command, the first of them none.
+const NO_COMMANDS: &str = r"
+run
+run --height 58.0
+run --height 58.0 g more
+run 58.0 --height g
+show --height 58.0 g
+show
+show g more
+show --wrap g
+show --wrap 0 g
+show --wrap 65536 g
+show --wrap 00000000079 g
+show --wrap 79 --wrap 79 g
+show --wrap 79
+show g --wrap 79
+run --wrap 79 g
+run --height 58.0 --height 58.0 g
+run --height 58.0 --wrap 7.9 g
+run --height --wrap 79 g
+run --labels --height 58.0 g
+run style g
+edit style g script
+check style g output
+make 1
+run --width 58.0 g
+run --height x g
+run --height 58 g
+run --height 58.0pt g
+run --height 0.0 g
+run --height -58.0 g
+run --height 16384.0 g
+run --height 58.0 
+run --height 58.0 -g";
+
+// Galleys in short that are not built yet.
+const NOT_BUILT: &str = r"RB.\penalty 150~
+R.\rule(1.0+0.0)x*~
+R.\kern 1.0~B
+RB.\mark{x}
+RCVBE
+RB.\glue 3.0 plus 1.0~
+RB.\glue 3.0 minus 1.0~
+RB.\glue 3.0 plus 1.0fil~
+R.\leaders 2.0 plus -1.0~";
+
+// Galleys in short whose first insert has the class 200: it counts, and it comes before what is not yet built.
+const STRANGE: &str = r"RBI
+R.\penalty 150~BI.\insert100, natural size 9.0~
+RCVBI.\insert100, natural size 9.0~E";
 
 const TWO_LINES: &[u8] = b"\\vbox(0.0+0.0)x345.0\n.\\hbox(7.0+2.0)x345.0\n";
 
 #[test]
 fn words_that_are_no_command(rt: HostRuntime) -> Result<(), Fail> {
     let alloc = rt.alloc();
-    for line in [
-        "",
-        "run",
-        "run --height 58.0",
-        "run --height 58.0 g more",
-        "run 58.0 --height g",
-        "show --height 58.0 g",
-        "run --width 58.0 g",
-        "run --height x g",
-        "run --height 58 g",
-        "run --height 58.0pt g",
-        "run --height 0.0 g",
-        "run --height -58.0 g",
-        "run --height 16384.0 g",
-        "run --height 58.0 ",
-        "run --height 58.0 -g",
-    ] {
+    for line in NO_COMMANDS.lines() {
         let end = call(alloc, line, World::of(alloc, TWO_LINES.to_vec(alloc)?)?)?;
         assert_eq!(rt; end.status, Status::Usage, "of {line}");
         assert_eq!(rt; end.out.as_slice(), b"".as_slice(), "of {line}");
@@ -38,25 +73,11 @@ fn words_that_are_no_command(rt: HostRuntime) -> Result<(), Fail> {
 }
 
 #[test]
-fn texts_that_are_no_galley_of_today(rt: HostRuntime) -> Result<(), Fail> {
+fn galleys_that_are_not_built(rt: HostRuntime) -> Result<(), Fail> {
     let alloc = rt.alloc();
-    for text in [
-        "",
-        "\n",
-        ".\\hbox(7.0+2.0)x345.0\n",
-        "\\vbox(0.0+0.0)x345.0",
-        "\\vbox(0.0+0.0)x345.0 []\n",
-        "\\vbox(0.0+0.0)x16384.0\n",
-        "\\vbox(0.0+0.0)x345.0\n.\\hbox(7.0+2.0)x345.0",
-        "\\vbox(0.0+0.0)x345.0\n.\\hbox(7.0+2.0)x345.0, glue set 0.5\n",
-        "\\vbox(0.0+0.0)x345.0\n.\\glue 3.0 plus 1.0\n",
-        "\\vbox(0.0+0.0)x345.0\n\n.\\glue 3.0\n",
-        "\\vbox(0.0+0.0)x345.0\n\\glue 3.0\n",
-        "\\vbox(0.0+0.0)x345.0\n.\\penalty 150\n",
-        "\\vbox(0.0+0.0)x345.0\r\n.\\glue 3.0\r\n",
-    ] {
-        let galley = text.as_bytes().to_vec(alloc)?;
-        let end = call(alloc, "run --height 58.0 g", World::of(alloc, galley)?)?;
+    for text in NOT_BUILT.lines() {
+        let words = "run --wrap 79 --height 58.0 g";
+        let end = call(alloc, words, World::of(alloc, galley(alloc, text)?)?)?;
         assert_eq!(rt; end.status, Status::Refused, "of {text}");
         assert_eq!(rt; end.out.as_slice(), b"".as_slice(), "of {text}");
         assert_eq!(rt;
@@ -64,21 +85,31 @@ fn texts_that_are_no_galley_of_today(rt: HostRuntime) -> Result<(), Fail> {
             b"pg: g: not yet built\n".as_slice(),
             "of {text}"
         );
+        let end = call(alloc, "show g", World::of(alloc, galley(alloc, text)?)?)?;
+        assert_eq!(rt; end.status, Status::Done, "of {text}");
     }
     Ok(())
 }
 
 #[test]
-fn a_galley_of_too_many_lines(rt: HostRuntime) -> Result<(), Fail> {
+fn inserts_of_a_class_that_the_style_does_not_have(rt: HostRuntime) -> Result<(), Fail> {
     let alloc = rt.alloc();
-    let mut galley = b"\\vbox(0.0+0.0)x345.0\n".to_vec(alloc)?;
-    for _ in 0..262145u32 {
-        galley.extend_from_slice(b".\\glue 3.0\n")?;
+    for text in STRANGE.lines() {
+        let end = call(
+            alloc,
+            "run --height 58.0 g",
+            World::of(alloc, galley(alloc, text)?)?,
+        )?;
+        assert_eq!(rt; end.status, Status::Refused, "of {text}");
+        assert_eq!(rt; end.out.as_slice(), b"".as_slice(), "of {text}");
+        assert_eq!(rt;
+            end.say.as_slice(),
+            b"pg: class 200 is not in the style\n".as_slice(),
+            "of {text}"
+        );
+        let end = call(alloc, "show g", World::of(alloc, galley(alloc, text)?)?)?;
+        assert_eq!(rt; end.status, Status::Done, "of {text}");
     }
-    let end = call(alloc, "run --height 58.0 g", World::of(alloc, galley)?)?;
-    assert_eq!(rt; end.status, Status::Refused);
-    assert_eq!(rt; end.out.as_slice(), b"".as_slice());
-    assert_eq!(rt; end.say.as_slice(), b"pg: g: not yet built\n".as_slice());
     Ok(())
 }
 

@@ -1,6 +1,6 @@
 -- Options in front of the names.
-use Rattle.std.proofs.Common.{◌≡◌, ◌∙◌, ◌≤◌, ◌<◌, ◌-◌, ℕ, ap, sym, arith, List, [], ◌∷◌, refl, length, get_or, take, drop, true, false}
-use Rattle.std.specs.Prelude.{Option, Some, None, map}
+use Rattle.std.proofs.Common.{◌≡◌, ◌≤◌, ◌<◌, ◌-◌, ℕ, arith, List, [], ◌∷◌, refl, length, get_or, take, drop, true, false}
+use Rattle.std.specs.Prelude.{Some, None, map}
 use Rattle.std.proofs.lemmas.List.{take_rest}
 use Rattle.pg_top.specs.declared.words.Options.{Options}
 use Rattle.pg_top.specs.Words.{is_option, with_option, options_in}

@@ -1,7 +1,6 @@
 use Rattle.std.proofs.Common.{ℕ, sym, subst}
 use Rattle.std.specs.Prelude.{Option, OnErr, decimal}
 use Rattle.std.proofs.lemmas.Result.{on_err_weaker}
-use Rattle.std.specs.Io.KnownBytes.{Appends}
 use Rattle.pg_outside.specs.Outside.{AppendsFront}
 use Rattle.pg_top.specs.Lines.{counted}
 use Rattle.pg_top.proofs.Fronts.{on_err, front_after, front_of_more}

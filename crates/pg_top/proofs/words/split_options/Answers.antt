@@ -1,9 +1,7 @@
-use Rattle.std.proofs.Common.{◌≡◌, ◌∙◌, ℕ, ap, sym, List, ◌-◌, take, drop, length, ◌∷◌}
-use Rattle.std.specs.Prelude.{Option, Some, map}
-use Rattle.std.specs.Option.{option_map}
+use Rattle.std.proofs.Common.{◌≡◌, ◌∙◌, ℕ, ap, sym, List, ◌-◌, take, drop, length}
+use Rattle.std.specs.Prelude.{Some, map}
 use Rattle.std.specs.String.{string_bytes}
-use Rattle.pg_top.specs.declared.words.Options.{Options}
-use Rattle.pg_top.specs.Words.{is_option, with_option, options_in, no_options}
+use Rattle.pg_top.specs.Words.{is_option, with_option, options_in}
 use Rattle.pg_top.proofs.WordLemmas.{two_words, few_words, no_option, an_option, bad_option}
 use Rattle.pg_top.proofs.words.split_options.Goals as goal
 
