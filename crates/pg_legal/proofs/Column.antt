@@ -37,7 +37,8 @@ numbers-none style plain = subst (λ (s : StyleValue). float_numbers s ≡ []) (
 
 count-none : (style : StyleValue) → IsPlainStyle style → (counts : List ℕ) → float_count style counts ≡ 0
 count-none style plain counts =
-    let none : slots style ≡ [] = ap (λ (numbers : List ℕ). range_with_len 0 (length numbers)) (numbers-none style plain) in
+    let none : slots style ≡ [] = ap (λ (numbers : List ℕ). range_with_len 0 (length numbers))
+        (numbers-none style plain) in
     ap (λ (them : List ℕ). sum_by (λ (slot : ℕ). entry counts slot) them) none
 
 no-counts : (style : StyleValue) → IsPlainStyle style → (counts : List ℕ) →
@@ -59,34 +60,45 @@ never true y true e = cc
 never true y false e = cc
 never false y z e = cc
 
-text-or : (t a p x y z w : Bool) → (if t then a else (p && ((x && y) || (z && w)))) ≡ true → x ≡ false → w ≡ false → t ≡ true
+text-or : (t a p x y z w : Bool) → (if t then a else (p && ((x && y) || (z && w)))) ≡ true → x ≡ false → w ≡ false →
+    t ≡ true
 text-or true a p x y z w e f g = refl
-text-or false a p x y z w e f g = absurd (never p y z (subst (λ (b : Bool). (p && ((false && y) || (z && b))) ≡ true) g
+text-or false a p x y z w e f g =
+    absurd (never p y z (subst (λ (b : Bool). (p && ((false && y) || (z && b))) ≡ true) g
     (subst (λ (b : Bool). (p && ((b && y) || (z && w))) ≡ true) f e)))
 
 -- a rule on text, at the number of the column's items
-at-text : (t : Bool) (o : Option ℕ) (test : ℕ → Bool) (n : ℕ) → t ≡ true → o ≡ Some n → (not t || option_map_or test o false) ≡ true →
+at-text : (t : Bool) (o : Option ℕ) (test : ℕ → Bool) (n : ℕ) → t ≡ true → o ≡ Some n →
+    (not t || option_map_or test o false) ≡ true →
     test n ≡ true
-at-text t o test n e f g = subst (λ (o : Option ℕ). option_map_or test o false ≡ true) f (subst (λ (t : Bool). (not t || option_map_or test o false) ≡ true) e g)
+at-text t o test n e f g = subst (λ (o : Option ℕ). option_map_or test o false ≡ true) f
+    (subst (λ (t : Bool). (not t || option_map_or test o false) ≡ true) e g)
 
 -- a column of text ends behind its start
-forward : (from n : ℕ) (p q : Place) → p ≡ place from 0 0 → q ≡ place (from + n) 0 0 → not (is_same_place p q) ≡ true → from < from + n
+forward : (from n : ℕ) (p q : Place) → p ≡ place from 0 0 → q ≡ place (from + n) 0 0 →
+    not (is_same_place p q) ≡ true → from < from + n
 forward from zero p q e f text =
     let here : from + 0 ≡ from = omega arith in
-    let same : is_same_place p q ≡ true = ap (λ (x : Place). is_same_place x q) e ∙ (ap (λ (x : Place). is_same_place (place from 0 0) x) (f ∙ ap (λ (k : ℕ). place k 0 0) here) ∙ place_refl (place from 0 0)) in
+    let same : is_same_place p q ≡ true = ap (λ (x : Place). is_same_place x q) e
+        ∙ (ap (λ (x : Place). is_same_place (place from 0 0) x) (f ∙ ap (λ (k : ℕ). place k 0 0) here)
+        ∙ place_refl (place from 0 0)) in
     let fails : not (is_same_place p q) ≡ false = ap not same in
     absurd cc
 forward from (suc n) p q e f text = omega arith
 
 -- ---- one column
 
-made : (m : PageMove) (from to : ℕ) → m.column.from ≡ place from 0 0 → m.column.to ≡ place to 0 0 → m.column.top ≡ [] →
+made : (m : PageMove) (from to : ℕ) → m.column.from ≡ place from 0 0 → m.column.to ≡ place to 0 0 →
+    m.column.top ≡ [] →
     m.column.bottom ≡ [] → m.column.picks ≡ [] → m.run ≡ 0 → m.wide ≡ [] → m ≡ plain_move from to
-made m from to a b c d e f g = by m.column.from m.column.to m.column.top m.column.bottom m.column.picks m.run m.wide a b c d e f g
+made m from to a b c d e f g =
+    by m.column.from m.column.to m.column.top m.column.bottom m.column.picks m.run m.wide a b c d e f g
   where
     by : (p q : Place) (top bottom picks : List ℕ) (run : ℕ) (wide : List ℕ) → p ≡ place from 0 0 → q ≡ place to 0 0 →
         top ≡ [] → bottom ≡ [] → picks ≡ [] → run ≡ 0 → wide ≡ [] →
-        ◌≡◌ {A = PageMove} (record { column = record { from = p; to = q; top = top; bottom = bottom; picks = picks }; run = run; wide = wide }) (plain_move from to)
+        ◌≡◌ {A = PageMove} (record { column =
+            record { from = p; to = q; top = top; bottom = bottom; picks = picks }; run = run; wide = wide })
+            (plain_move from to)
     by p q top bottom picks run wide a b c d e f g = rw (a, b, c, d, e, f, g) refl
 
 -- the column is one of text that is not over
@@ -102,7 +114,8 @@ module _ (doc : Document) (rigid : AreRigid doc.blocks) (plain : IsPlainStyle do
   single = rigid-single doc.blocks rigid
 
   -- a column without text has floats, or stands below wide ones
-  texts : (it : ColumnContext) → it.document.style ≡ doc.style → it.wide ≡ None → is_well_formed it ≡ true → is_text it ≡ true
+  texts : (it : ColumnContext) → it.document.style ≡ doc.style → it.wide ≡ None → is_well_formed it ≡ true →
+      is_text it ≡ true
   texts it same none formed =
       let plain' : IsPlainStyle it.document.style = subst (λ (s : StyleValue). IsPlainStyle s) (sym same) plain in
       let top : nat_lt 0 (float_count it.document.style it.column.top) ≡ false =
@@ -112,9 +125,11 @@ module _ (doc : Document) (rigid : AreRigid doc.blocks) (plain : IsPlainStyle do
 
   no-wide : (m : PageMove) (ms : List PageMove) → m.wide ≡ [] → wide_of doc (m ∷ ms) ≡ None
   no-wide m ms none =
-      ap (λ (n : ℕ). if n == 1 then made_wide doc (placed_of doc.style ms) m.wide else wide_of doc ms) (first-column doc.style plain.one_column ms)
+      ap (λ (n : ℕ). if n == 1 then made_wide doc (placed_of doc.style ms) m.wide else wide_of doc ms)
+          (first-column doc.style plain.one_column ms)
       ∙ (ap (λ (wide : List ℕ). made_wide doc (placed_of doc.style ms) wide) none
-      ∙ subst (λ (s : StyleValue). made_wide (record { blocks = doc.blocks; style = s }) (placed_of doc.style ms) [] ≡ None) (sym (bare-is doc.style plain)) refl)
+      ∙ subst (λ (s : StyleValue). made_wide (record { blocks = doc.blocks; style = s }) (placed_of doc.style ms) []
+          ≡ None) (sym (bare-is doc.style plain)) refl)
 
   -- a plain column in its context is not over
   fits : (from to : ℕ) → from < to → to ≤ length doc.blocks → is_tolerable (plain_context doc from to) ≡ true →
@@ -126,30 +141,41 @@ module _ (doc : Document) (rigid : AreRigid doc.blocks) (plain : IsPlainStyle do
       let differ : (from == to) ≡ false = grind (arith, nat_tests) in
       let text : is_text it ≡ true = rw differ refl in
       let test = at-text (is_text it) (size_of it)
-      (λ n. not (text_is_over it n) && (is_forced (items_of it) n || nat_le (text_badness it n) it.document.style.tolerance))
+      (λ n. not (text_is_over it n) &&
+          (is_forced (items_of it) n || nat_le (text_badness it n) it.document.style.tolerance))
       n text (size-is doc single from to forward within) tolerable in
       let under = (both_of (not (text_is_over it n)) _ test).0 in
-      let same : text_is_over it n ≡ is_over (total doc.style.topskip doc.style.maxdepth (trimmed (items_between doc.blocks from to))) (shrink (trimmed (items_between doc.blocks from to))) (plain_room doc.style) =
+      let same : text_is_over it n ≡ is_over
+          (total doc.style.topskip doc.style.maxdepth (trimmed (items_between doc.blocks from to)))
+          (shrink (trimmed (items_between doc.blocks from to))) (plain_room doc.style) =
       ap (λ (z : ℤ). is_over (text_total it n) (shrink (segment it n)) z) (goal-is doc plain from to n)
-      ∙ ap (λ (xs : List Item). is_over (total doc.style.topskip doc.style.maxdepth xs) (shrink xs) (plain_room doc.style)) (segment-is doc rigid from to) in
+      ∙ ap (λ (xs : List Item). is_over (total doc.style.topskip doc.style.maxdepth xs) (shrink xs)
+          (plain_room doc.style)) (segment-is doc rigid from to) in
       sym (ap not same) ∙ under
 
-  pub column-is : (m : PageMove) (ms : List PageMove) (from : ℕ) → from ≤ length doc.blocks → place_of ms ≡ place from 0 0 →
+  pub column-is : (m : PageMove) (ms : List PageMove) (from : ℕ) → from ≤ length doc.blocks →
+      place_of ms ≡ place from 0 0 →
       StandsAfter doc m ms → IsPlainColumn doc m from
   column-is m ms from start at stands =
       let it = context doc m ms in
       let rules = stands.stands.rules in
       let runs = (both_of (is_some (slice_get doc.style.runs m.run)) _ stands.stands.takes_run).0 in
       let run = one-run doc.style.runs m.run plain.one_run runs in
-      let wide = no-counts doc.style plain m.wide (both_of (length m.wide == length (float_numbers doc.style)) _ stands.stands.wide).0 in
-      let counts = both_of (length m.column.top == length (float_numbers doc.style)) (length m.column.bottom == length (float_numbers doc.style))
+      let wide = no-counts doc.style plain m.wide
+          (both_of (length m.wide == length (float_numbers doc.style)) _ stands.stands.wide).0 in
+      let counts = both_of (length m.column.top == length (float_numbers doc.style))
+          (length m.column.bottom == length (float_numbers doc.style))
       (both_of _ _ (both_of _ _ rules.counts).0).0 in
       let top = no-counts doc.style plain m.column.top counts.0 in
       let bottom = no-counts doc.style plain m.column.bottom counts.1 in
       let starts : m.column.from ≡ place from 0 0 = same_place m.column.from (place_of ms) stands.starts ∙ at in
       let text = texts it refl (no-wide m ms wide) rules.well_formed in
-      let kept : keeps_text it ≡ true = both (does_fit it) _ rules.fits (both (is_well_formed it) _ rules.well_formed (both (is_tolerable it) _ rules.tolerable
-      (both (passes_breaks it) _ rules.passes (both (has_room it) _ rules.room (both (keeps_note_limits it) (keeps_looseness it) rules.note_limits rules.looseness))))) in
+      let kept : keeps_text it ≡ true =
+          both (does_fit it) _ rules.fits
+          (both (is_well_formed it) _ rules.well_formed (both (is_tolerable it) _ rules.tolerable
+      (both (passes_breaks it) _ rules.passes
+          (both (has_room it) _ rules.room
+          (both (keeps_note_limits it) (keeps_looseness it) rules.note_limits rules.looseness))))) in
       let t = size-of-kept it from single plain starts kept in
       let n = t.0 in
       let e = end-of-size it from single plain starts start n t.1.0 in
@@ -161,5 +187,6 @@ module _ (doc : Document) (rigid : AreRigid doc.blocks) (plain : IsPlainStyle do
         onward = further;
         within = e.1;
         is = is;
-        fits = fits from (from + n) further e.1 (subst (λ (it : ColumnContext). is_tolerable it ≡ true) same rules.tolerable);
+        fits = fits from (from + n) further e.1
+            (subst (λ (it : ColumnContext). is_tolerable it ≡ true) same rules.tolerable);
       }

@@ -1,7 +1,7 @@
 //! Legal paginations of galleys of boxes and rigid glue, under styles of one column without floats.
 //!
-//! This crate is one law: each page of such a pagination is one column of text that is not over its room, as the printer
-//! of pages asks.
+//! This crate is one law: each page of such a pagination is one column of text that is not over its room, as the
+//! printer of pages asks.
 #![tactic(auto)]
 
 ghost use Rattle.pg_flat.specs.Rigid.{AreRigid};

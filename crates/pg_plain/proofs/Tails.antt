@@ -20,7 +20,8 @@ all-weak : (blocks : List Block) → AreSingle blocks →
     list_all is_discardable (single_items blocks) ≡ nat_le (solid blocks) 0
 all-weak [] single = refl
 all-weak (One item ∷ blocks) single =
-    all-step (solid blocks) (is_discardable item) (list_all is_discardable (single_items blocks)) (all-weak blocks single.1)
+    all-step (solid blocks) (is_discardable item) (list_all is_discardable (single_items blocks))
+        (all-weak blocks single.1)
 all-weak (Choice variants ∷ blocks) single = absurd single.0
 
 less-step : (n k : ℕ) (d : Bool) →

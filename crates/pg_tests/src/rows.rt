@@ -67,8 +67,8 @@ fn page(
     Ok(page)
 }
 
-// Lines of 12, 12, 18 and 20 points on pages of 30. A page that is not full costs 10010 squared, a full one and the last
-// 100. Two lines on the first page leave neither it nor the second full; one leaves the second full.
+// Lines of 12, 12, 18 and 20 points on pages of 30. A page that is not full costs 10010 squared, a full one and the
+// last 100. Two lines on the first page leave neither it nor the second full; one leaves the second full.
 #[test]
 fn a_page_looks_ahead(rt: HostRuntime) -> Result<(), Fail> {
     let alloc = rt.alloc();

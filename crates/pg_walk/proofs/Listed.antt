@@ -40,7 +40,8 @@ one-item (One item ∷ blocks) zero v i single less = elim (cases_Bool (v == 0))
       let here : i < length (item ∷ []) = subst (λ (b : Bool). i < length (if b then item ∷ [] else [])) first less in
       (omega arith, (grind (arith, nat_tests), omega (arith, here)))
   | inr other ↦
-      let none : i < length {A = Item} [] = subst (λ (b : Bool). i < length (if b then item ∷ [] else [])) other less in
+      let none : i < length {A = Item} [] =
+          subst (λ (b : Bool). i < length (if b then item ∷ [] else [])) other less in
       absurd (omega (arith, none))
 ]
 one-item (One item ∷ blocks) (suc k) v i single less =
@@ -81,11 +82,13 @@ module _ (it : ColumnContext) (block : ℕ) (single : AreSingle it.document.bloc
     least = λ picks text' kept fit.
         let empty : picks ≡ [] = (size-of-kept (with_picks it picks) block single plain starts kept).1.1 in
         let same : with_picks it it.column.picks ≡ with_picks it picks = ap (with_picks it) (none ∙ sym empty) in
-        inr (ap text_cost same, ap (λ (them : List ℕ). is_gt (picks_cmp them picks)) none ∙ ap (λ (them : List ℕ). is_gt (picks_cmp [] them)) empty);
+        inr (ap text_cost same, ap (λ (them : List ℕ). is_gt (picks_cmp them picks)) none
+            ∙ ap (λ (them : List ℕ). is_gt (picks_cmp [] them)) empty);
   }
 
   -- a column that ends at an offset where the rules are kept
-  end-is : (n : ℕ) → it.column.to ≡ place (block + n) 0 0 → it.column.picks ≡ [] → block + n ≤ length it.document.blocks →
+  end-is : (n : ℕ) → it.column.to ≡ place (block + n) 0 0 → it.column.picks ≡ [] →
+      block + n ≤ length it.document.blocks →
       keeps_at it.document.style height (drop block (single_items it.document.blocks)) n ≡ true →
       IsEndOf it (end_at it.document.style height (drop block (single_items it.document.blocks)) block n)
   unfolding cost_at keeps_at
@@ -125,7 +128,8 @@ module _ (it : ColumnContext) (block : ℕ) (single : AreSingle it.document.bloc
       sym (keeps it block single plain starts n height t.1.0 text height-is t.1.1) ∙ kept in
       record {
         end = end_at it.document.style height xs block n;
-        listed = contained it.document.style height xs block (suc (length it.document.blocks - block)) n (omega (arith, e.1)) kept';
+        listed = contained it.document.style height xs block (suc (length it.document.blocks - block)) n
+            (omega (arith, e.1)) kept';
         to = sym e.0;
         fit = sym (fitness-of it n t.1.0 ∙ fit-is it block single plain starts n height t.1.0 text height-is);
       }
@@ -144,8 +148,10 @@ module _ (doc : Document) (single : AreSingle doc.blocks) (plain : IsPlainStyle 
   sound : (end : End) (it : ColumnContext) → Contains (all_ends doc from height) end → IsColumnIn doc from height it →
       it.column.to ≡ end.to → it.column.picks ≡ end.picks → IsEndOf it end
   sound end it has is to picks =
-      let single' : AreSingle it.document.blocks = subst (λ (d : Document). AreSingle d.blocks) (sym is.document) single in
-      let plain' : IsPlainStyle it.document.style = subst (λ (d : Document). IsPlainStyle d.style) (sym is.document) plain in
+      let single' : AreSingle it.document.blocks =
+          subst (λ (d : Document). AreSingle d.blocks) (sym is.document) single in
+      let plain' : IsPlainStyle it.document.style =
+          subst (λ (d : Document). IsPlainStyle d.style) (sym is.document) plain in
       let has' : Contains (all_ends it.document from height) end =
       subst (λ (d : Document). Contains (all_ends d from height) end) (sym is.document) has in
       let within : from.block ≤ length it.document.blocks =
@@ -155,12 +161,16 @@ module _ (doc : Document) (single : AreSingle doc.blocks) (plain : IsPlainStyle 
       listed it.document.style height xs from.block (suc (length it.document.blocks - from.block)) end has' in
       subst (λ (e : End). IsEndOf it e) (sym t.is)
       (end-is it from.block single' plain' (is.starts ∙ front.0) is.text height is.height_is t.n
-      (to ∙ ap (λ (e : End). e.to) t.is) (picks ∙ ap (λ (e : End). e.picks) t.is) (omega (arith, t.below, within)) t.kept)
+      (to ∙ ap (λ (e : End). e.to) t.is) (picks
+          ∙ ap (λ (e : End). e.picks) t.is) (omega (arith, t.below, within)) t.kept)
 
-  whole : (it : ColumnContext) → IsColumnIn doc from height it → keeps_text it ≡ true → HasEnd (all_ends doc from height) it
+  whole : (it : ColumnContext) → IsColumnIn doc from height it → keeps_text it ≡ true →
+      HasEnd (all_ends doc from height) it
   whole it is kept =
-      let single' : AreSingle it.document.blocks = subst (λ (d : Document). AreSingle d.blocks) (sym is.document) single in
-      let plain' : IsPlainStyle it.document.style = subst (λ (d : Document). IsPlainStyle d.style) (sym is.document) plain in
+      let single' : AreSingle it.document.blocks =
+          subst (λ (d : Document). AreSingle d.blocks) (sym is.document) single in
+      let plain' : IsPlainStyle it.document.style =
+          subst (λ (d : Document). IsPlainStyle d.style) (sym is.document) plain in
       let within : from.block ≤ length it.document.blocks =
       subst (λ (d : Document). from.block ≤ length d.blocks) (sym is.document) front.1 in
       subst (λ (d : Document). HasEnd (all_ends d from height) it) is.document
@@ -170,5 +180,6 @@ module _ (doc : Document) (single : AreSingle doc.blocks) (plain : IsPlainStyle 
   are-ends = record {
     sound = sound;
     whole = whole;
-    order = ordered doc.style height (drop from.block (single_items doc.blocks)) from.block (suc (length doc.blocks - from.block));
+    order = ordered doc.style height (drop from.block (single_items doc.blocks)) from.block
+        (suc (length doc.blocks - from.block));
   }

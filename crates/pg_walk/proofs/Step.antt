@@ -22,13 +22,16 @@ pub rest-items : (blocks rest : List Block) (from : ℕ) → AreSingle blocks �
     single_items rest ≡ items_from blocks from
 rest-items blocks rest from single is = ap single_items is ∙ drop-items from blocks single
 
-pub rest-sums : (blocks rest : List Block) (from index : ℕ) (topskip maxdepth : ℤ) (sums : SumsValue) → AreSingle blocks →
+pub rest-sums : (blocks rest : List Block) (from index : ℕ) (topskip maxdepth : ℤ) (sums : SumsValue) →
+    AreSingle blocks →
     rest ≡ drop from blocks → AreSums topskip maxdepth (take index (items_from blocks from)) sums →
     AreSums topskip maxdepth (take index (single_items rest)) sums
 rest-sums blocks rest from index topskip maxdepth sums single is are =
-    subst (λ (xs : List Item). AreSums topskip maxdepth (take index xs) sums) (sym (rest-items blocks rest from single is)) are
+    subst (λ (xs : List Item). AreSums topskip maxdepth (take index xs) sums)
+        (sym (rest-items blocks rest from single is)) are
 
-pub penalty-is : (blocks rest : List Block) (from index : ℕ) (topskip maxdepth : ℤ) (sums : SumsValue) (o : Option ℤ) →
+pub penalty-is : (blocks rest : List Block) (from index : ℕ) (topskip maxdepth : ℤ) (sums : SumsValue)
+    (o : Option ℤ) →
     AreSingle blocks → rest ≡ drop from blocks → AreSums topskip maxdepth (take index (items_from blocks from)) sums →
     ((t m : ℤ) → AreSums t m (take index (single_items rest)) sums → o ≡ end_penalty (single_items rest) index) →
     o ≡ end_penalty (items_from blocks from) index
@@ -36,11 +39,14 @@ penalty-is blocks rest from index topskip maxdepth sums o single is are ensures 
     ensures topskip maxdepth (rest-sums blocks rest from index topskip maxdepth sums single is are)
     ∙ ap (λ (xs : List Item). end_penalty xs index) (rest-items blocks rest from single is)
 
-pub kept-end : (style : StyleValue) (room : ℤ) (items : List Item) (block index : ℕ) (forced : Bool) (cost : TextCost) →
+pub kept-end : (style : StyleValue) (room : ℤ) (items : List Item) (block index : ℕ) (forced : Bool)
+    (cost : TextCost) →
     cost ≡ cost_at style room items index →
     ◌≡◌ {A = List End}
-    (if forced || nat_le cost.badness style.tolerance then record { to = place (block + index) 0 0; picks = []; cost = cost; pick_demerits = pos 0 } ∷ [] else [])
-    (if forced || nat_le (badness_at style room items index) style.tolerance then end_at style room items block index ∷ [] else [])
+    (if forced || nat_le cost.badness style.tolerance then record { to = place (block + index) 0 0; picks =
+        []; cost = cost; pick_demerits = pos 0 } ∷ [] else [])
+    (if forced || nat_le (badness_at style room items index) style.tolerance then end_at style room items block
+        index ∷ [] else [])
 unfolding cost_at
 kept-end style room items block index forced cost e =
     ap (λ (cost : TextCost). if forced || nat_le cost.badness style.tolerance
@@ -49,8 +55,10 @@ kept-end style room items block index forced cost e =
     end_with : ℕ → TextCost → End
     end_with k cost = record { to = place k 0 0; picks = []; cost = cost; pick_demerits = pos 0 }
 
-pub joined-ends : (old new before after x y : List End) → new ≡ old ++ x → old ≡ before → x ≡ y → after ≡ before ++ y → new ≡ after
-joined-ends old new before after x y e f g h = e ∙ (ap (λ (them : List End). them ++ x) f ∙ (ap (λ (them : List End). before ++ them) g ∙ sym h))
+pub joined-ends : (old new before after x y : List End) → new ≡ old ++ x → old ≡ before → x ≡ y →
+    after ≡ before ++ y → new ≡ after
+joined-ends old new before after x y e f g h = e
+    ∙ (ap (λ (them : List End). them ++ x) f ∙ (ap (λ (them : List End). before ++ them) g ∙ sym h))
 
 -- the items up to and including the next
 next-item : (rest : List Block) (index : ℕ) (block : Block) → AreSingle rest → index < length rest →
@@ -62,15 +70,18 @@ next-item (One item ∷ rest) (suc index) block single less is =
     ap (λ (xs : List Item). item ∷ xs) (next-item rest index block single.1 (omega (arith, less)) is)
 next-item (Choice variants ∷ rest) index block single less is = absurd single.0
 
-pub next-sums : (blocks rest : List Block) (from index : ℕ) (block : Block) (topskip maxdepth : ℤ) (old new : SumsValue) →
+pub next-sums : (blocks rest : List Block) (from index : ℕ) (block : Block) (topskip maxdepth : ℤ)
+    (old new : SumsValue) →
     AreSingle blocks → rest ≡ drop from blocks → index < length rest → block ≡ get_or rest index block →
     AreSums topskip maxdepth (take index (items_from blocks from)) old →
     ((t m : ℤ) (items : List Item) → AreSums t m items old → AreSums t m (items ++ single_items (block ∷ [])) new) →
     AreSums topskip maxdepth (take (suc index) (items_from blocks from)) new
 next-sums blocks rest from index block topskip maxdepth old new single is less at are grows =
     let xs = rest-items blocks rest from single is in
-    let single' : AreSingle rest = subst (λ (them : List Block). AreSingle them) (sym is) (drop-single from blocks single) in
-    let longer : take (suc index) (items_from blocks from) ≡ take index (items_from blocks from) ++ single_items (block ∷ []) =
+    let single' : AreSingle rest =
+        subst (λ (them : List Block). AreSingle them) (sym is) (drop-single from blocks single) in
+    let longer : take (suc index) (items_from blocks from)
+        ≡ take index (items_from blocks from) ++ single_items (block ∷ []) =
     subst (λ (them : List Item). take (suc index) them ≡ take index them ++ single_items (block ∷ [])) xs
     (next-item rest index block single' less at) in
     subst (λ (them : List Item). AreSums topskip maxdepth them new) (sym longer)
@@ -88,4 +99,5 @@ not-le a b e = elim (cases_Bool (int_le b a)) [
 
 -- the room is below the least
 pub too-low : (a b room least : ℤ) → a ≡ room → b ≡ least → int_lt a b ≡ true → int_le least room ≡ false
-too-low a b room least e f less = not-le room least (sym (ap (λ (z : ℤ). int_lt z least) e) ∙ (sym (ap (λ (z : ℤ). int_lt a z) f) ∙ less))
+too-low a b room least e f less =
+    not-le room least (sym (ap (λ (z : ℤ). int_lt z least) e) ∙ (sym (ap (λ (z : ℤ). int_lt a z) f) ∙ less))

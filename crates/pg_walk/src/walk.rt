@@ -99,10 +99,12 @@ fn try_end(
     requires small { start.block + index < 2 ^ 32 }
     requires room { nat_abs start.room < 2 ^ 40 }
     requires text { int_le style.now.min_text start.room ≡ true }
-    requires sums { AreSums style.now.topskip style.now.maxdepth (take index (items_from galley.now.blocks start.block)) sums.now }
+    requires sums { AreSums style.now.topskip style.now.maxdepth
+        (take index (items_from galley.now.blocks start.block)) sums.now }
     requires passes { passes_between (items_from galley.now.blocks start.block)
         (is_over_at style.now start.room (items_from galley.now.blocks start.block)) index ≡ true }
-    requires ends { ends.old ≡ ends_below style.now start.room (items_from galley.now.blocks start.block) start.block index }
+    requires ends { ends.old
+        ≡ ends_below style.now start.room (items_from galley.now.blocks start.block) start.block index }
     ensures ends { IfOk result (λ _. ends.new
         ≡ ends_below style.now start.room (items_from galley.now.blocks start.block) start.block (suc index)) }
     ensures passable { IfOk result (λ goes. goes
