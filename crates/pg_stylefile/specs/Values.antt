@@ -1,0 +1,85 @@
+-- What one value of a style file says, or the kind of its fault.
+use Rattle.std.specs.Prelude.{◌≡◌, ◌==◌, ◌&&◌, ℕ, ◌-◌, ◌^◌, ℤ, pos, negsuc, nat_le, int_le, if◌then◌else◌, List, [], ◌∷◌, length, codes, Option, Some, None, Result, Ok, Err}
+use Rattle.std.specs.Option.{ok_or}
+use Rattle.std.specs.Str.{bytes_eq}
+use Rattle.toml.specs.Data.{Data, Members, as_integer, as_str, as_table}
+use Rattle.pg_scaled.specs.Scaled.{scaled_value}
+use Rattle.pg_scaled.specs.declared.read.Front.{Front}
+use Rattle.pg_scaled.specs.declared.read.Front.TheVariants.{Value, NotNumber, TooLarge}
+use Rattle.pg_style.specs.declared.style.First.{First}
+use Rattle.pg_style.specs.declared.style.First.TheVariants.{Left, Right, Single}
+use Rattle.pg_style.specs.declared.style.Area.{Area}
+use Rattle.pg_style.specs.declared.style.Area.TheVariants.{Top, Bottom, Both, Wide}
+use Rattle.pg_stylefile.specs.declared.values.Sort.{Sort}
+use Rattle.pg_stylefile.specs.declared.values.Sort.TheVariants.{Note, Float}
+use Rattle.pg_stylefile.specs.declared.fault.StyleKind.{StyleKind}
+use Rattle.pg_stylefile.specs.declared.fault.StyleKind.TheVariants.{WrongKind, OutOfRange}
+use Rattle.pg_stylefile.specs.Faults.{◌>>=◌}
+
+abbrev pub Answers : {A B : Type 0} → (A → B) → Result A StyleKind → Result B StyleKind → Type 0
+Answers view (Ok x) said = said ≡ Ok (view x)
+Answers view (Err kind) said = said ≡ Err kind
+
+-- a whole number within its range
+abbrev pub whole_in : ℕ → ℕ → ℤ → Result ℕ StyleKind
+whole_in low high (pos n) = if nat_le low n && nat_le n high then Ok n else Err OutOfRange
+whole_in low high (negsuc n) = Err OutOfRange
+
+unfoldable pub whole_of : ℕ → ℕ → Data → Result ℕ StyleKind
+whole_of low high value = ok_or (as_integer value) WrongKind >>= whole_in low high
+
+unfoldable pub text_of : Data → Result (List ℕ) StyleKind
+text_of value = ok_or (as_str value) WrongKind
+
+unfoldable pub table_of : Data → Result Members StyleKind
+table_of value = ok_or (as_table value) WrongKind
+
+-- a number of a list, as it stands in a text of this length
+abbrev pub front_in : ℤ → ℤ → ℕ → Front → Result ℤ StyleKind
+front_in low high size (Value value len) = if len == size then (if int_le low value && int_le value high then Ok value else Err OutOfRange) else Err WrongKind
+front_in low high size (TooLarge len) = if len == size then Err OutOfRange else Err WrongKind
+front_in low high size NotNumber = Err WrongKind
+
+-- a text that is wholly a scaled number within its range
+unfoldable pub dimension_in : ℤ → ℤ → List ℕ → Result ℤ StyleKind
+dimension_in low high text = front_in low high (length text) (scaled_value text)
+
+unfoldable pub dimension_of : ℤ → ℤ → Data → Result ℤ StyleKind
+dimension_of low high value = text_of value >>= dimension_in low high
+
+unfoldable pub first_named : List ℕ → Result First StyleKind
+first_named text =
+    if bytes_eq text (codes "left") then Ok Left
+    else if bytes_eq text (codes "right") then Ok Right
+    else if bytes_eq text (codes "single") then Ok Single
+    else Err WrongKind
+
+-- the side of the first page
+unfoldable pub first_of : Data → Result First StyleKind
+first_of value = text_of value >>= first_named
+
+unfoldable pub area_named : List ℕ → Result Area StyleKind
+area_named text =
+    if bytes_eq text (codes "top") then Ok Top
+    else if bytes_eq text (codes "bottom") then Ok Bottom
+    else if bytes_eq text (codes "both") then Ok Both
+    else if bytes_eq text (codes "wide") then Ok Wide
+    else Err WrongKind
+
+-- where the floats of a class may stand
+unfoldable pub area_of : Data → Result Area StyleKind
+area_of value = text_of value >>= area_named
+
+unfoldable pub sort_named : List ℕ → Result Sort StyleKind
+sort_named text =
+    if bytes_eq text (codes "note") then Ok Note
+    else if bytes_eq text (codes "float") then Ok Float
+    else Err WrongKind
+
+-- what the inserts of a class are
+unfoldable pub sort_of : Data → Result Sort StyleKind
+sort_of value = text_of value >>= sort_named
+
+-- a dimension that is not negative
+abbrev pub length_of : Data → Result ℤ StyleKind
+length_of = dimension_of (pos 0) (pos (2 ^ 30 - 1))
