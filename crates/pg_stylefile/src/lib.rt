@@ -3,6 +3,7 @@
 
 mod fault;
 mod keys;
+mod names;
 mod values;
 
 pub use fault::{StyleFault, StyleKind};
