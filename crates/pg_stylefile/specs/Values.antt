@@ -2,7 +2,9 @@
 use Rattle.std.specs.Prelude.{◌≡◌, ◌==◌, ◌&&◌, ℕ, ◌-◌, ◌^◌, ℤ, pos, negsuc, nat_le, int_le, if◌then◌else◌, List, [], ◌∷◌, length, codes, Option, Some, None, Result, Ok, Err}
 use Rattle.std.specs.Option.{ok_or}
 use Rattle.std.specs.Str.{bytes_eq}
-use Rattle.toml.specs.Data.{Data, Members, as_integer, as_str, as_table}
+use Rattle.toml.specs.Data.{Data, Items, no_items, item, Members, as_integer, as_str, as_array, as_table}
+use Rattle.toml.specs.View.{items_view}
+use Rattle.toml.specs.declared.value.Value as value
 use Rattle.pg_scaled.specs.Scaled.{scaled_value}
 use Rattle.pg_scaled.specs.declared.read.Front.{Front}
 use Rattle.pg_scaled.specs.declared.read.Front.TheVariants.{Value, NotNumber, TooLarge}
@@ -83,3 +85,19 @@ sort_of value = text_of value >>= sort_named
 -- a dimension that is not negative
 abbrev pub length_of : Data → Result ℤ StyleKind
 length_of = dimension_of (pos 0) (pos (2 ^ 30 - 1))
+
+-- the tables of an array that has no other elements
+abbrev pub each_table : Items → Result (List Members) StyleKind
+each_table no_items = Ok []
+each_table (item value items) = table_of value >>= (λ members. each_table items >>= (λ tables. Ok (members ∷ tables)))
+
+unfoldable pub tables_of : Data → Result (List Members) StyleKind
+tables_of value = ok_or (as_array value) WrongKind >>= each_table
+
+-- no tables for a fault
+abbrev pub tables_or_none : Result (List Members) StyleKind → List Members
+tables_or_none (Ok tables) = tables
+tables_or_none (Err kind) = []
+
+abbrev pub tables_in : List value.Value → List Members
+tables_in values = tables_or_none (each_table (items_view values))

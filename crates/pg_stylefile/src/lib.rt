@@ -4,6 +4,7 @@
 mod fault;
 mod keys;
 mod names;
+mod tables;
 mod values;
 
 pub use fault::{StyleFault, StyleKind};
