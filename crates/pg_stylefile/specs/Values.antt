@@ -1,5 +1,5 @@
 -- What one value of a style file says, or the kind of its fault.
-use Rattle.std.specs.Prelude.{◌≡◌, ◌==◌, ◌&&◌, ℕ, ◌-◌, ◌^◌, ℤ, pos, negsuc, nat_le, int_le, if◌then◌else◌, List, [], ◌∷◌, length, codes, Option, Some, None, Result, Ok, Err}
+use Rattle.std.specs.Prelude.{Bool, true, is_some, ◌≡◌, ◌==◌, ◌&&◌, ℕ, ◌-◌, ◌^◌, ℤ, pos, negsuc, nat_le, int_le, if◌then◌else◌, List, [], ◌∷◌, length, codes, Option, Some, None, Result, Ok, Err}
 use Rattle.std.specs.Option.{ok_or}
 use Rattle.std.specs.Str.{bytes_eq}
 use Rattle.toml.specs.Data.{Data, Items, no_items, item, Members, as_integer, as_str, as_array, as_table}
@@ -8,6 +8,7 @@ use Rattle.toml.specs.declared.value.Value as value
 use Rattle.pg_scaled.specs.Scaled.{scaled_value}
 use Rattle.pg_scaled.specs.declared.read.Front.{Front}
 use Rattle.pg_scaled.specs.declared.read.Front.TheVariants.{Value, NotNumber, TooLarge}
+use Rattle.pg_style.specs.Ranges.{has_table_range, rises}
 use Rattle.pg_style.specs.declared.style.First.{First}
 use Rattle.pg_style.specs.declared.style.First.TheVariants.{Left, Right, Single}
 use Rattle.pg_style.specs.declared.style.Area.{Area}
@@ -15,7 +16,7 @@ use Rattle.pg_style.specs.declared.style.Area.TheVariants.{Top, Bottom, Both, Wi
 use Rattle.pg_stylefile.specs.declared.values.Sort.{Sort}
 use Rattle.pg_stylefile.specs.declared.values.Sort.TheVariants.{Note, Float}
 use Rattle.pg_stylefile.specs.declared.fault.StyleKind.{StyleKind}
-use Rattle.pg_stylefile.specs.declared.fault.StyleKind.TheVariants.{WrongKind, OutOfRange}
+use Rattle.pg_stylefile.specs.declared.fault.StyleKind.TheVariants.{WrongKind, OutOfRange, Decreasing}
 use Rattle.pg_stylefile.specs.Faults.{◌>>=◌}
 
 abbrev pub Answers : {A B : Type 0} → (A → B) → Result A StyleKind → Result B StyleKind → Type 0
@@ -101,3 +102,23 @@ tables_or_none (Err kind) = []
 
 abbrev pub tables_in : List value.Value → List Members
 tables_in values = tables_or_none (each_table (items_view values))
+
+abbrev pub are_whole : Items → Bool
+are_whole no_items = true
+are_whole (item value items) = is_some (as_integer value) && are_whole items
+
+-- the whole numbers of an array, each within the limit on demerits
+abbrev pub each_entry : Items → Result (List ℕ) StyleKind
+each_entry no_items = Ok []
+each_entry (item value items) = whole_of 0 100000000 value >>= (λ entry. each_entry items >>= (λ entries. Ok (entry ∷ entries)))
+
+-- the table of 1 to 9 entries, none below the one before
+unfoldable pub made_table : List ℕ → Result (List ℕ) StyleKind
+made_table entries = if has_table_range entries then (if rises entries then Ok entries else Err Decreasing) else Err OutOfRange
+
+unfoldable pub entries_of : Items → Result (List ℕ) StyleKind
+entries_of items = each_entry items >>= made_table
+
+-- the distance table of a class of floats, where an element that is no whole number comes first
+unfoldable pub distance_of : Data → Result (List ℕ) StyleKind
+distance_of value = ok_or (as_array value) WrongKind >>= (λ items. if are_whole items then entries_of items else Err WrongKind)

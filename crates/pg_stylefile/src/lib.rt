@@ -1,6 +1,7 @@
 //! Style files, read as TOML.
 #![tactic(auto)]
 
+mod distance;
 mod fault;
 mod keys;
 mod names;
