@@ -1,5 +1,5 @@
 -- What the keys of a table say.
-use Rattle.std.specs.Prelude.{◌≡◌, ◌==◌, ℕ, ℤ, is_some, if◌then◌else◌, List, codes, Option, Some, None, Result, Ok, Err}
+use Rattle.std.specs.Prelude.{◌≡◌, ◌==◌, ℕ, ℤ, is_some, if◌then◌else◌, List, [], codes, Option, Some, None, Result, Ok, Err}
 use Rattle.std.specs.Option.{ok_or}
 use Rattle.toml.specs.Data.{Data, Members, get_member}
 use Rattle.pg_stylefile.specs.declared.fault.Place.{Place}
@@ -7,6 +7,8 @@ use Rattle.pg_stylefile.specs.declared.fault.StyleKind.{StyleKind}
 use Rattle.pg_stylefile.specs.declared.fault.StyleKind.TheVariants.{MissingKey, UnknownKey}
 use Rattle.pg_stylefile.specs.declared.fault.StyleFault.{StyleFault}
 use Rattle.pg_stylefile.specs.Faults.{fault_at, ◌>>=◌}
+use Rattle.pg_stylefile.specs.Names.{names_of, keys_in, least_unnamed}
+use Rattle.pg_stylefile.specs.Values.{tables_of}
 
 -- the value of a key that is due
 unfoldable pub due_at : Place → List ℕ → Members → Result Data StyleFault
@@ -24,3 +26,16 @@ keyed place key read members = due_at place key members >>= (λ value. at_key pl
 -- a key that the table does not know here
 unfoldable pub absent : Place → List ℕ → Members → Result (Unit {0}) StyleFault
 absent place key members = if is_some (get_member key members) then Err (fault_at UnknownKey place key) else Ok tt
+
+-- a fault of the least key that is not among the names, if there is one
+abbrev pub refused : Place → Option (List ℕ) → Result (Unit {0}) StyleFault
+refused place None = Ok tt
+refused place (Some key) = Err (fault_at UnknownKey place key)
+
+-- the table has no key but those that it names
+unfoldable pub named : Place → Members → Result (Unit {0}) StyleFault
+named place members = refused place (least_unnamed (names_of place) (keys_in members))
+
+-- an array of tables that may be missing, which is then empty
+unfoldable pub tables_if_any : Place → List ℕ → Members → Result (List Members) StyleFault
+tables_if_any place key members = if is_some (get_member key members) then keyed place key tables_of members else Ok []

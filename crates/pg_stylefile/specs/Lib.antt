@@ -1,4 +1,5 @@
 pub mod Faults
 pub mod Keys
 pub mod Names
+pub mod Tables
 pub mod Values

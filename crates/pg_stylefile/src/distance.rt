@@ -5,14 +5,13 @@ ghost use Rattle.pg_style.specs.Ranges.{IsDistance};
 ghost use Rattle.pg_stylefile.specs.Values.{Answers, are_whole, each_entry, made_table, entries_of, distance_of};
 
 use crate::fault::StyleKind;
+use crate::keys::MAX_DEMERITS;
 use crate::values::as_whole;
 use pg_style::{Distance, DistanceFault};
 use smallvec::SmallVec;
 use std::alloc::Global;
 use toml::Value;
 
-// The most demerits of a float that waited.
-const MAX_DEMERITS: u32 = 100_000_000;
 
 fn are_whole_numbers(values: &[Value]) -> bool
     ensures { result ≡ are_whole (items_view values.now) }

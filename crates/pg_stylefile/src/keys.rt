@@ -1,14 +1,19 @@
 //! The keys of one table.
-ghost use Rattle.std.specs.Prelude.{◌≡◌, ◌≤◌, ◌∷◌, pos, ◌≤ℤ◌, ◌<ℤ◌, ◌^◌, IfOk};
+ghost use Rattle.std.specs.Prelude.{◌≡◌, ◌≤◌, ◌∷◌, pos, ◌≤ℤ◌, ◌<ℤ◌, ◌^◌, IfOk, is_some};
+ghost use Rattle.toml.specs.Data.{get_member};
 ghost use Rattle.toml.specs.View.{view, table_view};
-ghost use Rattle.pg_style.specs.Ranges.{IsLength};
+ghost use Rattle.pg_style.specs.Ranges.{IsLength, IsDistance};
 ghost use Rattle.pg_stylefile.specs.Faults.{Tells};
-ghost use Rattle.pg_stylefile.specs.Values.{whole_of, dimension_of, length_of, first_of, area_of, sort_of, table_of};
-ghost use Rattle.pg_stylefile.specs.Keys.{due_at, keyed, absent, at_key};
+ghost use Rattle.pg_stylefile.specs.Values.{whole_of, dimension_of, length_of, first_of, area_of, sort_of, table_of, tables_of, tables_in, distance_of};
+ghost use Rattle.pg_stylefile.specs.Keys.{due_at, keyed, absent, at_key, named, tables_if_any};
 
+use crate::distance::as_distance;
 use crate::fault::{Fault, Place, StyleKind};
+use crate::names::first_unnamed;
+use crate::tables::{Tables, as_tables};
 use crate::values::{Sort, as_area, as_dimension, as_first, as_sort, as_table, as_whole};
-use pg_style::{Area, First};
+use pg_style::{Area, Distance, First};
+use std::alloc::Global;
 use toml::{Table, Value};
 
 /// The keys of a table, and which table it is.
@@ -41,13 +46,30 @@ impl<'t> Keys<'t> {
         }
     }
 
+    fn has(&self, key: &str) -> bool
+        ensures { result ≡ is_some (get_member key.now (table_view self.now.table.now)) }
+    {
+        self.table.get(key).is_some()
+    }
+
     /// A key that the table does not know here is not there.
     #[tactic(auto, unfolding(crate::specs::Keys::absent))]
     pub fn absent(&self, key: &'t str) -> Result<(), Fault<'t>>
         ensures { Tells (λ x. x) result (absent self.now.place key.now (table_view self.now.table.now)) }
     {
-        match self.table.get(key) {
-            Some(_) => Err(self.fault(StyleKind::UnknownKey, key)),
+        if self.has(key) {
+            return Err(self.fault(StyleKind::UnknownKey, key));
+        }
+        Ok(())
+    }
+
+    /// The table has no key but those that it names.
+    #[tactic(auto, unfolding(crate::specs::Keys::named))]
+    pub fn named(&self) -> Result<(), Fault<'t>>
+        ensures { Tells (λ x. x) result (named self.now.place (table_view self.now.table.now)) }
+    {
+        match first_unnamed(self.place.names(), self.table) {
+            Some(key) => Err(self.fault(StyleKind::UnknownKey, key)),
             None => Ok(()),
         }
     }
@@ -90,6 +112,42 @@ impl<'t> Keys<'t> {
     }
 
     #[tactic(auto, unfolding(crate::specs::Keys::keyed))]
+    pub fn first(&self, key: &'t str) -> Result<First, Fault<'t>>
+        ensures { Tells (λ first. first) result (keyed self.now.place key.now first_of (table_view self.now.table.now)) }
+    {
+        let value = self.due(key)?;
+        self.told(key, as_first(value))
+    }
+
+    #[tactic(auto, unfolding(crate::specs::Keys::keyed))]
+    pub fn sort(&self, key: &'t str) -> Result<Sort, Fault<'t>>
+        ensures { Tells (λ sort. sort) result (keyed self.now.place key.now sort_of (table_view self.now.table.now)) }
+    {
+        let value = self.due(key)?;
+        self.told(key, as_sort(value))
+    }
+
+    #[tactic(auto, unfolding(crate::specs::Keys::keyed))]
+    pub fn area(&self, key: &'t str) -> Result<Area, Fault<'t>>
+        ensures { Tells (λ area. area) result (keyed self.now.place key.now area_of (table_view self.now.table.now)) }
+    {
+        let value = self.due(key)?;
+        self.told(key, as_area(value))
+    }
+
+    #[tactic(auto, unfolding(crate::specs::Keys::keyed))]
+    pub fn distance(&self, alloc: Global, key: &'t str) -> Result<Distance, Fault<'t>>
+        ensures value { Tells (λ distance. distance) result (keyed self.now.place key.now distance_of (table_view self.now.table.now)) }
+        ensures range { IfOk result IsDistance }
+    {
+        let value = self.due(key)?;
+        match as_distance(alloc, value) {
+            Ok(distance) => Ok(distance),
+            Err(kind) => Err(self.fault(kind, key)),
+        }
+    }
+
+    #[tactic(auto, unfolding(crate::specs::Keys::keyed))]
     pub fn table(&self, key: &'t str) -> Result<&'t Table, Fault<'t>>
         ensures { Tells (λ table. table_view table.now) result (keyed self.now.place key.now table_of (table_view self.now.table.now)) }
     {
@@ -99,7 +157,33 @@ impl<'t> Keys<'t> {
             Err(kind) => Err(self.fault(kind, key)),
         }
     }
+
+    #[tactic(auto, unfolding(crate::specs::Keys::keyed))]
+    pub fn tables(&self, key: &'t str) -> Result<Tables<'t>, Fault<'t>>
+        ensures { Tells (λ tables. tables_in tables.values.now) result (keyed self.now.place key.now tables_of (table_view self.now.table.now)) }
+    {
+        let value = self.due(key)?;
+        match as_tables(value) {
+            Ok(tables) => Ok(tables),
+            Err(kind) => Err(self.fault(kind, key)),
+        }
+    }
+
+    /// An array of tables that may be missing, which is then empty.
+    #[tactic(auto, unfolding(crate::specs::Keys::tables_if_any))]
+    pub fn tables_if_any(&self, key: &'t str) -> Result<Tables<'t>, Fault<'t>>
+        ensures { Tells (λ tables. tables_in tables.values.now) result (tables_if_any self.now.place key.now (table_view self.now.table.now)) }
+    {
+        if self.has(key) {
+            self.tables(key)
+        } else {
+            Ok(Tables::none())
+        }
+    }
 }
 
 /// The largest scaled number of a style, in scaled points.
 pub const MAX_DIMENSION: i32 = (1 << 30) - 1;
+
+/// The most demerits that a style gives.
+pub const MAX_DEMERITS: u32 = 100_000_000;

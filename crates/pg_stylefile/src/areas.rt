@@ -1,0 +1,48 @@
+//! The rules of areas, and of columns without text.
+ghost use Rattle.std.specs.Prelude.{◌≡◌, IfOk};
+ghost use Rattle.toml.specs.View.{table_view};
+ghost use Rattle.pg_style.specs.Ranges.{IsAreaRule, IsColumnRule};
+ghost use Rattle.pg_stylefile.specs.Faults.{Tells};
+ghost use Rattle.pg_stylefile.specs.Tables.{area_rule_of, column_rule_of};
+
+use crate::fault::{Fault, Place};
+use crate::keys::{Keys, MAX_DEMERITS};
+use pg_style::{AreaRule, ColumnRule};
+use toml::Table;
+
+/// The rules of an area.
+#[tactic(auto, unfolding(crate::specs::Tables::area_rule_of))]
+pub fn read_area<'t>(place: Place, table: &'t Table) -> Result<AreaRule, Fault<'t>>
+    ensures value { Tells (λ rule. rule) result (area_rule_of place (table_view table.now)) }
+    ensures range { IfOk result IsAreaRule }
+{
+    let keys = Keys { place, table };
+    keys.named()?;
+    let count = keys.whole("count", 0, 4)?;
+    let sep = keys.length("sep")?;
+    let gap = keys.length("gap")?;
+    Ok(AreaRule {
+        count: count as u8,
+        sep,
+        gap,
+    })
+}
+
+/// The rules of a column without text.
+#[tactic(auto, unfolding(crate::specs::Tables::column_rule_of))]
+pub fn read_column<'t>(table: &'t Table) -> Result<ColumnRule, Fault<'t>>
+    ensures value { Tells (λ rule. rule) result (column_rule_of (table_view table.now)) }
+    ensures range { IfOk result IsColumnRule }
+{
+    let keys = Keys {
+        place: Place::FloatColumn,
+        table,
+    };
+    keys.named()?;
+    let count = keys.whole("count", 0, 4)?;
+    let demerits = keys.whole("demerits", 1, MAX_DEMERITS)?;
+    Ok(ColumnRule {
+        count: count as u8,
+        demerits,
+    })
+}
