@@ -1,3 +1,4 @@
 pub mod NameLemmas
 pub mod TableLemmas
 pub mod EntryLemmas
+pub mod RunLemmas

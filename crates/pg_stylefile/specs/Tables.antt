@@ -28,15 +28,15 @@ column_rule_of members = do
   demerits ← keyed place.FloatColumn (codes "demerits") (whole_of 1 100000000) members
   Ok (record { count = count; demerits = demerits })
 
--- what a run may add to pages of this height
-abbrev pub extra_of : ℤ → Data → Result ℤ StyleKind
-extra_of height = dimension_of (pos 1 -ℤ height) (pos (2 ^ 30 - 1) -ℤ height)
+-- what a run adds to pages of this height, so that they have a height that is a dimension above 0
+unfoldable pub extra_at : ℤ → Place → Members → Result ℤ StyleFault
+extra_at height place members = keyed place (codes "extra") (dimension_of (pos 1 -ℤ height) (pos (2 ^ 30 - 1) -ℤ height)) members
 
 -- a run of pages of this height
 unfoldable pub run_of : ℤ → ℕ → Members → Result Run StyleFault
 run_of height position members = do
   _ ← named (place.Run position) members
-  extra ← keyed (place.Run position) (codes "extra") (extra_of height) members
+  extra ← extra_at height (place.Run position) members
   demerits ← keyed (place.Run position) (codes "demerits") (whole_of 0 100000000) members
   Ok (record { extra = extra; demerits = demerits })
 
