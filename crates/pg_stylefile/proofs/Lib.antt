@@ -2,3 +2,4 @@ pub mod NameLemmas
 pub mod TableLemmas
 pub mod EntryLemmas
 pub mod RunLemmas
+pub mod ClassLemmas

@@ -61,3 +61,8 @@ Tells view (Err fault) said = said ≡ Err (fault_at fault.kind fault.place faul
 abbrev pub Gives : {A : Type 0} → Result A StyleFault → Result A StyleFault → Type 0
 Gives (Ok style) said = said ≡ Ok style
 Gives (Err fault) said = UnlessMemory fault.kind (said ≡ Err fault)
+
+-- the list with one more element, or a fault with its path, as the definitions say
+abbrev pub Adds : {A : Type 0} → Result (Unit {0}) Fault → Result A StyleFault → A → Type 0
+Adds (Ok x) said new = said ≡ Ok new
+Adds (Err fault) said new = said ≡ Err (fault_at fault.kind fault.place fault.key.now)

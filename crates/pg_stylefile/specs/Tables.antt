@@ -1,15 +1,22 @@
 -- What the tables of a style file say, key by key in the order in which faults are told.
-use Rattle.std.specs.Prelude.{◌≡◌, ◌==◌, ℕ, ◌+◌, ◌^◌, ◌-◌, ℤ, pos, ◌-ℤ◌, if◌then◌else◌, List, [], ◌∷◌, codes, Result, Ok, Err}
+use Rattle.std.specs.Prelude.{◌≡◌, ◌==◌, ℕ, ◌+◌, ◌^◌, ◌-◌, ℤ, pos, ◌-ℤ◌, is_some, if◌then◌else◌, List, [], ◌∷◌, codes, Result, Ok, Err}
 use Rattle.toml.specs.Data.{Data, Members}
 use Rattle.pg_style.specs.declared.style.Run.{Run}
+use Rattle.pg_style.specs.declared.style.Kind.{Kind}
+use Rattle.pg_style.specs.declared.style.Kind.TheVariants as kind
+use Rattle.pg_style.specs.declared.style.Class.{Class}
+use Rattle.pg_style.specs.Classes.{class_in, inserted}
 use Rattle.pg_style.specs.Values.{AreaRuleValue, ColumnRuleValue}
 use Rattle.pg_stylefile.specs.declared.fault.Place.{Place}
 use Rattle.pg_stylefile.specs.declared.fault.Place.TheVariants as place
 use Rattle.pg_stylefile.specs.declared.fault.StyleKind.{StyleKind}
 use Rattle.pg_stylefile.specs.declared.fault.StyleFault.{StyleFault}
-use Rattle.pg_stylefile.specs.Faults.{◌>>=◌}
-use Rattle.pg_stylefile.specs.Values.{whole_of, dimension_of, length_of}
-use Rattle.pg_stylefile.specs.Keys.{keyed, named}
+use Rattle.pg_stylefile.specs.declared.fault.StyleKind.TheVariants.{DuplicateClass}
+use Rattle.pg_stylefile.specs.declared.values.Sort.{Sort}
+use Rattle.pg_stylefile.specs.declared.values.Sort.TheVariants as sort
+use Rattle.pg_stylefile.specs.Faults.{fault_at, ◌>>=◌}
+use Rattle.pg_stylefile.specs.Values.{whole_of, dimension_of, length_of, area_of, sort_of, distance_of}
+use Rattle.pg_stylefile.specs.Keys.{keyed, absent, named}
 
 -- the rules of an area
 unfoldable pub area_rule_of : Place → Members → Result AreaRuleValue StyleFault
@@ -47,3 +54,52 @@ runs_from height position (members ∷ tables) = run_of height position members 
 
 unfoldable pub runs_of : ℤ → List Members → Result (List Run) StyleFault
 runs_of height tables = runs_from height 0 tables
+
+-- a class of notes
+unfoldable pub note_of : Place → Members → Result Kind StyleFault
+note_of place members = do
+  _ ← absent place (codes "area") members
+  _ ← absent place (codes "distance") members
+  skip ← keyed place (codes "skip") length_of members
+  limit ← keyed place (codes "limit") length_of members
+  Ok (kind.Note skip limit)
+
+-- a class of floats
+unfoldable pub float_of : Place → Members → Result Kind StyleFault
+float_of place members = do
+  _ ← absent place (codes "limit") members
+  _ ← absent place (codes "skip") members
+  area ← keyed place (codes "area") area_of members
+  distance ← keyed place (codes "distance") distance_of members
+  Ok (kind.Float area distance)
+
+abbrev pub kind_of : Sort → Place → Members → Result Kind StyleFault
+kind_of sort.Note place members = note_of place members
+kind_of sort.Float place members = float_of place members
+
+-- the class of a table
+unfoldable pub class_of : ℕ → Members → Result Class StyleFault
+class_of position members = do
+  _ ← named (place.Class position) members
+  number ← keyed (place.Class position) (codes "number") (whole_of 0 254) members
+  sort ← keyed (place.Class position) (codes "kind") sort_of members
+  kind ← kind_of sort (place.Class position) members
+  Ok (record { number = number; kind = kind })
+
+-- the earlier classes and one more, whose number none of them has
+abbrev pub with_class : ℕ → List Class → Class → Result (List Class) StyleFault
+with_class position earlier class =
+    if is_some (class_in earlier class.number) then Err (fault_at DuplicateClass (place.Class position) (codes "number")) else Ok (inserted class earlier)
+
+-- the earlier classes and that of the next table
+unfoldable pub with_next : ℕ → Members → List Class → Result (List Class) StyleFault
+with_next position members earlier = class_of position members >>= with_class position earlier
+
+-- the earlier classes and those of these tables, the first of which stands at this position
+abbrev pub classes_from : ℕ → List Class → List Members → Result (List Class) StyleFault
+classes_from position earlier [] = Ok earlier
+classes_from position earlier (members ∷ tables) = with_next position members earlier >>= (λ classes. classes_from (position + 1) classes tables)
+
+-- the classes of these tables, in increasing number
+unfoldable pub classes_of : List Members → Result (List Class) StyleFault
+classes_of tables = classes_from 0 [] tables

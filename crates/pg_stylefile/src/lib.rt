@@ -2,6 +2,7 @@
 #![tactic(auto)]
 
 mod areas;
+mod classes;
 mod distance;
 mod fault;
 mod keys;
