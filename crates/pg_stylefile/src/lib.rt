@@ -7,8 +7,11 @@ mod distance;
 mod fault;
 mod keys;
 mod names;
+mod read;
+mod root;
 mod runs;
 mod tables;
 mod values;
 
 pub use fault::{StyleFault, StyleKind};
+pub use read::read_style;

@@ -1,0 +1,103 @@
+-- The style of a style file, or its first fault.
+use Rattle.std.specs.Prelude.{◌≡◌, ℕ, ◌≤◌, ℤ, if◌then◌else◌, List, length, Result, Ok, Err}
+use Rattle.std.specs.List.{AllByRecursion}
+use Rattle.std.specs.Option.{ok_or}
+use Rattle.std.specs.Str.{is_utf8}
+use Rattle.toml.specs.Data.{Members}
+use Rattle.toml.specs.Parse.{parse_document}
+use Rattle.pg_style.specs.Ranges.{AreRuns, IsHeight, IsAreaRule, IsColumnRule, AreClasses}
+use Rattle.pg_style.specs.Values.{StyleValue}
+use Rattle.pg_stylefile.specs.declared.fault.Place.TheVariants.{Root as AtRoot, Top, Bottom, Wide}
+use Rattle.pg_stylefile.specs.declared.fault.StyleKind.TheVariants.{Toml}
+use Rattle.pg_stylefile.specs.declared.fault.StyleFault.{StyleFault}
+use Rattle.pg_stylefile.specs.declared.root.Head.{Head}
+use Rattle.pg_stylefile.specs.declared.root.Lengths.{Lengths}
+use Rattle.pg_stylefile.specs.declared.root.Limits.{Limits}
+use Rattle.pg_stylefile.specs.declared.read.Root.{Root}
+use Rattle.pg_stylefile.specs.declared.read.Rules.{Rules}
+use Rattle.pg_stylefile.specs.Faults.{bare_fault, ◌>>=◌}
+use Rattle.pg_stylefile.specs.Keys.{named}
+use Rattle.pg_stylefile.specs.Root.{PartsValue, parts_view, head_of, lengths_of, limits_of, parts_of, IsHead, AreLengths, AreLimits, ArePartsFew}
+use Rattle.pg_stylefile.specs.Tables.{runs_of, area_rule_of, column_rule_of, classes_of}
+
+-- the root table, with its tables still to be read
+pub record RootValue : Type 0 where
+  pub head : Head
+  pub lengths : Lengths
+  pub limits : Limits
+  pub parts : PartsValue
+
+abbrev pub root_view : Root → RootValue
+root_view root = record { head = root.head; lengths = root.lengths; limits = root.limits; parts = parts_view root.parts }
+
+unfoldable pub root_of : Members → Result RootValue StyleFault
+root_of members = do
+  _ ← named AtRoot members
+  head ← head_of AtRoot members
+  lengths ← lengths_of AtRoot members
+  limits ← limits_of AtRoot head.version members
+  parts ← parts_of AtRoot head.version members
+  Ok (record { head = head; lengths = lengths; limits = limits; parts = parts })
+
+pub record IsRoot (root : Root) : Type 0 where
+  pub head_in : IsHead root.head
+  pub lengths_in : AreLengths root.lengths
+  pub limits_in : AreLimits root.head.version root.limits
+  pub parts_few : ArePartsFew root.head.version root.parts
+
+-- what the tables within the root table say, in the order of the root table's keys
+unfoldable pub rules_of : ℤ → PartsValue → Result Rules StyleFault
+rules_of height parts = do
+  runs ← runs_of height parts.runs
+  top ← area_rule_of Top parts.top
+  bottom ← area_rule_of Bottom parts.bottom
+  wide ← area_rule_of Wide parts.wide
+  float_column ← column_rule_of parts.float_column
+  classes ← classes_of parts.classes
+  Ok (record { runs = runs; top = top; bottom = bottom; wide = wide; float_column = float_column; classes = classes })
+
+pub record AreRules (version : ℕ) (height : ℤ) (rules : Rules) : Type 0 where
+  pub runs_in : AreRuns rules.runs
+  pub heights_in : AllByRecursion (IsHeight height) rules.runs
+  pub top_in : IsAreaRule rules.top
+  pub bottom_in : IsAreaRule rules.bottom
+  pub wide_in : IsAreaRule rules.wide
+  pub float_column_in : IsColumnRule rules.float_column
+  pub classes_in : AreClasses rules.classes
+  pub few_classes : version ≡ 1 → length rules.classes ≤ 4
+
+abbrev pub style_with : RootValue → Rules → StyleValue
+style_with root rules = record {
+  version = root.head.version;
+  columns = root.head.columns;
+  first = root.head.first;
+  height = root.lengths.height;
+  topskip = root.lengths.topskip;
+  maxdepth = root.lengths.maxdepth;
+  min_text = root.lengths.min_text;
+  tolerance = root.limits.tolerance;
+  line = root.limits.line;
+  max_looseness = root.limits.max_looseness;
+  runs = rules.runs;
+  top = rules.top;
+  bottom = rules.bottom;
+  wide = rules.wide;
+  float_column = rules.float_column;
+  classes = rules.classes;
+  fitness = root.limits.fitness;
+}
+
+-- the style of a root table
+unfoldable pub style_of : Members → Result StyleValue StyleFault
+style_of members = do
+  root ← root_of members
+  rules ← rules_of root.lengths.height root.parts
+  Ok (style_with root rules)
+
+-- the root table of a text
+abbrev pub table_of_text : List ℕ → Result Members StyleFault
+table_of_text text = if is_utf8 text then ok_or (parse_document text) (bare_fault Toml) else Err (bare_fault Toml)
+
+-- the style that a text says, or its first fault
+unfoldable pub style_of_text : List ℕ → Result StyleValue StyleFault
+style_of_text text = table_of_text text >>= style_of
