@@ -1,14 +1,12 @@
 -- The classes of a style file, one after another.
-use Rattle.std.proofs.Common.{◌≡◌, ◌∙◌, refl, ap, sym, arith, ℕ, ◌+◌, ◌<◌, ◌≤◌, zero, suc, Bool, true, false, is_some, drop, List, [], ◌∷◌, length, Option, Some, None, Result, Ok, Err}
+use Rattle.std.proofs.Common.{◌≡◌, ◌∙◌, refl, arith, ℕ, ◌+◌, Bool, true, false, is_some, drop, List, [], ◌∷◌, length, Option, Some, None, Result, Ok, Err}
 use Rattle.std.specs.Prelude.{nat_lt, if◌then◌else◌}
 use Rattle.std.specs.List.{slice_get}
-use Rattle.std.proofs.lemmas.List.{drop_all}
 use Rattle.toml.specs.Data.{Members}
 use Rattle.pg_style.specs.declared.style.Class.{Class}
-use Rattle.pg_style.specs.Classes.{class_in, inserted}
+use Rattle.pg_style.specs.Classes.{inserted}
 use Rattle.pg_stylefile.specs.declared.fault.StyleFault.{StyleFault}
-use Rattle.pg_stylefile.specs.Faults.{◌>>=◌}
-use Rattle.pg_stylefile.specs.Tables.{class_of, with_next, classes_from, classes_of}
+use Rattle.pg_stylefile.specs.Tables.{with_next, classes_from}
 use Rattle.pg_stylefile.proofs.RunLemmas.{drop_at}
 
 pub none_there : (found : Option Class) → is_some found ≡ false → found ≡ None

@@ -3,3 +3,4 @@ pub mod TableLemmas
 pub mod EntryLemmas
 pub mod RunLemmas
 pub mod ClassLemmas
+pub mod TextLemmas

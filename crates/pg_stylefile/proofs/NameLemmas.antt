@@ -1,5 +1,5 @@
 -- The least key that is not among the names.
-use Rattle.std.proofs.Common.{◌≡◌, ◌∙◌, refl, ap, sym, ℕ, Bool, true, false, ◌||◌, cond, List, [], ◌∷◌, map, Option, Some, None, String, Global, Bor, Ordering, Less, Equal, Greater, string_bytes, nat_cmp, BTreeMap}
+use Rattle.std.proofs.Common.{◌≡◌, ◌∙◌, refl, ap, sym, ℕ, Bool, true, false, ◌||◌, List, [], ◌∷◌, map, Option, Some, None, String, Global, Bor, Less, string_bytes, nat_cmp}
 use Rattle.std.specs.Prelude.{if◌then◌else◌}
 use Rattle.std.specs.List.{AllByRecursion, list_any}
 use Rattle.std.specs.List.Sorted.{IsStrictlySortedBy}

@@ -1,5 +1,5 @@
 -- The runs of a style file, one after another.
-use Rattle.std.proofs.Common.{◌≡◌, ◌∙◌, refl, ap, sym, arith, ℕ, ◌+◌, ◌<◌, ◌≤◌, zero, suc, drop, List, [], ◌∷◌, ◌++◌, length, Option, Some, None, Result, Ok, Err, ℤ, append_assoc}
+use Rattle.std.proofs.Common.{◌≡◌, ◌∙◌, refl, ap, sym, arith, ℕ, ◌+◌, ◌≤◌, zero, suc, drop, List, [], ◌∷◌, ◌++◌, length, Some, Result, Ok, Err, ℤ, append_assoc}
 use Rattle.std.specs.List.{AllByRecursion, slice_get}
 use Rattle.std.proofs.lemmas.List.{drop_all, append-nil}
 use Rattle.toml.specs.Data.{Members}

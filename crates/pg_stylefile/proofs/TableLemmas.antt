@@ -4,7 +4,7 @@ use Rattle.std.specs.Option.{ok_or}
 use Rattle.std.specs.List.{list_all, slice_get}
 use Rattle.toml.specs.declared.value.Value.{Value}
 use Rattle.toml.proofs.Views.{items_view-drop}
-use Rattle.toml.specs.Data.{Data, Items, Members, as_table}
+use Rattle.toml.specs.Data.{Members, as_table}
 use Rattle.toml.specs.View.{view, items_view}
 use Rattle.pg_stylefile.specs.declared.fault.StyleKind.{StyleKind}
 use Rattle.pg_stylefile.specs.declared.fault.StyleKind.TheVariants.{WrongKind}

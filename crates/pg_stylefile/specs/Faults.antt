@@ -1,5 +1,5 @@
 -- The faults of a style file.
-use Rattle.std.specs.Prelude.{◌≡◌, ℕ, List, [], ◌∷◌, ◌++◌, codes, decimal, Result, Ok, Err}
+use Rattle.std.specs.Prelude.{◌≡◌, ℕ, List, [], ◌++◌, codes, decimal, Result, Ok, Err}
 use Rattle.pg_stylefile.specs.declared.fault.StyleKind.{StyleKind}
 use Rattle.pg_stylefile.specs.declared.fault.StyleKind.TheVariants.{Toml, MissingKey, UnknownKey, WrongKind, OutOfRange, Decreasing, DuplicateClass, NoRun, Memory}
 use Rattle.pg_stylefile.specs.declared.fault.StyleFault.{StyleFault}
@@ -57,10 +57,10 @@ abbrev pub Tells : {A B : Type 0} → (A → B) → Result A Fault → Result B 
 Tells view (Ok x) said = said ≡ Ok (view x)
 Tells view (Err fault) said = said ≡ Err (fault_at fault.kind fault.place fault.key.now)
 
--- the style or the fault that the definitions say, or none for want of memory
-abbrev pub Gives : {A : Type 0} → Result A StyleFault → Result A StyleFault → Type 0
-Gives (Ok style) said = said ≡ Ok style
-Gives (Err fault) said = UnlessMemory fault.kind (said ≡ Err fault)
+-- the value or the fault that the definitions say, unless there was no memory
+abbrev pub Gives : {A B : Type 0} → (A → B) → Result A StyleFault → Result B StyleFault → Type 0
+Gives view (Ok x) said = said ≡ Ok (view x)
+Gives view (Err fault) said = UnlessMemory fault.kind (said ≡ Err fault)
 
 -- the list with one more element, or a fault with its path, as the definitions say
 abbrev pub Adds : {A : Type 0} → Result (Unit {0}) Fault → Result A StyleFault → A → Type 0

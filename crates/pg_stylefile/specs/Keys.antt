@@ -1,5 +1,5 @@
 -- What the keys of a table say.
-use Rattle.std.specs.Prelude.{◌≡◌, ◌==◌, ℕ, ℤ, is_some, if◌then◌else◌, List, [], codes, Option, Some, None, Result, Ok, Err}
+use Rattle.std.specs.Prelude.{ℕ, is_some, if◌then◌else◌, List, [], Option, Some, None, Result, Ok, Err}
 use Rattle.std.specs.Option.{ok_or}
 use Rattle.toml.specs.Data.{Data, Members, get_member}
 use Rattle.pg_stylefile.specs.declared.fault.Place.{Place}

@@ -1,10 +1,10 @@
 -- The keys that the tables of a style file name.
-use Rattle.std.specs.Prelude.{ℕ, Bool, if◌then◌else◌, List, [], ◌∷◌, codes, Option, Some, None, map}
+use Rattle.std.specs.Prelude.{ℕ, Bool, if◌then◌else◌, List, [], ◌∷◌, codes, Option, Some, None}
 use Rattle.std.specs.List.{list_any}
 use Rattle.std.specs.Str.{bytes_eq}
 use Rattle.std.specs.Ordering.{nat_cmp, is_lt}
 use Rattle.std.specs.Cmp.Lexicographic.{slice_cmp}
-use Rattle.toml.specs.Data.{Data, Members, no_members, member}
+use Rattle.toml.specs.Data.{Members, no_members, member}
 use Rattle.pg_stylefile.specs.declared.fault.Place.{Place}
 use Rattle.pg_stylefile.specs.declared.fault.Place.TheVariants.{Root, Top, Bottom, Wide, FloatColumn, Run, Class}
 

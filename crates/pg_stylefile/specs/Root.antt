@@ -1,5 +1,5 @@
 -- What the root table of a style file says, key by key in the order in which faults are told.
-use Rattle.std.specs.Prelude.{◌≡◌, ◌==◌, ℕ, ◌^◌, ◌-◌, ◌≤◌, nat_le, ℤ, pos, ◌≤ℤ◌, if◌then◌else◌, List, [], length, codes, Result, Ok, Err}
+use Rattle.std.specs.Prelude.{◌≡◌, ◌==◌, ℕ, ◌^◌, ◌-◌, ◌≤◌, nat_le, pos, ◌≤ℤ◌, if◌then◌else◌, List, length, codes, Result, Ok, Err}
 use Rattle.toml.specs.Data.{Members}
 use Rattle.toml.specs.View.{table_view}
 use Rattle.pg_style.specs.Ranges.{IsScaled, IsLength, AreDemerits}

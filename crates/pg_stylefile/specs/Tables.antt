@@ -1,6 +1,6 @@
 -- What the tables of a style file say, key by key in the order in which faults are told.
-use Rattle.std.specs.Prelude.{◌≡◌, ◌==◌, ℕ, ◌+◌, ◌^◌, ◌-◌, ℤ, pos, ◌-ℤ◌, is_some, if◌then◌else◌, List, [], ◌∷◌, codes, Result, Ok, Err}
-use Rattle.toml.specs.Data.{Data, Members}
+use Rattle.std.specs.Prelude.{ℕ, ◌+◌, ◌^◌, ◌-◌, ℤ, pos, ◌-ℤ◌, is_some, if◌then◌else◌, List, [], ◌∷◌, codes, Result, Ok, Err}
+use Rattle.toml.specs.Data.{Members}
 use Rattle.pg_style.specs.declared.style.Run.{Run}
 use Rattle.pg_style.specs.declared.style.Kind.{Kind}
 use Rattle.pg_style.specs.declared.style.Kind.TheVariants as kind
@@ -9,7 +9,6 @@ use Rattle.pg_style.specs.Classes.{class_in, inserted}
 use Rattle.pg_style.specs.Values.{AreaRuleValue, ColumnRuleValue}
 use Rattle.pg_stylefile.specs.declared.fault.Place.{Place}
 use Rattle.pg_stylefile.specs.declared.fault.Place.TheVariants as place
-use Rattle.pg_stylefile.specs.declared.fault.StyleKind.{StyleKind}
 use Rattle.pg_stylefile.specs.declared.fault.StyleFault.{StyleFault}
 use Rattle.pg_stylefile.specs.declared.fault.StyleKind.TheVariants.{DuplicateClass}
 use Rattle.pg_stylefile.specs.declared.values.Sort.{Sort}

@@ -1,5 +1,5 @@
 -- What one value of a style file says, or the kind of its fault.
-use Rattle.std.specs.Prelude.{Bool, true, is_some, ◌≡◌, ◌==◌, ◌&&◌, ℕ, ◌-◌, ◌^◌, ℤ, pos, negsuc, nat_le, int_le, if◌then◌else◌, List, [], ◌∷◌, length, codes, Option, Some, None, Result, Ok, Err}
+use Rattle.std.specs.Prelude.{Bool, true, is_some, ◌≡◌, ◌==◌, ◌&&◌, ℕ, ◌-◌, ◌^◌, ℤ, pos, negsuc, nat_le, int_le, if◌then◌else◌, List, [], ◌∷◌, length, codes, Result, Ok, Err}
 use Rattle.std.specs.Option.{ok_or}
 use Rattle.std.specs.Str.{bytes_eq}
 use Rattle.toml.specs.Data.{Data, Items, no_items, item, Members, as_integer, as_str, as_array, as_table}

@@ -77,7 +77,12 @@ fn has_number(classes: &Classes, number: u8) -> bool
 
 // Reads one more class, whose number no earlier class may have.
 #[tactic(auto, using(crate::proofs::ClassLemmas::none_there, crate::proofs::ClassLemmas::length_inserted), unfolding(crate::specs::Tables::with_next))]
-fn add_class<'t>(alloc: Global, position: usize, table: &'t Table, classes: &mut Classes) -> Result<(), Fault<'t>>
+fn add_class<'t>(
+    alloc: Global,
+    position: usize,
+    table: &'t Table,
+    classes: &mut Classes,
+) -> Result<(), Fault<'t>>
     requires { length classes.old < 8 }
     ensures value { Adds result (with_next position (table_view table.now) classes.old) classes.new }
     ensures count { OnOk result (length classes.new ≡ length classes.old + 1) }

@@ -12,7 +12,6 @@ use smallvec::SmallVec;
 use std::alloc::Global;
 use toml::Value;
 
-
 fn are_whole_numbers(values: &[Value]) -> bool
     ensures { result ≡ are_whole (items_view values.now) }
 {

@@ -4,7 +4,7 @@ ghost use Rattle.toml.specs.View.{table_view};
 ghost use Rattle.pg_style.specs.Ranges.{IsStyle};
 ghost use Rattle.pg_stylefile.specs.Faults.{Tells, Gives, bare_fault};
 ghost use Rattle.pg_stylefile.specs.Root.{IsHead, AreLengths, AreLimits, ArePartsFew, parts_view};
-ghost use Rattle.pg_stylefile.specs.Style.{AreRules, rules_of, root_of, root_view, IsRoot, style_with, style_of, style_of_text};
+ghost use Rattle.pg_stylefile.specs.Style.{AreRules, rules_of, root_of, root_view, IsRoot, style_with, style_of, table_of_text, style_of_text};
 
 use crate::areas::{read_area, read_column};
 use crate::classes::read_classes;
@@ -59,7 +59,12 @@ fn read_root<'t>(table: &'t Table) -> Result<Root<'t>, Fault<'t>>
 }
 
 #[tactic(auto, unfolding(crate::specs::Style::rules_of))]
-fn read_rules<'t>(alloc: Global, version: u8, height: i32, parts: &Parts<'t>) -> Result<Rules, Fault<'t>>
+fn read_rules<'t>(
+    alloc: Global,
+    version: u8,
+    height: i32,
+    parts: &Parts<'t>,
+) -> Result<Rules, Fault<'t>>
     requires some { pos 1 ≤ℤ height }
     requires limit { height <ℤ pos (2 ^ 30) }
     requires few { ArePartsFew version parts.now }
@@ -118,27 +123,32 @@ fn read_table<'t>(alloc: Global, table: &'t Table) -> Result<Style, Fault<'t>>
     Ok(style_from(&root, rules))
 }
 
-/// Reads a style file. The first fault in a fixed order is told: the text is no TOML, then the
-/// tables from the root on, each key by key. Want of memory alone is told in place of that.
-#[tactic(auto, unfolding(crate::specs::Style::style_of_text))]
-pub fn read_style(alloc: Global, text: &[u8]) -> Result<Style, StyleFault>
-    ensures { Gives result (style_of_text text.now) }
+#[tactic(auto, using(crate::proofs::TextLemmas::not_utf8, crate::proofs::TextLemmas::read_as, crate::proofs::TextLemmas::refused_as))]
+fn parse(alloc: Global, text: &[u8]) -> Result<Table, StyleFault>
+    ensures { Gives (λ table. table_view table) result (table_of_text text.now) }
 {
     let Ok(text) = std::str::from_utf8(text) else {
         return Err(StyleFault::bare(alloc, StyleKind::Toml));
     };
-    match toml::table_from_str(alloc, text) {
-        Ok(table) => match read_table(alloc, &table) {
-            Ok(style) => Ok(style),
-            Err(fault) => Err(fault.told(alloc)),
-        },
-        Err(error) => Err(StyleFault::bare(
-            alloc,
-            if error.is_memory() {
-                StyleKind::Memory
-            } else {
-                StyleKind::Toml
-            },
-        )),
+    toml::table_from_str(alloc, text).map_err(|error| {
+        let kind = if error.is_memory() {
+            StyleKind::Memory
+        } else {
+            StyleKind::Toml
+        };
+        StyleFault::bare(alloc, kind)
+    })
+}
+
+/// Reads a style file. The first fault in a fixed order is told: the text is no TOML, then the
+/// tables from the root on, each key by key. Want of memory alone is told in place of that.
+#[tactic(auto, unfolding(crate::specs::Style::style_of_text))]
+pub fn read_style(alloc: Global, text: &[u8]) -> Result<Style, StyleFault>
+    ensures { Gives (λ style. style) result (style_of_text text.now) }
+{
+    let table = parse(alloc, text)?;
+    match read_table(alloc, &table) {
+        Ok(style) => Ok(style),
+        Err(fault) => Err(fault.told(alloc)),
     }
 }

@@ -19,7 +19,6 @@ loop-key-init c =
       sorted = subst (λ (keys : List (String Global)). IsStrictlySortedBy string_cmp keys) (sym start) c.keys-key-items.ensures.ordered;
     }
 
-
 pub returns-then-not-has_name : goal.returns-then-not-has_name
 returns-then-not-has_name c =
     found_here (map {A = Bor (List ℕ)} {B = List ℕ} (λ name. name.now) c.args.names.now) (keys_in (table_view c.args.table.now)) c.loop-key.key-iterator c.next.new.self c.in-Some.key.now
@@ -30,11 +29,11 @@ returns-then-not-has_name c =
 pub loop-key-preserved : goal.loop-key-preserved
 loop-key-preserved c =
     let rest : c.loop-key.key-iterator ≡ c.in-Some.key.now ∷ c.next.new.self =
-        rest_more (deref {X = String Global}) c.loop-key.key-iterator c.next.new.self c.next.result c.in-Some.key c.in-Some.is c.next.ensures.steps in
+    rest_more (deref {X = String Global}) c.loop-key.key-iterator c.next.new.self c.next.result c.in-Some.key c.in-Some.is c.next.ensures.steps in
     record {
       next = tt;
       ends = tt;
       same = passed_on (map {A = Bor (List ℕ)} {B = List ℕ} (λ name. name.now) c.args.names.now) (keys_in (table_view c.args.table.now)) c.loop-key.key-iterator c.next.new.self c.in-Some.key.now
-        c.as_str.result.now c.has_name.result rest c.loop-key.invariant.same c.has_name.ensures c.if-not-has_name.false c.as_str.ensures.value;
+          c.as_str.result.now c.has_name.result rest c.loop-key.invariant.same c.has_name.ensures c.if-not-has_name.false c.as_str.ensures.value;
       sorted = sorted_after c.loop-key.key-iterator c.next.new.self c.in-Some.key.now rest c.loop-key.invariant.sorted;
     }

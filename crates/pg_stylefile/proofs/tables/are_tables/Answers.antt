@@ -1,6 +1,4 @@
-use Rattle.std.proofs.Common.{◌≡◌, ◌∙◌, sym, arith, ◌&&◌, ◌+◌, ◌<◌, is_ok, drop, length}
-use Rattle.toml.specs.View.{items_view}
-use Rattle.pg_stylefile.specs.Values.{each_table}
+use Rattle.std.proofs.Common.{◌∙◌, sym, arith}
 use Rattle.pg_stylefile.proofs.TableLemmas.{table_turn}
 use Rattle.pg_stylefile.proofs.tables.are_tables.Goals as goal
 

@@ -1,4 +1,3 @@
-use Rattle.std.proofs.Common.{length}
 use Rattle.toml.specs.View.{table_view}
 use Rattle.pg_stylefile.proofs.TableLemmas.{table_there, table_is}
 use Rattle.pg_stylefile.proofs.tables.element.Goals as goal
