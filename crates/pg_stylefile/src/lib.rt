@@ -15,3 +15,6 @@ mod values;
 
 pub use fault::{StyleFault, StyleKind};
 pub use read::read_style;
+
+#[cfg(test)]
+mod tests;
