@@ -40,8 +40,8 @@ first = "right"           # page 1 is a right page; then a left and a right page
 height = "550.0"          # of a column
 topskip = "10.0"          # from the top to the baseline of the first line, as \topskip
 maxdepth = "4.0"          # how far the last line may hang below, as \maxdepth
-min_text = "72.0"         # least text beside floats
-tolerance = 2000          # the worst badness of a column
+min_text = "72.0"         # least room for text beside floats
+tolerance = 2000          # the worst badness of a column, unless its end is forced
 line = 10                 # demerits that each column starts from
 max_looseness = 1         # paragraphs may be set one line longer or shorter
 
@@ -78,7 +78,7 @@ distance = [0, 500, 2000, 8000]   # demerits by how many pages a figure waits
 number = 254
 kind = "note"
 skip = "9.0"              # above the first note of a column
-limit = "200.0"           # at most this much of a column is notes
+limit = "200.0"           # at most so much of a column is notes
 "#;
 
 pub const JOURNAL: &str =
