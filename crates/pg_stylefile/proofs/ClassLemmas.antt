@@ -1,5 +1,6 @@
 -- The classes of a style file, one after another.
-use Rattle.std.proofs.Common.{◌≡◌, ◌∙◌, refl, arith, ℕ, ◌+◌, Bool, true, false, is_some, drop, List, [], ◌∷◌, length, Option, Some, None, Result, Ok, Err}
+use Rattle.std.proofs.Common.{◌≡◌, ◌∙◌, refl, arith, ℕ, ◌+◌, Bool, true, false, is_some, drop, List, [], ◌∷◌, length}
+use Rattle.std.proofs.Common.{Option, Some, None, Result, Ok, Err}
 use Rattle.std.specs.Prelude.{nat_lt, if◌then◌else◌}
 use Rattle.std.specs.List.{slice_get}
 use Rattle.toml.specs.Data.{Members}
@@ -13,22 +14,28 @@ pub none_there : (found : Option Class) → is_some found ≡ false → found �
 none_there None e = refl
 none_there (Some class) e = absurd (cc)
 
-length_step : (b : Bool) (first class : Class) (classes : List Class) → length (inserted class classes) ≡ length classes + 1
+length_step : (b : Bool) (first class : Class) (classes : List Class)
+    → length (inserted class classes) ≡ length classes + 1
     → length (if b then first ∷ inserted class classes else class ∷ first ∷ classes) ≡ length (first ∷ classes) + 1
 length_step true first class classes e = omega (arith, e)
 length_step false first class classes e = omega arith
 
 pub length_inserted : (class : Class) (classes : List Class) → length (inserted class classes) ≡ length classes + 1
 length_inserted class [] = refl
-length_inserted class (first ∷ classes) = length_step (nat_lt first.number class.number) first class classes (length_inserted class classes)
+length_inserted class (first ∷ classes) =
+    length_step (nat_lt first.number class.number) first class classes (length_inserted class classes)
 
 -- one more class is read
-pub class_read : (position : ℕ) (tables : List Members) (said : Members) (earlier classes : List Class) (all : Result (List Class) StyleFault)
-    → all ≡ classes_from position earlier (drop position tables) → slice_get tables position ≡ Some said → with_next position said earlier ≡ Ok classes
+pub class_read : (position : ℕ) (tables : List Members) (said : Members) (earlier classes : List Class)
+    (all : Result (List Class) StyleFault)
+    → all ≡ classes_from position earlier (drop position tables) → slice_get tables position ≡ Some said
+    → with_next position said earlier ≡ Ok classes
     → all ≡ classes_from (position + 1) classes (drop (position + 1) tables)
 class_read position tables said earlier classes all same there is = same ∙ rw (drop_at tables position said there, is)
 
 -- a class has a fault
-pub class_refused : (position : ℕ) (tables : List Members) (said : Members) (earlier : List Class) (fault : StyleFault) (all : Result (List Class) StyleFault)
-    → all ≡ classes_from position earlier (drop position tables) → slice_get tables position ≡ Some said → with_next position said earlier ≡ Err fault → all ≡ Err fault
+pub class_refused : (position : ℕ) (tables : List Members) (said : Members) (earlier : List Class)
+    (fault : StyleFault) (all : Result (List Class) StyleFault)
+    → all ≡ classes_from position earlier (drop position tables) → slice_get tables position ≡ Some said
+    → with_next position said earlier ≡ Err fault → all ≡ Err fault
 class_refused position tables said earlier fault all same there is = same ∙ rw (drop_at tables position said there, is)

@@ -1,5 +1,6 @@
 -- The entries of a distance table.
-use Rattle.std.proofs.Common.{◌≡◌, ◌∙◌, refl, ap, sym, arith, ℕ, ◌+◌, ◌<◌, Bool, true, false, ◌&&◌, is_some, get_or, drop, List, [], ◌∷◌, ◌++◌, length, Option, Some, None, Result, Ok, Err, ℤ, pos, negsuc}
+use Rattle.std.proofs.Common.{◌≡◌, ◌∙◌, refl, ap, sym, arith, ℕ, ◌+◌, ◌<◌, Bool, true, false, ◌&&◌, is_some, get_or}
+use Rattle.std.proofs.Common.{drop, List, [], ◌∷◌, ◌++◌, length, Option, Some, None, Result, Ok, Err, ℤ, pos, negsuc}
 use Rattle.std.specs.Prelude.{nat_le, nat_lt, if◌then◌else◌}
 use Rattle.std.specs.Option.{ok_or}
 use Rattle.std.specs.List.{AllByRecursion, list_all}
@@ -15,24 +16,29 @@ use Rattle.pg_stylefile.specs.Faults.{◌>>=◌}
 use Rattle.pg_stylefile.specs.Values.{are_whole, whole_in, whole_of, each_entry, made_table, entries_of}
 
 -- a turn of the loop over the elements
-pub whole_turn : (values : List Value) (i : ℕ) (value : Value) (b : Bool) → i < length values → value ≡ get_or values i value → b ≡ is_some (as_integer (view value))
+pub whole_turn : (values : List Value) (i : ℕ) (value : Value) (b : Bool) → i < length values
+    → value ≡ get_or values i value → b ≡ is_some (as_integer (view value))
     → are_whole (items_view (drop i values)) ≡ (b && are_whole (items_view (drop (i + 1) values)))
 whole_turn values i value b within is test =
     rw (items_view-drop values i value within)
-    (ap (λ (x : Bool). x && are_whole (items_view (drop (i + 1) values))) (ap (λ (v : Value). is_some (as_integer (view v))) (sym is) ∙ sym test))
+    (ap (λ (x : Bool). x && are_whole (items_view (drop (i + 1) values)))
+    (ap (λ (v : Value). is_some (as_integer (view v))) (sym is) ∙ sym test))
 
 -- the entries read so far, and the others
 abbrev pub behind : List ℕ → Result (List ℕ) StyleKind → Result (List ℕ) StyleKind
 behind read rest = rest >>= (λ (entries : List ℕ). Ok (read ++ entries))
 
-all_within : (entries : List ℕ) → AllByRecursion AreDemerits entries → list_all (λ (n : ℕ). nat_le n 100000000) entries ≡ true
+all_within : (entries : List ℕ) → AllByRecursion AreDemerits entries
+    → list_all (λ (n : ℕ). nat_le n 100000000) entries ≡ true
 all_within [] all = refl
-all_within (n ∷ entries) all = let here : nat_le n 100000000 ≡ true = grind (arith, nat_tests, all.0) in rw (here, all_within entries all.1)
+all_within (n ∷ entries) all = let here : nat_le n 100000000 ≡ true = grind (arith, nat_tests, all.0) in
+    rw (here, all_within entries all.1)
 
 all_rise : (entries : List ℕ) → Rises entries → rises entries ≡ true
 all_rise [] up = refl
 all_rise (x ∷ []) up = refl
-all_rise (x ∷ y ∷ entries) up = let here : nat_le x y ≡ true = grind (arith, nat_tests, up.0) in rw (here, all_rise (y ∷ entries) up.1)
+all_rise (x ∷ y ∷ entries) up = let here : nat_le x y ≡ true = grind (arith, nat_tests, up.0) in
+    rw (here, all_rise (y ∷ entries) up.1)
 
 in_range : (entries : List ℕ) → IsDistance entries → has_table_range entries ≡ true
 in_range entries is =
@@ -75,13 +81,16 @@ both true true e = (refl, refl)
 both true false e = absurd (cc)
 both false b e = absurd (cc)
 
-counted : (values : List Value) → are_whole (items_view values) ≡ true → Counted (length values) (each_entry (items_view values))
+counted : (values : List Value) → are_whole (items_view values) ≡ true → Counted (length values)
+    (each_entry (items_view values))
 unfolding whole_of
 counted [] whole = refl
 counted (value ∷ values) whole =
     let parts = both (is_some (as_integer (view value))) (are_whole (items_view values)) whole in
     let more : length values + 1 ≡ length (value ∷ values) = omega arith in
-    rw (← more) (counted_step (whole_of 0 100000000 (view value)) (each_entry (items_view values)) (length values) (whole_fails (as_integer (view value)) parts.0) (counted values parts.1))
+    rw (← more)
+    (counted_step (whole_of 0 100000000 (view value)) (each_entry (items_view values)) (length values)
+    (whole_fails (as_integer (view value)) parts.0) (counted values parts.1))
 
 false_inside : (a b c : Bool) → b ≡ false → (a && (b && c)) ≡ false
 false_inside true b c e = rw e
@@ -91,10 +100,12 @@ none_made : (n : ℕ) (read : Result (List ℕ) StyleKind) → Counted n read �
 unfolding made_table
 none_made n (Ok entries) counted many =
     let long : nat_le (length entries) 9 ≡ false = grind (arith, nat_tests, counted) in
-    rw (false_inside (nat_lt 0 (length entries)) (nat_le (length entries) 9) (list_all (λ (n : ℕ). nat_le n 100000000) entries) long)
+    rw (false_inside (nat_lt 0 (length entries)) (nat_le (length entries) 9)
+    (list_all (λ (n : ℕ). nat_le n 100000000) entries) long)
 none_made n (Err kind) counted many = rw counted
 
 -- more than nine entries are no table
-pub too_many : (values : List Value) → are_whole (items_view values) ≡ true → 9 < length values → entries_of (items_view values) ≡ Err OutOfRange
+pub too_many : (values : List Value) → are_whole (items_view values) ≡ true → 9 < length values
+    → entries_of (items_view values) ≡ Err OutOfRange
 unfolding entries_of
 too_many values whole many = none_made (length values) (each_entry (items_view values)) (counted values whole) many

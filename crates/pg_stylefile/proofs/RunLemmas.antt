@@ -1,5 +1,6 @@
 -- The runs of a style file, one after another.
-use Rattle.std.proofs.Common.{◌≡◌, ◌∙◌, refl, ap, sym, arith, ℕ, ◌+◌, ◌≤◌, zero, suc, drop, List, [], ◌∷◌, ◌++◌, length, Some, Result, Ok, Err, ℤ, append_assoc}
+use Rattle.std.proofs.Common.{◌≡◌, ◌∙◌, refl, ap, sym, arith, ℕ, ◌+◌, ◌≤◌, zero, suc, drop, List, [], ◌∷◌, ◌++◌}
+use Rattle.std.proofs.Common.{length, Some, Result, Ok, Err, ℤ, append_assoc}
 use Rattle.std.specs.List.{AllByRecursion, slice_get}
 use Rattle.std.proofs.lemmas.List.{drop_all, append-nil}
 use Rattle.toml.specs.Data.{Members}
@@ -17,33 +18,43 @@ drop_at (y ∷ ys) (suc i) x e = let next : suc i + 1 ≡ suc (i + 1) = omega ar
 abbrev pub behind : List Run → Result (List Run) StyleFault → Result (List Run) StyleFault
 behind read rest = rest >>= (λ (runs : List Run). Ok (read ++ runs))
 
-behind_one : (read : List Run) (run : Run) (rest : Result (List Run) StyleFault) → behind read (rest >>= (λ (runs : List Run). Ok (run ∷ runs))) ≡ behind (read ++ run ∷ []) rest
+behind_one : (read : List Run) (run : Run) (rest : Result (List Run) StyleFault)
+    → behind read (rest >>= (λ (runs : List Run). Ok (run ∷ runs))) ≡ behind (read ++ run ∷ []) rest
 behind_one read run (Ok runs) = ap (λ (all : List Run). Ok all) (sym (append_assoc read (run ∷ []) runs))
 behind_one read run (Err fault) = refl
 
 -- one more run is read
-pub run_read : (height : ℤ) (position : ℕ) (tables : List Members) (members : Members) (run : Run) (read : List Run) (all : Result (List Run) StyleFault)
-    → all ≡ behind read (runs_from height position (drop position tables)) → slice_get tables position ≡ Some members → run_of height position members ≡ Ok run
+pub run_read : (height : ℤ) (position : ℕ) (tables : List Members) (members : Members) (run : Run) (read : List Run)
+    (all : Result (List Run) StyleFault)
+    → all ≡ behind read (runs_from height position (drop position tables))
+    → slice_get tables position ≡ Some members → run_of height position members ≡ Ok run
     → all ≡ behind (read ++ run ∷ []) (runs_from height (position + 1) (drop (position + 1) tables))
 run_read height position tables members run read all same there is =
-    same ∙ rw (drop_at tables position members there, is) (behind_one read run (runs_from height (position + 1) (drop (position + 1) tables)))
+    same ∙ rw (drop_at tables position members there, is)
+    (behind_one read run (runs_from height (position + 1) (drop (position + 1) tables)))
 
 -- a run has a fault
-pub run_refused : (height : ℤ) (position : ℕ) (tables : List Members) (members : Members) (fault : StyleFault) (read : List Run) (all : Result (List Run) StyleFault)
-    → all ≡ behind read (runs_from height position (drop position tables)) → slice_get tables position ≡ Some members → run_of height position members ≡ Err fault → all ≡ Err fault
-run_refused height position tables members fault read all same there is = same ∙ rw (drop_at tables position members there, is)
+pub run_refused : (height : ℤ) (position : ℕ) (tables : List Members) (members : Members) (fault : StyleFault)
+    (read : List Run) (all : Result (List Run) StyleFault)
+    → all ≡ behind read (runs_from height position (drop position tables))
+    → slice_get tables position ≡ Some members → run_of height position members ≡ Err fault → all ≡ Err fault
+run_refused height position tables members fault read all same there is = same
+    ∙ rw (drop_at tables position members there, is)
 
 -- every run is read
-pub runs_end : (height : ℤ) (position : ℕ) (tables : List Members) (read : List Run) (all : Result (List Run) StyleFault)
+pub runs_end : (height : ℤ) (position : ℕ) (tables : List Members) (read : List Run)
+    (all : Result (List Run) StyleFault)
     → all ≡ behind read (runs_from height position (drop position tables)) → length tables ≤ position → all ≡ Ok read
 runs_end height position tables read all same past = same ∙ rw (drop_all position tables past, append-nil read)
 
-pub all_and : (P : Run → Type 0) (runs : List Run) (run : Run) → AllByRecursion P runs → P run → AllByRecursion P (runs ++ run ∷ [])
+pub all_and : (P : Run → Type 0) (runs : List Run) (run : Run) → AllByRecursion P runs → P run
+    → AllByRecursion P (runs ++ run ∷ [])
 all_and P [] run all one = (one, tt)
 all_and P (first ∷ runs) run all one = (all.0, all_and P runs run all.1 one)
 
 -- the first run has a fault
-pub first_refused : (height : ℤ) (tables : List Members) (said : Members) (fault : StyleFault) → slice_get tables 0 ≡ Some said → run_of height 0 said ≡ Err fault
+pub first_refused : (height : ℤ) (tables : List Members) (said : Members) (fault : StyleFault)
+    → slice_get tables 0 ≡ Some said → run_of height 0 said ≡ Err fault
     → runs_of height tables ≡ Err fault
 unfolding runs_of
 first_refused height [] said fault there is = absurd (cc)

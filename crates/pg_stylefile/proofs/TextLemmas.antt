@@ -15,8 +15,10 @@ no_text text false is not = is
 pub not_utf8 : (text : List ℕ) → (IsUtf8 text → ⊥) → table_of_text text ≡ Err (bare_fault Toml)
 not_utf8 text not = rw (no_text text (is_utf8 text) refl not)
 
-pub read_as : (text read : List ℕ) (said : Members) → read ≡ text → IsUtf8 text → parse_document read ≡ Some said → table_of_text text ≡ Ok said
+pub read_as : (text read : List ℕ) (said : Members) → read ≡ text → IsUtf8 text → parse_document read ≡ Some said
+    → table_of_text text ≡ Ok said
 read_as text read said same utf8 parsed = rw (is_utf8-from_IsUtf8 text utf8, ← same, parsed)
 
-pub refused_as : (text read : List ℕ) → read ≡ text → IsUtf8 text → parse_document read ≡ None → table_of_text text ≡ Err (bare_fault Toml)
+pub refused_as : (text read : List ℕ) → read ≡ text → IsUtf8 text → parse_document read ≡ None
+    → table_of_text text ≡ Err (bare_fault Toml)
 refused_as text read same utf8 parsed = rw (is_utf8-from_IsUtf8 text utf8, ← same, parsed)

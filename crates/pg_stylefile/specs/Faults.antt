@@ -1,7 +1,9 @@
 -- The faults of a style file.
 use Rattle.std.specs.Prelude.{◌≡◌, ℕ, List, [], ◌++◌, codes, decimal, Result, Ok, Err}
 use Rattle.pg_stylefile.specs.declared.fault.StyleKind.{StyleKind}
-use Rattle.pg_stylefile.specs.declared.fault.StyleKind.TheVariants.{Toml, MissingKey, UnknownKey, WrongKind, OutOfRange, Decreasing, DuplicateClass, NoRun, Memory}
+use Rattle.pg_stylefile.specs.declared.fault.StyleKind.TheVariants.{Toml, MissingKey, UnknownKey, WrongKind}
+use Rattle.pg_stylefile.specs.declared.fault.StyleKind.TheVariants.{OutOfRange, Decreasing, DuplicateClass, NoRun}
+use Rattle.pg_stylefile.specs.declared.fault.StyleKind.TheVariants.{Memory}
 use Rattle.pg_stylefile.specs.declared.fault.StyleFault.{StyleFault}
 use Rattle.pg_stylefile.specs.declared.fault.Place.{Place}
 use Rattle.pg_stylefile.specs.declared.fault.Place.TheVariants.{Root, Top, Bottom, Wide, FloatColumn, Run, Class}

@@ -22,7 +22,8 @@ names_of Bottom = area_names
 names_of Wide = area_names
 names_of FloatColumn = codes "count" ∷ codes "demerits" ∷ []
 names_of (Run position) = codes "extra" ∷ codes "demerits" ∷ []
-names_of (Class position) = codes "number" ∷ codes "kind" ∷ codes "skip" ∷ codes "limit" ∷ codes "area" ∷ codes "distance" ∷ []
+names_of (Class position) = codes "number" ∷ codes "kind" ∷ codes "skip" ∷ codes "limit" ∷ codes "area"
+    ∷ codes "distance" ∷ []
 
 abbrev pub is_named : List (List ℕ) → List ℕ → Bool
 is_named names key = list_any (λ (name : List ℕ). bytes_eq name key) names
@@ -39,4 +40,5 @@ lesser key (Some other) = if is_lt (slice_cmp nat_cmp key other) then key else o
 -- the least key by bytes that is not among the names
 abbrev pub least_unnamed : List (List ℕ) → List (List ℕ) → Option (List ℕ)
 least_unnamed names [] = None
-least_unnamed names (key ∷ keys) = if is_named names key then least_unnamed names keys else Some (lesser key (least_unnamed names keys))
+least_unnamed names (key ∷ keys) = if is_named names key then least_unnamed names keys
+    else Some (lesser key (least_unnamed names keys))

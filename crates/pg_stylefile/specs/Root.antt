@@ -1,5 +1,6 @@
 -- What the root table of a style file says, key by key in the order in which faults are told.
-use Rattle.std.specs.Prelude.{◌≡◌, ◌==◌, ℕ, ◌^◌, ◌-◌, ◌≤◌, nat_le, pos, ◌≤ℤ◌, if◌then◌else◌, List, length, codes, Result, Ok, Err}
+use Rattle.std.specs.Prelude.{◌≡◌, ◌==◌, ℕ, ◌^◌, ◌-◌, ◌≤◌, nat_le, pos, ◌≤ℤ◌, if◌then◌else◌, List, length, codes}
+use Rattle.std.specs.Prelude.{Result, Ok, Err}
 use Rattle.toml.specs.Data.{Members}
 use Rattle.toml.specs.View.{table_view}
 use Rattle.pg_style.specs.Ranges.{IsScaled, IsLength, AreDemerits}
@@ -48,7 +49,8 @@ pub record AreLengths (lengths : Lengths) : Type 0 where
   pub min_text_in : IsLength lengths.min_text
 
 unfoldable pub fitness_of : Place → ℕ → Members → Result ℕ StyleFault
-fitness_of place version members = if version == 1 then Ok 0 else keyed place (codes "fitness") (whole_of 0 100000000) members
+fitness_of place version members = if version == 1 then Ok 0 else keyed place (codes "fitness")
+    (whole_of 0 100000000) members
 
 unfoldable pub limits_of : Place → ℕ → Members → Result Limits StyleFault
 limits_of place version members = do

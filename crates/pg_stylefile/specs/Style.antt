@@ -17,7 +17,8 @@ use Rattle.pg_stylefile.specs.declared.read.Root.{Root}
 use Rattle.pg_stylefile.specs.declared.read.Rules.{Rules}
 use Rattle.pg_stylefile.specs.Faults.{bare_fault, ◌>>=◌}
 use Rattle.pg_stylefile.specs.Keys.{named}
-use Rattle.pg_stylefile.specs.Root.{PartsValue, parts_view, head_of, lengths_of, limits_of, parts_of, IsHead, AreLengths, AreLimits, ArePartsFew}
+use Rattle.pg_stylefile.specs.Root.{PartsValue, parts_view, head_of, lengths_of, limits_of, parts_of, IsHead}
+use Rattle.pg_stylefile.specs.Root.{AreLengths, AreLimits, ArePartsFew}
 use Rattle.pg_stylefile.specs.Tables.{runs_of, area_rule_of, column_rule_of, classes_of}
 
 -- the root table, with its tables still to be read
@@ -28,7 +29,8 @@ pub record RootValue : Type 0 where
   pub parts : PartsValue
 
 abbrev pub root_view : Root → RootValue
-root_view root = record { head = root.head; lengths = root.lengths; limits = root.limits; parts = parts_view root.parts }
+root_view root =
+    record { head = root.head; lengths = root.lengths; limits = root.limits; parts = parts_view root.parts }
 
 unfoldable pub root_of : Members → Result RootValue StyleFault
 root_of members = do

@@ -1,5 +1,6 @@
 -- What the tables of a style file say, key by key in the order in which faults are told.
-use Rattle.std.specs.Prelude.{ℕ, ◌+◌, ◌^◌, ◌-◌, ℤ, pos, ◌-ℤ◌, is_some, if◌then◌else◌, List, [], ◌∷◌, codes, Result, Ok, Err}
+use Rattle.std.specs.Prelude.{ℕ, ◌+◌, ◌^◌, ◌-◌, ℤ, pos, ◌-ℤ◌, is_some, if◌then◌else◌, List, [], ◌∷◌, codes, Result}
+use Rattle.std.specs.Prelude.{Ok, Err}
 use Rattle.toml.specs.Data.{Members}
 use Rattle.pg_style.specs.declared.style.Run.{Run}
 use Rattle.pg_style.specs.declared.style.Kind.{Kind}
@@ -36,7 +37,8 @@ column_rule_of members = do
 
 -- what a run adds to pages of this height, so that they have a height that is a dimension above 0
 unfoldable pub extra_at : ℤ → Place → Members → Result ℤ StyleFault
-extra_at height place members = keyed place (codes "extra") (dimension_of (pos 1 -ℤ height) (pos (2 ^ 30 - 1) -ℤ height)) members
+extra_at height place members = keyed place (codes "extra")
+    (dimension_of (pos 1 -ℤ height) (pos (2 ^ 30 - 1) -ℤ height)) members
 
 -- a run of pages of this height
 unfoldable pub run_of : ℤ → ℕ → Members → Result Run StyleFault
@@ -49,7 +51,8 @@ run_of height position members = do
 -- the runs of these tables, the first of which stands at this position
 abbrev pub runs_from : ℤ → ℕ → List Members → Result (List Run) StyleFault
 runs_from height position [] = Ok []
-runs_from height position (members ∷ tables) = run_of height position members >>= (λ run. runs_from height (position + 1) tables >>= (λ runs. Ok (run ∷ runs)))
+runs_from height position (members ∷ tables) = run_of height position members
+    >>= (λ run. runs_from height (position + 1) tables >>= (λ runs. Ok (run ∷ runs)))
 
 unfoldable pub runs_of : ℤ → List Members → Result (List Run) StyleFault
 runs_of height tables = runs_from height 0 tables
@@ -88,7 +91,8 @@ class_of position members = do
 -- the earlier classes and one more, whose number none of them has
 abbrev pub with_class : ℕ → List Class → Class → Result (List Class) StyleFault
 with_class position earlier class =
-    if is_some (class_in earlier class.number) then Err (fault_at DuplicateClass (place.Class position) (codes "number")) else Ok (inserted class earlier)
+    if is_some (class_in earlier class.number)
+    then Err (fault_at DuplicateClass (place.Class position) (codes "number")) else Ok (inserted class earlier)
 
 -- the earlier classes and that of the next table
 unfoldable pub with_next : ℕ → Members → List Class → Result (List Class) StyleFault
@@ -97,7 +101,8 @@ with_next position members earlier = class_of position members >>= with_class po
 -- the earlier classes and those of these tables, the first of which stands at this position
 abbrev pub classes_from : ℕ → List Class → List Members → Result (List Class) StyleFault
 classes_from position earlier [] = Ok earlier
-classes_from position earlier (members ∷ tables) = with_next position members earlier >>= (λ classes. classes_from (position + 1) classes tables)
+classes_from position earlier (members ∷ tables) = with_next position members earlier
+    >>= (λ classes. classes_from (position + 1) classes tables)
 
 -- the classes of these tables, in increasing number
 unfoldable pub classes_of : List Members → Result (List Class) StyleFault

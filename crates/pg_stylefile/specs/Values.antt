@@ -1,5 +1,6 @@
 -- What one value of a style file says, or the kind of its fault.
-use Rattle.std.specs.Prelude.{Bool, true, is_some, ◌≡◌, ◌==◌, ◌&&◌, ℕ, ◌-◌, ◌^◌, ℤ, pos, negsuc, nat_le, int_le, if◌then◌else◌, List, [], ◌∷◌, length, codes, Result, Ok, Err}
+use Rattle.std.specs.Prelude.{Bool, true, is_some, ◌≡◌, ◌==◌, ◌&&◌, ℕ, ◌-◌, ◌^◌, ℤ, pos, negsuc, nat_le, int_le}
+use Rattle.std.specs.Prelude.{if◌then◌else◌, List, [], ◌∷◌, length, codes, Result, Ok, Err}
 use Rattle.std.specs.Option.{ok_or}
 use Rattle.std.specs.Str.{bytes_eq}
 use Rattle.toml.specs.Data.{Data, Items, no_items, item, Members, as_integer, as_str, as_array, as_table}
@@ -39,7 +40,8 @@ table_of value = ok_or (as_table value) WrongKind
 
 -- a number of a list, as it stands in a text of this length
 abbrev pub front_in : ℤ → ℤ → ℕ → Front → Result ℤ StyleKind
-front_in low high size (Value value len) = if len == size then (if int_le low value && int_le value high then Ok value else Err OutOfRange) else Err WrongKind
+front_in low high size (Value value len) = if len == size
+    then (if int_le low value && int_le value high then Ok value else Err OutOfRange) else Err WrongKind
 front_in low high size (TooLarge len) = if len == size then Err OutOfRange else Err WrongKind
 front_in low high size NotNumber = Err WrongKind
 
@@ -110,15 +112,18 @@ are_whole (item value items) = is_some (as_integer value) && are_whole items
 -- the whole numbers of an array, each within the limit on demerits
 abbrev pub each_entry : Items → Result (List ℕ) StyleKind
 each_entry no_items = Ok []
-each_entry (item value items) = whole_of 0 100000000 value >>= (λ entry. each_entry items >>= (λ entries. Ok (entry ∷ entries)))
+each_entry (item value items) = whole_of 0 100000000 value
+    >>= (λ entry. each_entry items >>= (λ entries. Ok (entry ∷ entries)))
 
 -- the table of 1 to 9 entries, none below the one before
 unfoldable pub made_table : List ℕ → Result (List ℕ) StyleKind
-made_table entries = if has_table_range entries then (if rises entries then Ok entries else Err Decreasing) else Err OutOfRange
+made_table entries = if has_table_range entries then (if rises entries then Ok entries else Err Decreasing)
+    else Err OutOfRange
 
 unfoldable pub entries_of : Items → Result (List ℕ) StyleKind
 entries_of items = each_entry items >>= made_table
 
 -- the distance table of a class of floats, where an element that is no whole number comes first
 unfoldable pub distance_of : Data → Result (List ℕ) StyleKind
-distance_of value = ok_or (as_array value) WrongKind >>= (λ items. if are_whole items then entries_of items else Err WrongKind)
+distance_of value = ok_or (as_array value) WrongKind
+    >>= (λ items. if are_whole items then entries_of items else Err WrongKind)

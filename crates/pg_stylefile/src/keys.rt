@@ -4,7 +4,8 @@ ghost use Rattle.toml.specs.Data.{get_member};
 ghost use Rattle.toml.specs.View.{view, table_view};
 ghost use Rattle.pg_style.specs.Ranges.{IsLength, IsDistance};
 ghost use Rattle.pg_stylefile.specs.Faults.{Tells};
-ghost use Rattle.pg_stylefile.specs.Values.{whole_of, dimension_of, length_of, first_of, area_of, sort_of, table_of, tables_of, tables_in, distance_of};
+ghost use Rattle.pg_stylefile.specs.Values.{whole_of, dimension_of, length_of, first_of, area_of, sort_of, table_of};
+ghost use Rattle.pg_stylefile.specs.Values.{tables_of, tables_in, distance_of};
 ghost use Rattle.pg_stylefile.specs.Keys.{due_at, keyed, absent, at_key, named, tables_if_any};
 
 use crate::distance::as_distance;
@@ -38,7 +39,8 @@ impl<'t> Keys<'t> {
 
     #[tactic(auto, unfolding(crate::specs::Keys::due_at))]
     fn due(&self, key: &'t str) -> Result<&'t Value, Fault<'t>>
-        ensures { Tells (λ value. view value.now) result (due_at self.now.place key.now (table_view self.now.table.now)) }
+        ensures { Tells (λ value. view value.now) result (due_at self.now.place key.now
+            (table_view self.now.table.now)) }
     {
         match self.table.get(key) {
             Some(value) => Ok(value),
@@ -86,7 +88,8 @@ impl<'t> Keys<'t> {
 
     #[tactic(auto, unfolding(crate::specs::Keys::keyed))]
     pub fn whole(&self, key: &'t str, low: u32, high: u32) -> Result<u32, Fault<'t>>
-        ensures value { Tells (λ n. n) result (keyed self.now.place key.now (whole_of low high) (table_view self.now.table.now)) }
+        ensures value { Tells (λ n. n) result (keyed self.now.place key.now (whole_of low high)
+            (table_view self.now.table.now)) }
         ensures low { IfOk result (λ n. low ≤ n) }
         ensures high { IfOk result (λ n. n ≤ high) }
     {
@@ -96,7 +99,8 @@ impl<'t> Keys<'t> {
 
     #[tactic(auto, unfolding(crate::specs::Keys::keyed))]
     pub fn dimension(&self, key: &'t str, low: i32, high: i32) -> Result<i32, Fault<'t>>
-        ensures value { Tells (λ n. n) result (keyed self.now.place key.now (dimension_of low high) (table_view self.now.table.now)) }
+        ensures value { Tells (λ n. n) result (keyed self.now.place key.now (dimension_of low high)
+            (table_view self.now.table.now)) }
         ensures low { IfOk result (λ n. low ≤ℤ n) }
         ensures high { IfOk result (λ n. n ≤ℤ high) }
     {
@@ -113,7 +117,8 @@ impl<'t> Keys<'t> {
 
     #[tactic(auto, unfolding(crate::specs::Keys::keyed))]
     pub fn first(&self, key: &'t str) -> Result<First, Fault<'t>>
-        ensures { Tells (λ first. first) result (keyed self.now.place key.now first_of (table_view self.now.table.now)) }
+        ensures { Tells (λ first. first) result (keyed self.now.place key.now first_of
+            (table_view self.now.table.now)) }
     {
         let value = self.due(key)?;
         self.told(key, as_first(value))
@@ -137,7 +142,8 @@ impl<'t> Keys<'t> {
 
     #[tactic(auto, unfolding(crate::specs::Keys::keyed))]
     pub fn distance(&self, alloc: Global, key: &'t str) -> Result<Distance, Fault<'t>>
-        ensures value { Tells (λ distance. distance) result (keyed self.now.place key.now distance_of (table_view self.now.table.now)) }
+        ensures value { Tells (λ distance. distance) result (keyed self.now.place key.now distance_of
+            (table_view self.now.table.now)) }
         ensures range { IfOk result IsDistance }
     {
         let value = self.due(key)?;
@@ -149,7 +155,8 @@ impl<'t> Keys<'t> {
 
     #[tactic(auto, unfolding(crate::specs::Keys::keyed))]
     pub fn table(&self, key: &'t str) -> Result<&'t Table, Fault<'t>>
-        ensures { Tells (λ table. table_view table.now) result (keyed self.now.place key.now table_of (table_view self.now.table.now)) }
+        ensures { Tells (λ table. table_view table.now) result (keyed self.now.place key.now table_of
+            (table_view self.now.table.now)) }
     {
         let value = self.due(key)?;
         match as_table(value) {
@@ -160,7 +167,8 @@ impl<'t> Keys<'t> {
 
     #[tactic(auto, unfolding(crate::specs::Keys::keyed))]
     pub fn tables(&self, key: &'t str) -> Result<Tables<'t>, Fault<'t>>
-        ensures { Tells (λ tables. tables_in tables.values.now) result (keyed self.now.place key.now tables_of (table_view self.now.table.now)) }
+        ensures { Tells (λ tables. tables_in tables.values.now) result (keyed self.now.place key.now tables_of
+            (table_view self.now.table.now)) }
     {
         let value = self.due(key)?;
         match as_tables(value) {
@@ -172,7 +180,8 @@ impl<'t> Keys<'t> {
     /// An array of tables that may be missing, which is then empty.
     #[tactic(auto, unfolding(crate::specs::Keys::tables_if_any))]
     pub fn tables_if_any(&self, key: &'t str) -> Result<Tables<'t>, Fault<'t>>
-        ensures { Tells (λ tables. tables_in tables.values.now) result (tables_if_any self.now.place key.now (table_view self.now.table.now)) }
+        ensures { Tells (λ tables. tables_in tables.values.now) result (tables_if_any self.now.place key.now
+            (table_view self.now.table.now)) }
     {
         if self.has(key) {
             self.tables(key)

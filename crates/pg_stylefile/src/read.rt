@@ -4,7 +4,8 @@ ghost use Rattle.toml.specs.View.{table_view};
 ghost use Rattle.pg_style.specs.Ranges.{IsStyle};
 ghost use Rattle.pg_stylefile.specs.Faults.{Tells, Gives, bare_fault};
 ghost use Rattle.pg_stylefile.specs.Root.{IsHead, AreLengths, AreLimits, ArePartsFew, parts_view};
-ghost use Rattle.pg_stylefile.specs.Style.{AreRules, rules_of, root_of, root_view, IsRoot, style_with, style_of, table_of_text, style_of_text};
+ghost use Rattle.pg_stylefile.specs.Style.{AreRules, rules_of, root_of, root_view, IsRoot, style_with, style_of};
+ghost use Rattle.pg_stylefile.specs.Style.{table_of_text, style_of_text};
 
 use crate::areas::{read_area, read_column};
 use crate::classes::read_classes;

@@ -3,7 +3,9 @@ ghost use Rattle.std.specs.Prelude.{◌≡◌, ◌≤◌, length, IfOk};
 ghost use Rattle.toml.specs.View.{table_view};
 ghost use Rattle.pg_stylefile.specs.Faults.{Tells};
 ghost use Rattle.pg_stylefile.specs.Values.{tables_in};
-ghost use Rattle.pg_stylefile.specs.Root.{IsHead, AreLengths, AreLimits, ArePartsFew, parts_view, head_of, lengths_of, fitness_of, limits_of, most_classes, run_tables, class_tables, parts_of, no_fitness_yet};
+ghost use Rattle.pg_stylefile.specs.Root.{IsHead, AreLengths, AreLimits, ArePartsFew, parts_view, head_of};
+ghost use Rattle.pg_stylefile.specs.Root.{lengths_of, fitness_of, limits_of, most_classes, run_tables, class_tables};
+ghost use Rattle.pg_stylefile.specs.Root.{parts_of, no_fitness_yet};
 
 use crate::fault::{Fault, StyleKind};
 use crate::keys::{Keys, MAX_DEMERITS, MAX_DIMENSION};
@@ -94,7 +96,8 @@ pub fn read_lengths<'t>(keys: &Keys<'t>) -> Result<Lengths, Fault<'t>>
 
 #[tactic(auto, unfolding(crate::specs::Root::fitness_of))]
 fn read_fitness<'t>(keys: &Keys<'t>, version: u8) -> Result<u32, Fault<'t>>
-    ensures value { Tells (λ fitness. fitness) result (fitness_of keys.now.place version (table_view keys.now.table.now)) }
+    ensures value { Tells (λ fitness. fitness) result (fitness_of keys.now.place version
+        (table_view keys.now.table.now)) }
     ensures range { IfOk result (λ fitness. fitness ≤ 100000000) }
     ensures first { IfOk result (λ fitness. version ≡ 1 → fitness ≡ 0) }
 {
@@ -123,7 +126,8 @@ pub fn read_limits<'t>(keys: &Keys<'t>, version: u8) -> Result<Limits, Fault<'t>
 
 #[tactic(auto, unfolding(crate::specs::Root::run_tables))]
 fn read_run_tables<'t>(keys: &Keys<'t>) -> Result<Tables<'t>, Fault<'t>>
-    ensures value { Tells (λ tables. tables_in tables.values.now) result (run_tables keys.now.place (table_view keys.now.table.now)) }
+    ensures value { Tells (λ tables. tables_in tables.values.now) result (run_tables keys.now.place
+        (table_view keys.now.table.now)) }
     ensures some { IfOk result (λ tables. 1 ≤ length (tables_in tables.values.now)) }
     ensures few { IfOk result (λ tables. length (tables_in tables.values.now) ≤ 5) }
 {
@@ -140,7 +144,8 @@ fn read_run_tables<'t>(keys: &Keys<'t>) -> Result<Tables<'t>, Fault<'t>>
 
 #[tactic(auto, unfolding(crate::specs::Root::class_tables))]
 fn read_class_tables<'t>(keys: &Keys<'t>, version: u8) -> Result<Tables<'t>, Fault<'t>>
-    ensures value { Tells (λ tables. tables_in tables.values.now) result (class_tables keys.now.place version (table_view keys.now.table.now)) }
+    ensures value { Tells (λ tables. tables_in tables.values.now) result (class_tables keys.now.place version
+        (table_view keys.now.table.now)) }
     ensures few { IfOk result (λ tables. length (tables_in tables.values.now) ≤ most_classes version) }
 {
     let tables = keys.tables_if_any("classes")?;

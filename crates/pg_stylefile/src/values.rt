@@ -1,7 +1,8 @@
 //! What one value of a style file says.
 ghost use Rattle.std.specs.Prelude.{◌≡◌, ◌≤◌, pos, ◌≤ℤ◌, IfOk};
 ghost use Rattle.toml.specs.View.{view, table_view};
-ghost use Rattle.pg_stylefile.specs.Values.{Answers, whole_of, text_of, table_of, dimension_in, dimension_of, first_of, first_named, area_of, area_named, sort_of, sort_named};
+ghost use Rattle.pg_stylefile.specs.Values.{Answers, whole_of, text_of, table_of, dimension_in, dimension_of};
+ghost use Rattle.pg_stylefile.specs.Values.{first_of, first_named, area_of, area_named, sort_of, sort_named};
 
 use crate::fault::StyleKind;
 use pg_scaled::{Front, read_scaled};

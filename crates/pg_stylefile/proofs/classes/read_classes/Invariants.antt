@@ -5,6 +5,7 @@ use Rattle.pg_stylefile.proofs.classes.read_classes.Given as goal
 
 abbrev pub invariant-loop-position : goal.invariant-loop-position
 invariant-loop-position l = record {
-  same : classes_of (tables_in l.tables.values.now) ≡ classes_from l.position l.classes (drop l.position (tables_in l.tables.values.now));
+  same : classes_of (tables_in l.tables.values.now) ≡ classes_from l.position l.classes (drop l.position
+      (tables_in l.tables.values.now));
   count : length l.classes ≡ l.position;
 }

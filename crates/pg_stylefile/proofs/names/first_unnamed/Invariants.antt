@@ -10,6 +10,7 @@ abbrev pub invariant-loop-key : goal.invariant-loop-key
 invariant-loop-key l = record {
   next : (goal.iterator-loop-key).can_next l.key-iterator;
   ends : (goal.iterator-loop-key).is_finite l.key-iterator;
-  same : least_unnamed (map (λ name. name.now) l.names) (keys_in (table_view l.table)) ≡ least_unnamed (map (λ name. name.now) l.names) (texts l.key-iterator);
+  same : least_unnamed (map (λ name. name.now) l.names)
+      (keys_in (table_view l.table)) ≡ least_unnamed (map (λ name. name.now) l.names) (texts l.key-iterator);
   sorted : IsStrictlySortedBy string_cmp l.key-iterator;
 }

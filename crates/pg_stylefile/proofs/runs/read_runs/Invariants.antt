@@ -8,7 +8,8 @@ use Rattle.pg_stylefile.proofs.runs.read_runs.Given as goal
 
 abbrev pub invariant-loop-position : goal.invariant-loop-position
 invariant-loop-position l = record {
-  same : runs_of l.height (tables_in l.tables.values.now) ≡ behind l.runs (runs_from l.height l.position (drop l.position (tables_in l.tables.values.now)));
+  same : runs_of l.height (tables_in l.tables.values.now) ≡ behind l.runs (runs_from l.height l.position
+      (drop l.position (tables_in l.tables.values.now)));
   count : length l.runs ≡ l.position;
   heights : AllByRecursion (IsHeight l.height) l.runs;
 }

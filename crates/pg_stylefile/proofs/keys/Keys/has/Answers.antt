@@ -5,7 +5,8 @@ use Rattle.toml.specs.View.{view}
 use Rattle.toml.specs.declared.value.Value.{Value}
 use Rattle.pg_stylefile.proofs.keys.Keys.has.Goals as goal
 
-mapped : (found : Option (Bor Value)) → is_some (option_map {T = Bor Value} {U = Data} (λ x. view x.now) found) ≡ is_some found
+mapped : (found : Option (Bor Value))
+    → is_some (option_map {T = Bor Value} {U = Data} (λ x. view x.now) found) ≡ is_some found
 mapped None = refl
 mapped (Some value) = refl
 
