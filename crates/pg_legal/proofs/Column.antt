@@ -38,7 +38,7 @@ numbers-none style plain = subst (λ (s : StyleValue). float_numbers s ≡ []) (
 count-none : (style : StyleValue) → IsPlainStyle style → (counts : List ℕ) → float_count style counts ≡ 0
 count-none style plain counts =
     let none : slots style ≡ [] = ap (λ (numbers : List ℕ). range_with_len 0 (length numbers))
-        (numbers-none style plain) in
+    (numbers-none style plain) in
     ap (λ (them : List ℕ). sum_by (λ (slot : ℕ). entry counts slot) them) none
 
 no-counts : (style : StyleValue) → IsPlainStyle style → (counts : List ℕ) →
@@ -80,8 +80,8 @@ forward : (from n : ℕ) (p q : Place) → p ≡ place from 0 0 → q ≡ place 
 forward from zero p q e f text =
     let here : from + 0 ≡ from = omega arith in
     let same : is_same_place p q ≡ true = ap (λ (x : Place). is_same_place x q) e
-        ∙ (ap (λ (x : Place). is_same_place (place from 0 0) x) (f ∙ ap (λ (k : ℕ). place k 0 0) here)
-        ∙ place_refl (place from 0 0)) in
+    ∙ (ap (λ (x : Place). is_same_place (place from 0 0) x) (f ∙ ap (λ (k : ℕ). place k 0 0) here)
+    ∙ place_refl (place from 0 0)) in
     let fails : not (is_same_place p q) ≡ false = ap not same in
     absurd cc
 forward from (suc n) p q e f text = omega arith
@@ -96,9 +96,13 @@ made m from to a b c d e f g =
   where
     by : (p q : Place) (top bottom picks : List ℕ) (run : ℕ) (wide : List ℕ) → p ≡ place from 0 0 → q ≡ place to 0 0 →
         top ≡ [] → bottom ≡ [] → picks ≡ [] → run ≡ 0 → wide ≡ [] →
-        ◌≡◌ {A = PageMove} (record { column =
-            record { from = p; to = q; top = top; bottom = bottom; picks = picks }; run = run; wide = wide })
-            (plain_move from to)
+        ◌≡◌ {A = PageMove} (record {
+          column =
+              record { from = p; to = q; top = top; bottom = bottom; picks = picks };
+          run = run;
+          wide = wide;
+        })
+        (plain_move from to)
     by p q top bottom picks run wide a b c d e f g = rw (a, b, c, d, e, f, g) refl
 
 -- the column is one of text that is not over
@@ -126,10 +130,10 @@ module _ (doc : Document) (rigid : AreRigid doc.blocks) (plain : IsPlainStyle do
   no-wide : (m : PageMove) (ms : List PageMove) → m.wide ≡ [] → wide_of doc (m ∷ ms) ≡ None
   no-wide m ms none =
       ap (λ (n : ℕ). if n == 1 then made_wide doc (placed_of doc.style ms) m.wide else wide_of doc ms)
-          (first-column doc.style plain.one_column ms)
+      (first-column doc.style plain.one_column ms)
       ∙ (ap (λ (wide : List ℕ). made_wide doc (placed_of doc.style ms) wide) none
       ∙ subst (λ (s : StyleValue). made_wide (record { blocks = doc.blocks; style = s }) (placed_of doc.style ms) []
-          ≡ None) (sym (bare-is doc.style plain)) refl)
+      ≡ None) (sym (bare-is doc.style plain)) refl)
 
   -- a plain column in its context is not over
   fits : (from to : ℕ) → from < to → to ≤ length doc.blocks → is_tolerable (plain_context doc from to) ≡ true →
@@ -142,15 +146,15 @@ module _ (doc : Document) (rigid : AreRigid doc.blocks) (plain : IsPlainStyle do
       let text : is_text it ≡ true = rw differ refl in
       let test = at-text (is_text it) (size_of it)
       (λ n. not (text_is_over it n) &&
-          (is_forced (items_of it) n || nat_le (text_badness it n) it.document.style.tolerance))
+      (is_forced (items_of it) n || nat_le (text_badness it n) it.document.style.tolerance))
       n text (size-is doc single from to forward within) tolerable in
       let under = (both_of (not (text_is_over it n)) _ test).0 in
       let same : text_is_over it n ≡ is_over
-          (total doc.style.topskip doc.style.maxdepth (trimmed (items_between doc.blocks from to)))
-          (shrink (trimmed (items_between doc.blocks from to))) (plain_room doc.style) =
+      (total doc.style.topskip doc.style.maxdepth (trimmed (items_between doc.blocks from to)))
+      (shrink (trimmed (items_between doc.blocks from to))) (plain_room doc.style) =
       ap (λ (z : ℤ). is_over (text_total it n) (shrink (segment it n)) z) (goal-is doc plain from to n)
       ∙ ap (λ (xs : List Item). is_over (total doc.style.topskip doc.style.maxdepth xs) (shrink xs)
-          (plain_room doc.style)) (segment-is doc rigid from to) in
+      (plain_room doc.style)) (segment-is doc rigid from to) in
       sym (ap not same) ∙ under
 
   pub column-is : (m : PageMove) (ms : List PageMove) (from : ℕ) → from ≤ length doc.blocks →
@@ -162,20 +166,20 @@ module _ (doc : Document) (rigid : AreRigid doc.blocks) (plain : IsPlainStyle do
       let runs = (both_of (is_some (slice_get doc.style.runs m.run)) _ stands.stands.takes_run).0 in
       let run = one-run doc.style.runs m.run plain.one_run runs in
       let wide = no-counts doc.style plain m.wide
-          (both_of (length m.wide == length (float_numbers doc.style)) _ stands.stands.wide).0 in
+      (both_of (length m.wide == length (float_numbers doc.style)) _ stands.stands.wide).0 in
       let counts = both_of (length m.column.top == length (float_numbers doc.style))
-          (length m.column.bottom == length (float_numbers doc.style))
+      (length m.column.bottom == length (float_numbers doc.style))
       (both_of _ _ (both_of _ _ rules.counts).0).0 in
       let top = no-counts doc.style plain m.column.top counts.0 in
       let bottom = no-counts doc.style plain m.column.bottom counts.1 in
       let starts : m.column.from ≡ place from 0 0 = same_place m.column.from (place_of ms) stands.starts ∙ at in
       let text = texts it refl (no-wide m ms wide) rules.well_formed in
       let kept : keeps_text it ≡ true =
-          both (does_fit it) _ rules.fits
-          (both (is_well_formed it) _ rules.well_formed (both (is_tolerable it) _ rules.tolerable
+      both (does_fit it) _ rules.fits
+      (both (is_well_formed it) _ rules.well_formed (both (is_tolerable it) _ rules.tolerable
       (both (passes_breaks it) _ rules.passes
-          (both (has_room it) _ rules.room
-          (both (keeps_note_limits it) (keeps_looseness it) rules.note_limits rules.looseness))))) in
+      (both (has_room it) _ rules.room
+      (both (keeps_note_limits it) (keeps_looseness it) rules.note_limits rules.looseness))))) in
       let t = size-of-kept it from single plain starts kept in
       let n = t.0 in
       let e = end-of-size it from single plain starts start n t.1.0 in

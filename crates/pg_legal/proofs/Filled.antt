@@ -59,7 +59,7 @@ page-is : (page : Page) (column : Column) (from to : ℕ) → page.columns ≡ c
     page ≡ plain_page from to
 page-is page column from to is same =
     by page.run page.wide page.columns is (ap (λ (m : PageMove). m.run) same) (ap (λ (m : PageMove). m.wide) same)
-        (ap (λ (m : PageMove). m.column) same)
+    (ap (λ (m : PageMove). m.column) same)
   where
     by : (run : ℕ) (wide : List ℕ) (columns : List Column) → columns ≡ column ∷ [] → run ≡ 0 → wide ≡ [] →
         column ≡ (plain_move from to).column →
@@ -82,10 +82,20 @@ module _ (doc : Document) (rigid : AreRigid doc.blocks) (plain : IsPlainStyle do
       let more = columns-more page pages one.column one.is in
       let stand' : Stand doc (m ∷ columns_of pages) = subst (λ (ms : List PageMove). Stand doc ms) more stand in
       let c : IsPlainColumn doc m before.end =
-          column-is doc rigid plain m (columns_of pages) before.end before.within before.at stand'.0 in
+      column-is doc rigid plain m (columns_of pages) before.end before.within before.at stand'.0 in
       record {
-        are = (record { from = before.end; to = c.to; onward = c.onward; within = c.within; is =
-            page-is page one.column before.end c.to one.is c.is; fits = c.fits }, before.are);
+        are = (
+          record {
+            from = before.end;
+            to = c.to;
+            onward = c.onward;
+            within = c.within;
+            is =
+                page-is page one.column before.end c.to one.is c.is;
+            fits = c.fits;
+          },
+          before.are,
+        );
         end = c.to;
         within = c.within;
         at = ap (λ (ms : List PageMove). place_of ms) more ∙ ap (λ (m : PageMove). m.column.to) c.is;
@@ -101,22 +111,22 @@ module _ (doc : Document) (rigid : AreRigid doc.blocks) (plain : IsPlainStyle do
   full [] none stand = record { are = tt; end = 0; within = omega arith; at = refl }
   full (page ∷ pages) none stand =
       let t = or_none (underfilled 1 pages)
-          (unless (nat_le 1 (length page.columns) && (length page.columns == 1)) (length (columns_of pages) + 1))
-          none in
+      (unless (nat_le 1 (length page.columns) && (length page.columns == 1)) (length (columns_of pages) + 1))
+      none in
       let one = one-equal page.columns
-          (unless_none (nat_le 1 (length page.columns) && (length page.columns == 1))
-          (length (columns_of pages) + 1) t.1) in
+      (unless_none (nat_le 1 (length page.columns) && (length page.columns == 1))
+      (length (columns_of pages) + 1) t.1) in
       page-more page pages (full pages t.0 (stand-before page pages one stand)) one stand
 
   filled : (pages : List Page) → misfilled 1 pages ≡ None → Stand doc (columns_of pages) → ArePlainPages doc pages
   filled [] none stand = tt
   filled (page ∷ pages) none stand =
       let t = or_none (underfilled 1 pages)
-          (unless (nat_le 1 (length page.columns) && nat_le (length page.columns) 1)
-          (length (columns_of pages) + 1)) none in
+      (unless (nat_le 1 (length page.columns) && nat_le (length page.columns) 1)
+      (length (columns_of pages) + 1)) none in
       let one = one-most page.columns
-          (unless_none (nat_le 1 (length page.columns) && nat_le (length page.columns) 1)
-          (length (columns_of pages) + 1) t.1) in
+      (unless_none (nat_le 1 (length page.columns) && nat_le (length page.columns) 1)
+      (length (columns_of pages) + 1) t.1) in
       (page-more page pages (full pages t.0 (stand-before page pages one stand)) one stand).are
 
 pub legal-plain : (galley : GalleyValue) (style : StyleValue) → AreRigid galley.blocks → IsPlainStyle style →
@@ -125,8 +135,8 @@ unfolding breach
 legal-plain galley style rigid plain = λ plan legal.
     let doc = document galley style in
     let s : Sound doc (reverse plan.pages) (columns plan) _ _ =
-        sound_of doc (reverse plan.pages) (columns plan) _ _ legal.unbroken in
+    sound_of doc (reverse plan.pages) (columns plan) _ _ legal.unbroken in
     let back = filled doc rigid plain (reverse plan.pages)
-        (ap (λ (n : ℕ). misfilled n (reverse plan.pages)) (sym plain.one_column) ∙ s.filled) s.stand in
+    (ap (λ (n : ℕ). misfilled n (reverse plan.pages)) (sym plain.one_column) ∙ s.filled) s.stand in
     subst (λ (pages : List Page). ArePlainPages doc pages) (reverse-reverse plan.pages)
-        (all-reverse doc (reverse plan.pages) back)
+    (all-reverse doc (reverse plan.pages) back)

@@ -88,7 +88,7 @@ prefix-is n k (Choice variants ∷ blocks) picks single less = absurd single.0
 -- the k-th item stands at the k-th block
 pub position-is : (n k : ℕ) (blocks : List Block) (picks : List ℕ) → AreSingle blocks → k < length blocks
     → position (λ (it : FlatItem). is_same_place it.place (place (n + k) 0 0)) (flat_items_from n blocks picks)
-        ≡ Some k
+    ≡ Some k
 position-is n k blocks picks single less =
     let prefix = prefix-is n k blocks picks single less in
     let long = flat-length n blocks picks single in

@@ -21,7 +21,7 @@ all-weak : (blocks : List Block) → AreSingle blocks →
 all-weak [] single = refl
 all-weak (One item ∷ blocks) single =
     all-step (solid blocks) (is_discardable item) (list_all is_discardable (single_items blocks))
-        (all-weak blocks single.1)
+    (all-weak blocks single.1)
 all-weak (Choice variants ∷ blocks) single = absurd single.0
 
 less-step : (n k : ℕ) (d : Bool) →

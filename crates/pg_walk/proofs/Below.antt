@@ -96,17 +96,17 @@ module _ (style : StyleValue) (room : ℤ) (items : List Item) (block : ℕ) whe
 
   step : (n : ℕ) → ends_below style room items block (suc n) ≡
       ends_below style room items block n ++ map (end_at style room items block)
-          (filter (keeps_at style room items) (n ∷ []))
+      (filter (keeps_at style room items) (n ∷ []))
   unfolding ends_below
   step n =
       ap (λ (ks : List ℕ). map (end_at style room items block) (filter (keeps_at style room items) ks))
-          (range-more 0 n)
+      (range-more 0 n)
       ∙ ap (map (end_at style room items block))
-          (filter-append (keeps_at style room items) (range_with_len 0 n) ((0 + n) ∷ []))
+      (filter-append (keeps_at style room items) (range_with_len 0 n) ((0 + n) ∷ []))
       ∙ map-append (end_at style room items block) (filter (keeps_at style room items) (range_with_len 0 n))
-          (filter (keeps_at style room items) ((0 + n) ∷ []))
+      (filter (keeps_at style room items) ((0 + n) ∷ []))
       ∙ ap (λ (k : ℕ). ends_below style room items block n ++ map (end_at style room items block)
-          (filter (keeps_at style room items) (k ∷ []))) same
+      (filter (keeps_at style room items) (k ∷ []))) same
     where
       same : 0 + n ≡ n
       same = omega arith
@@ -117,7 +117,7 @@ module _ (style : StyleValue) (room : ℤ) (items : List Item) (block : ℕ) whe
 
   pub one-more : (n : ℕ) → keeps_at style room items n ≡ true →
       ends_below style room items block (suc n)
-          ≡ ends_below style room items block n ++ end_at style room items block n ∷ []
+      ≡ ends_below style room items block n ++ end_at style room items block n ∷ []
   one-more n kept = step n
       ∙ ap (λ (ks : List ℕ). ends_below style room items block n ++ map (end_at style room items block) ks)
       (filter-one (keeps_at style room items) n true kept)
@@ -163,12 +163,12 @@ module _ (style : StyleValue) (room : ℤ) (items : List Item) (block : ℕ) whe
       let next : 1 + i ≡ suc i = omega arith in
       let count = length-range_with_len 1 (m - 1) in
       let at : get_or (range_with_len 1 (m - 1)) i 0 ≡ suc i =
-          get_or-range_with_len 1 (m - 1) i 0 (omega (arith, less)) ∙ next in
+      get_or-range_with_len 1 (m - 1) i 0 (omega (arith, less)) ∙ next in
       let fails : passes_between items (is_over_at style room items) m ≡ false =
       list_all_at (is_passable_at style room items) (range_with_len 1 (m - 1)) i 0 (omega (arith, less, count))
       (ap (is_passable_at style room items) at ∙ stop) in
       stop-fails (is_end_at items m) (is_tolerable_at style room items m)
-          (passes_between items (is_over_at style room items) m)
+      (passes_between items (is_over_at style room items) m)
       (int_le style.min_text room) fails
 
   stopped-by : (j d : ℕ) → is_passable_at style room items j ≡ false →
@@ -190,19 +190,20 @@ module _ (style : StyleValue) (room : ℤ) (items : List Item) (block : ℕ) whe
 
   pub end-step : (n : ℕ) (b : Bool) → keeps_at style room items n ≡ b →
       ends_below style room items block (suc n)
-          ≡ ends_below style room items block n ++ (if b then end_at style room items block n ∷ [] else [])
+      ≡ ends_below style room items block n ++ (if b then end_at style room items block n ∷ [] else [])
   end-step n true kept = one-more n kept
   end-step n false broken = no-more n broken ∙ sym (append-nil (ends_below style room items block n))
 
   -- no break behind a box
   pub not-end : (n : ℕ) → end_penalty items n ≡ None →
       (ends_below style room items block (suc n) ≡ ends_below style room items block n) ×
-          (is_passable_at style room items n ≡ true)
+      (is_passable_at style room items n ≡ true)
   unfolding keeps_at
   not-end n none =
-      let t = none-of (list_any is_box (take n items)) (break_penalty items n) none in
-      (no-more n (first-fails (is_end_at items n) _ t),
-          passable-none (list_any is_box (take n items)) (is_some (break_penalty items n)) _ t)
+      let t = none-of (list_any is_box (take n items)) (break_penalty items n) none in (
+        no-more n (first-fails (is_end_at items n) _ t),
+        passable-none (list_any is_box (take n items)) (is_some (break_penalty items n)) _ t,
+      )
 
   pub end-some : (n : ℕ) (penalty : ℤ) → end_penalty items n ≡ Some penalty → break_penalty items n ≡ Some penalty
   end-some n penalty some = (some-of (list_any is_box (take n items)) (break_penalty items n) penalty some).1
@@ -215,7 +216,7 @@ module _ (style : StyleValue) (room : ℤ) (items : List Item) (block : ℕ) whe
   -- a break behind a box at which the column is over
   pub over-end : (n : ℕ) (penalty : ℤ) → end_penalty items n ≡ Some penalty → is_over_at style room items n ≡ true →
       (ends_below style room items block (suc n) ≡ ends_below style room items block n) ×
-          (is_passable_at style room items n ≡ false)
+      (is_passable_at style room items n ≡ false)
   unfolding keeps_at
   over-end n penalty some over = (
     no-more n (over-fails (is_end_at items n) (is_over_at style room items n)
@@ -229,18 +230,18 @@ module _ (style : StyleValue) (room : ℤ) (items : List Item) (block : ℕ) whe
   pub under-end : (n : ℕ) (penalty : ℤ) (forced : Bool) → end_penalty items n ≡ Some penalty →
       is_over_at style room items n ≡ false →
       passes_between items (is_over_at style room items) n ≡ true → int_le style.min_text room ≡ true →
-          forced ≡ is_forced items n →
+      forced ≡ is_forced items n →
       (ends_below style room items block (suc n) ≡ ends_below style room items block n
       ++ (if forced || nat_le (badness_at style room items n) style.tolerance then end_at style room items block n ∷
-          [] else []))
+      [] else []))
       × (not forced ≡ is_passable_at style room items n)
   unfolding keeps_at
   under-end n penalty forced some under passes text is = (
     end-step n (forced || nat_le (badness_at style room items n) style.tolerance)
         (under-keeps (is_end_at items n) (is_over_at style room items n)
-            (is_forced items n || nat_le (badness_at style room items n) style.tolerance)
+        (is_forced items n || nat_le (badness_at style room items n) style.tolerance)
         (passes_between items (is_over_at style room items) n) (int_le style.min_text room)
-            (is-end n penalty some) under passes text
+        (is-end n penalty some) under passes text
         ∙ ap (λ (b : Bool). b || nat_le (badness_at style room items n) style.tolerance) (sym is)),
     ap not is ∙ under-passable (list_any is_box (take n items)) (is_some (break_penalty items n))
         (is_forced items n) (is_over_at style room items n) (is-end n penalty some) under,
@@ -252,7 +253,7 @@ module _ (style : StyleValue) (room : ℤ) (items : List Item) (block : ℕ) whe
   low-room low zero = none-below
   low-room low (suc m) =
       no-more m (last-fails (is_end_at items m) (is_tolerable_at style room items m)
-          (passes_between items (is_over_at style room items) m) (int_le style.min_text room) low)
+      (passes_between items (is_over_at style room items) m) (int_le style.min_text room) low)
       ∙ low-room low m
 
   -- ---- what is listed
@@ -288,9 +289,9 @@ module _ (style : StyleValue) (room : ℤ) (items : List Item) (block : ℕ) whe
     | inl before ↦ let there : n < m = grind (arith, nat_tests) in earlier (contained m n there kept)
     | inr last ↦ let same : n ≡ m = grind (arith, nat_tests) in
         subst (λ (k : ℕ). Contains (ends_below style room items block (suc m)) (end_at style room items block k))
-            (sym same)
+        (sym same)
         (subst (λ (them : List End). Contains them (end_at style room items block m))
-            (sym (one-more m (subst (λ (k : ℕ). keeps_at style room items k ≡ true) same kept)))
+        (sym (one-more m (subst (λ (k : ℕ). keeps_at style room items k ≡ true) same kept)))
         (Contains-push (ends_below style room items block m) (end_at style room items block m)))
   ]
     where
@@ -300,7 +301,7 @@ module _ (style : StyleValue) (room : ℤ) (items : List Item) (block : ℕ) whe
         | inl kept' ↦ subst (λ (them : List End). Contains them (end_at style room items block n))
             (sym (one-more m kept'))
             (Contains-append_left (ends_below style room items block m) (end_at style room items block m ∷ [])
-                (end_at style room items block n) has)
+            (end_at style room items block n) has)
         | inr broken ↦ subst (λ (them : List End). Contains them (end_at style room items block n))
             (sym (no-more m broken)) has
       ]
@@ -318,8 +319,8 @@ module _ (style : StyleValue) (room : ℤ) (items : List Item) (block : ℕ) whe
     | inl kept ↦ subst (λ (them : List End). AllPairs IsBefore them) (sym (one-more m kept))
         (all_pairs_push IsBefore (ends_below style room items block m) (end_at style room items block m) (ordered m)
         (λ k d less. last (get_or (ends_below style room items block m) k d)
-            (listed m (get_or (ends_below style room items block m) k d)
-            (Contains-get_or (ends_below style room items block m) k d less))))
+        (listed m (get_or (ends_below style room items block m) k d)
+        (Contains-get_or (ends_below style room items block m) k d less))))
     | inr broken ↦ subst (λ (them : List End). AllPairs IsBefore them) (sym (no-more m broken)) (ordered m)
   ]
     where

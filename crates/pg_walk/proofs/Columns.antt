@@ -101,8 +101,8 @@ passes-alike : (items : List Item) (f g : ℕ → Bool) → ((k : ℕ) → f k �
     passes_between items f n ≡ passes_between items g n
 passes-alike items f g alike n =
     all-alike _ _ (λ k. ap (λ (b : Bool). not
-        (is_some (break_penalty items k) && list_any is_box (take k items)) || not (is_forced items k || b))
-        (alike k)) (range_with_len 1 (n - 1))
+    (is_some (break_penalty items k) && list_any is_box (take k items)) || not (is_forced items k || b))
+    (alike k)) (range_with_len 1 (n - 1))
 
 -- ---- any column of text from a block
 
@@ -120,7 +120,7 @@ module _ (it : ColumnContext) (block : ℕ) (single : AreSingle it.document.bloc
   no-fronts : (n : ℕ) → fronts (flat_items_of it) n ≡ 0
   no-fronts n = ap (λ (them : List FlatItem). fronts them n) flats
       ∙ fronts-none block (drop block it.document.blocks) it.column.picks n
-          (drop-single block it.document.blocks single)
+      (drop-single block it.document.blocks single)
 
   pub no-variants : column_variants it ≡ []
   no-variants = ap (λ (at : Place). picked_variants (blocks_at it.document.blocks at) it.column.picks) starts
@@ -131,7 +131,7 @@ module _ (it : ColumnContext) (block : ℕ) (single : AreSingle it.document.bloc
   flat-count : length (flat_items_of it) ≡ length it.document.blocks - block
   flat-count = ap (λ (them : List FlatItem). length them) flats
       ∙ flat-length block (drop block it.document.blocks) it.column.picks
-          (drop-single block it.document.blocks single)
+      (drop-single block it.document.blocks single)
       ∙ length-drop block it.document.blocks
 
   -- a column that ends at a block has the items up to it
@@ -140,19 +140,19 @@ module _ (it : ColumnContext) (block : ℕ) (single : AreSingle it.document.bloc
   size-to n to within =
       let rest = length-drop block it.document.blocks in
       let is-end : is_same_place it.column.to (end_of it.document.blocks)
-          ≡ ((block + n) == length it.document.blocks) =
+      ≡ ((block + n) == length it.document.blocks) =
       rw to (and-true ((block + n) == length it.document.blocks && true)
-          ∙ and-true ((block + n) == length it.document.blocks)) in
+      ∙ and-true ((block + n) == length it.document.blocks)) in
       elim (cases_Bool ((block + n) == length it.document.blocks)) [
         | inl last ↦ let same : block + n ≡ length it.document.blocks = grind (arith, nat_tests) in
             rw (is-end ∙ last) (ap Some (flat-count ∙ omega (arith, same)))
         | inr inside ↦ let below : block + n < length it.document.blocks = grind (arith, nat_tests) in
             rw (is-end ∙ inside) (ap (λ (them : List FlatItem). position
-                (λ (x : FlatItem). is_same_place x.place it.column.to) them) flats
+            (λ (x : FlatItem). is_same_place x.place it.column.to) them) flats
             ∙ ap (λ (to : Place). position (λ (x : FlatItem). is_same_place x.place to)
-                (flat_items_from block (drop block it.document.blocks) it.column.picks)) to
+            (flat_items_from block (drop block it.document.blocks) it.column.picks)) to
             ∙ position-is block n (drop block it.document.blocks) it.column.picks
-                (drop-single block it.document.blocks single) (omega (arith, below, rest)))
+            (drop-single block it.document.blocks single) (omega (arith, below, rest)))
       ]
 
   -- a column of n items ends at the block behind them
@@ -162,9 +162,11 @@ module _ (it : ColumnContext) (block : ℕ) (single : AreSingle it.document.bloc
     | inl last ↦
         let e : Some (length (flat_items_of it)) ≡ Some n = sym (rw last refl) ∙ size in
         let count : length (flat_items_of it) ≡ n = cc in
-        let all : block + n ≡ length it.document.blocks = omega (arith, count, flat-count, onward) in
-        (same_place it.column.to (end_of it.document.blocks) last
-            ∙ ap (λ (k : ℕ). place k 0 0) (sym all), omega (arith, all))
+        let all : block + n ≡ length it.document.blocks = omega (arith, count, flat-count, onward) in (
+          same_place it.column.to (end_of it.document.blocks) last
+              ∙ ap (λ (k : ℕ). place k 0 0) (sym all),
+          omega (arith, all),
+        )
     | inr inside ↦
         let rest = length-drop block it.document.blocks in
         let single' = drop-single block it.document.blocks single in
@@ -213,21 +215,21 @@ module _ (it : ColumnContext) (block : ℕ) (single : AreSingle it.document.bloc
     pub fit-is : text_fitness it n ≡ fit_at it.document.style height (drop block (single_items it.document.blocks)) n
     fit-is =
         ap (λ (z : ℤ). if it.document.style.version == 1 then 2 else fitness_by z (text_goal it n)
-            (text_badness it n)) total-is
+        (text_badness it n)) total-is
         ∙ ap (λ (z : ℤ). if it.document.style.version == 1 then 2 else fitness_by
-            (total_at it.document.style (drop block (single_items it.document.blocks)) n) z (text_badness it n)) goal
+        (total_at it.document.style (drop block (single_items it.document.blocks)) n) z (text_badness it n)) goal
         ∙ ap (λ (b : ℕ). if it.document.style.version == 1 then 2 else fitness_by
-            (total_at it.document.style (drop block (single_items it.document.blocks)) n) height b) badness-is
+        (total_at it.document.style (drop block (single_items it.document.blocks)) n) height b) badness-is
 
     pub demerits-are : text_demerits it n
         ≡ demerits_at it.document.style height (drop block (single_items it.document.blocks)) n
     demerits-are =
         ap (λ (b : ℕ). square (pos (it.document.style.line + b)) +ℤ option_map_or penalty_demerits
-            (break_penalty (items_of it) n) (pos 0)) badness-is
+        (break_penalty (items_of it) n) (pos 0)) badness-is
         ∙ ap (λ (xs : List Item). square
-            (pos (it.document.style.line + badness_at it.document.style height
-            (drop block (single_items it.document.blocks)) n)) +ℤ option_map_or penalty_demerits
-            (break_penalty xs n) (pos 0)) items
+        (pos (it.document.style.line + badness_at it.document.style height
+        (drop block (single_items it.document.blocks)) n)) +ℤ option_map_or penalty_demerits
+        (break_penalty xs n) (pos 0)) items
 
     formed : is_well_formed it ≡ is_end_at (drop block (single_items it.document.blocks)) n
     formed = rw (text, size) (ap (λ (xs : List Item). is_end_at xs n) items)
@@ -236,26 +238,26 @@ module _ (it : ColumnContext) (block : ℕ) (single : AreSingle it.document.bloc
         (drop block (single_items it.document.blocks)) n
     tolerable = by-size (is_text it) (size_of it)
         (λ n. not (text_is_over it n) &&
-            (is_forced (items_of it) n || nat_le (text_badness it n) it.document.style.tolerance))
+        (is_forced (items_of it) n || nat_le (text_badness it n) it.document.style.tolerance))
         n (is_tolerable_at it.document.style height (drop block (single_items it.document.blocks)) n) text size (
         ap (λ (b : Bool). not b && (is_forced (items_of it) n || nat_le
-            (text_badness it n) it.document.style.tolerance)) (over-at n)
+        (text_badness it n) it.document.style.tolerance)) (over-at n)
         ∙ ap (λ (b : ℕ). not (is_over_at it.document.style height (drop block (single_items it.document.blocks)) n)
-            && (is_forced (items_of it) n || nat_le b it.document.style.tolerance)) badness-is
+        && (is_forced (items_of it) n || nat_le b it.document.style.tolerance)) badness-is
         ∙ ap (λ (xs : List Item). not (is_over_at it.document.style height
-            (drop block (single_items it.document.blocks)) n) &&
-            (is_forced xs n || nat_le (badness_at it.document.style height
-            (drop block (single_items it.document.blocks)) n) it.document.style.tolerance)) items)
+        (drop block (single_items it.document.blocks)) n) &&
+        (is_forced xs n || nat_le (badness_at it.document.style height
+        (drop block (single_items it.document.blocks)) n) it.document.style.tolerance)) items)
 
     passes : passes_breaks it ≡ passes_between (drop block (single_items it.document.blocks))
         (is_over_at it.document.style height (drop block (single_items it.document.blocks))) n
     passes = by-size (is_text it) (size_of it) (passes_between (items_of it) (text_is_over it)) n
         (passes_between (drop block (single_items it.document.blocks))
-            (is_over_at it.document.style height (drop block (single_items it.document.blocks))) n) text size (
+        (is_over_at it.document.style height (drop block (single_items it.document.blocks))) n) text size (
         passes-alike (items_of it) (text_is_over it)
-            (is_over_at it.document.style height (drop block (single_items it.document.blocks))) over-at n
+        (is_over_at it.document.style height (drop block (single_items it.document.blocks))) over-at n
         ∙ ap (λ (xs : List Item). passes_between xs
-            (is_over_at it.document.style height (drop block (single_items it.document.blocks))) n) items)
+        (is_over_at it.document.style height (drop block (single_items it.document.blocks))) n) items)
 
     roomy : has_room it ≡ int_le it.document.style.min_text height
     roomy = if_true (is_text it) (int_le it.document.style.min_text (room it)) _ text
@@ -279,10 +281,10 @@ module _ (it : ColumnContext) (block : ℕ) (single : AreSingle it.document.bloc
     keeps none = joined (does_fit it) (is_well_formed it) (is_tolerable it) (passes_breaks it) (has_room it)
         (keeps_note_limits it) (keeps_looseness it)
         (is_end_at (drop block (single_items it.document.blocks)) n)
-            (is_tolerable_at it.document.style height (drop block (single_items it.document.blocks)) n)
+        (is_tolerable_at it.document.style height (drop block (single_items it.document.blocks)) n)
         (passes_between (drop block (single_items it.document.blocks))
-            (is_over_at it.document.style height (drop block (single_items it.document.blocks))) n)
-            (int_le it.document.style.min_text height)
+        (is_over_at it.document.style height (drop block (single_items it.document.blocks))) n)
+        (int_le it.document.style.min_text height)
         (fits none) formed tolerable passes roomy limits loose
 
   -- ---- a column that keeps the rules on its text
@@ -292,10 +294,15 @@ module _ (it : ColumnContext) (block : ℕ) (single : AreSingle it.document.bloc
   size-of-kept kept =
       let first : does_fit it ≡ true = (both_of (does_fit it) _ kept).0 in
       let t = some-of (size_of it) (λ n. (fronts (flat_items_of it) n == length it.column.picks) &&
-          (length (column_variants it) == length it.column.picks)) first in
-      let same = (both_of (fronts (flat_items_of it) t.0 == length it.column.picks) _ t.1.1).0 in
-      (t.0, (t.1.0, no-length it.column.picks (ap (λ (k : ℕ). k == length it.column.picks) (sym (no-fronts t.0))
-          ∙ same)))
+      (length (column_variants it) == length it.column.picks)) first in
+      let same = (both_of (fronts (flat_items_of it) t.0 == length it.column.picks) _ t.1.1).0 in (
+        t.0,
+        (
+          t.1.0,
+          no-length it.column.picks (ap (λ (k : ℕ). k == length it.column.picks) (sym (no-fronts t.0))
+              ∙ same),
+        ),
+      )
 
   pub no-pick-demerits : pick_demerits it ≡ pos 0
   no-pick-demerits = rw no-variants refl

@@ -49,7 +49,7 @@ break-last blocks k single last =
 -- a break before the end
 pub break-inside : (blocks : List Block) (k : ℕ) → AreSingle blocks → k < length blocks →
     break_penalty (single_items blocks) k
-        ≡ option_map_or (item_break (single_items blocks) k) (slice_get (single_items blocks) k) None
+    ≡ option_map_or (item_break (single_items blocks) k) (slice_get (single_items blocks) k) None
 break-inside blocks k single less =
     let differ : (k == length (single_items blocks)) ≡ false =
     let count = items-length blocks single in grind (arith, nat_tests) in
@@ -61,8 +61,15 @@ pub costs-are : (style : StyleValue) (room : ℤ) (items : List Item) (n : ℕ) 
     goal ≡ room → total ≡ total_at style items n → badness ≡ badness_at style room items n →
     fit ≡ (if style.version == 1 then 2 else fitness_by total room badness) → break_penalty items n ≡ Some penalty →
     demerits ≡ square (pos (style.line + badness)) +ℤ penalty_demerits penalty →
-    ◌≡◌ {A = TextCost} (record { goal = goal; total = total; badness = badness; fit = fit; penalty =
-        penalty; demerits = demerits }) (cost_at style room items n)
+    ◌≡◌ {A = TextCost} (record {
+      goal = goal;
+      total = total;
+      badness = badness;
+      fit = fit;
+      penalty =
+          penalty;
+      demerits = demerits;
+    }) (cost_at style room items n)
 unfolding cost_at
 costs-are style room items n goal total badness fit penalty demerits g t b f p d = rw (d, f, g, t, b, p) refl
 
@@ -73,7 +80,7 @@ pub spent-is : (blocks : List Block) (from index : ℕ) → AreSingle blocks →
     nat_le (solid blocks) (from + index) ≡ is_spent (items_from blocks from) index
 spent-is blocks from index single =
     sym (ap (λ (items : List Item). is_spent items 0) (drop-drop index from (single_items blocks))
-        ∙ spent-from blocks (from + index) single)
+    ∙ spent-from blocks (from + index) single)
 
 some-same : {X : Type 0} (x y : X) → Some x ≡ Some y → x ≡ y
 some-same x y e = cc
@@ -122,14 +129,14 @@ forced-is blocks from index penalty single within break =
           grind (arith, nat_tests) in
           let there : drop (index + 1) (items_from blocks from) ≡ drop (from + index + 1) (single_items blocks) =
           drop-drop (index + 1) from (single_items blocks)
-              ∙ ap (λ (k : ℕ). drop k (single_items blocks)) (omega arith) in
+          ∙ ap (λ (k : ℕ). drop k (single_items blocks)) (omega arith) in
           let boxes = ap (λ (items : List Item). list_any is_box items) there
-              ∙ boxes-from blocks (from + index + 1) single in
+          ∙ boxes-from blocks (from + index + 1) single in
           let break' : option_map_or (item_break (items_from blocks from) index)
-              (slice_get (items_from blocks from) index) None ≡ Some penalty =
+          (slice_get (items_from blocks from) index) None ≡ Some penalty =
           sym (rw inside' refl) ∙ break in
           let forcing = forcing-is (slice_get (items_from blocks from) index)
-              (items_from blocks from) index penalty break' in
+          (items_from blocks from) index penalty break' in
           rw (inside, inside', boxes, forcing) refl
     ]
 
@@ -137,7 +144,7 @@ pub forced-by : (blocks : List Block) (from index : ℕ) (penalty : ℤ) (count 
     from + index ≤ length blocks → break_penalty (items_from blocks from) index ≡ Some penalty →
     count ≡ length blocks → last ≡ tail blocks → p ≡ penalty →
     ((from + index == count) || (int_le p (negsuc 9999) && nat_lt (from + index + 1) last))
-        ≡ is_forced (items_from blocks from) index
+    ≡ is_forced (items_from blocks from) index
 forced-by blocks from index penalty count last p single within break a b c =
     rw (a, b, c) (forced-is blocks from index penalty single within break)
 

@@ -41,7 +41,7 @@ one-item (One item ∷ blocks) zero v i single less = elim (cases_Bool (v == 0))
       (omega arith, (grind (arith, nat_tests), omega (arith, here)))
   | inr other ↦
       let none : i < length {A = Item} [] =
-          subst (λ (b : Bool). i < length (if b then item ∷ [] else [])) other less in
+      subst (λ (b : Bool). i < length (if b then item ∷ [] else [])) other less in
       absurd (omega (arith, none))
 ]
 one-item (One item ∷ blocks) (suc k) v i single less =
@@ -82,8 +82,11 @@ module _ (it : ColumnContext) (block : ℕ) (single : AreSingle it.document.bloc
     least = λ picks text' kept fit.
         let empty : picks ≡ [] = (size-of-kept (with_picks it picks) block single plain starts kept).1.1 in
         let same : with_picks it it.column.picks ≡ with_picks it picks = ap (with_picks it) (none ∙ sym empty) in
-        inr (ap text_cost same, ap (λ (them : List ℕ). is_gt (picks_cmp them picks)) none
-            ∙ ap (λ (them : List ℕ). is_gt (picks_cmp [] them)) empty);
+        inr (
+          ap text_cost same,
+          ap (λ (them : List ℕ). is_gt (picks_cmp them picks)) none
+              ∙ ap (λ (them : List ℕ). is_gt (picks_cmp [] them)) empty,
+        );
   }
 
   -- a column that ends at an offset where the rules are kept
@@ -149,9 +152,9 @@ module _ (doc : Document) (single : AreSingle doc.blocks) (plain : IsPlainStyle 
       it.column.to ≡ end.to → it.column.picks ≡ end.picks → IsEndOf it end
   sound end it has is to picks =
       let single' : AreSingle it.document.blocks =
-          subst (λ (d : Document). AreSingle d.blocks) (sym is.document) single in
+      subst (λ (d : Document). AreSingle d.blocks) (sym is.document) single in
       let plain' : IsPlainStyle it.document.style =
-          subst (λ (d : Document). IsPlainStyle d.style) (sym is.document) plain in
+      subst (λ (d : Document). IsPlainStyle d.style) (sym is.document) plain in
       let has' : Contains (all_ends it.document from height) end =
       subst (λ (d : Document). Contains (all_ends d from height) end) (sym is.document) has in
       let within : from.block ≤ length it.document.blocks =
@@ -162,15 +165,15 @@ module _ (doc : Document) (single : AreSingle doc.blocks) (plain : IsPlainStyle 
       subst (λ (e : End). IsEndOf it e) (sym t.is)
       (end-is it from.block single' plain' (is.starts ∙ front.0) is.text height is.height_is t.n
       (to ∙ ap (λ (e : End). e.to) t.is) (picks
-          ∙ ap (λ (e : End). e.picks) t.is) (omega (arith, t.below, within)) t.kept)
+      ∙ ap (λ (e : End). e.picks) t.is) (omega (arith, t.below, within)) t.kept)
 
   whole : (it : ColumnContext) → IsColumnIn doc from height it → keeps_text it ≡ true →
       HasEnd (all_ends doc from height) it
   whole it is kept =
       let single' : AreSingle it.document.blocks =
-          subst (λ (d : Document). AreSingle d.blocks) (sym is.document) single in
+      subst (λ (d : Document). AreSingle d.blocks) (sym is.document) single in
       let plain' : IsPlainStyle it.document.style =
-          subst (λ (d : Document). IsPlainStyle d.style) (sym is.document) plain in
+      subst (λ (d : Document). IsPlainStyle d.style) (sym is.document) plain in
       let within : from.block ≤ length it.document.blocks =
       subst (λ (d : Document). from.block ≤ length d.blocks) (sym is.document) front.1 in
       subst (λ (d : Document). HasEnd (all_ends d from height) it) is.document

@@ -28,7 +28,7 @@ pub rest-sums : (blocks rest : List Block) (from index : ℕ) (topskip maxdepth 
     AreSums topskip maxdepth (take index (single_items rest)) sums
 rest-sums blocks rest from index topskip maxdepth sums single is are =
     subst (λ (xs : List Item). AreSums topskip maxdepth (take index xs) sums)
-        (sym (rest-items blocks rest from single is)) are
+    (sym (rest-items blocks rest from single is)) are
 
 pub penalty-is : (blocks rest : List Block) (from index : ℕ) (topskip maxdepth : ℤ) (sums : SumsValue)
     (o : Option ℤ) →
@@ -43,10 +43,15 @@ pub kept-end : (style : StyleValue) (room : ℤ) (items : List Item) (block inde
     (cost : TextCost) →
     cost ≡ cost_at style room items index →
     ◌≡◌ {A = List End}
-    (if forced || nat_le cost.badness style.tolerance then record { to = place (block + index) 0 0; picks =
-        []; cost = cost; pick_demerits = pos 0 } ∷ [] else [])
+    (if forced || nat_le cost.badness style.tolerance then record {
+      to = place (block + index) 0 0;
+      picks =
+          [];
+      cost = cost;
+      pick_demerits = pos 0;
+    } ∷ [] else [])
     (if forced || nat_le (badness_at style room items index) style.tolerance then end_at style room items block
-        index ∷ [] else [])
+    index ∷ [] else [])
 unfolding cost_at
 kept-end style room items block index forced cost e =
     ap (λ (cost : TextCost). if forced || nat_le cost.badness style.tolerance
@@ -79,9 +84,9 @@ pub next-sums : (blocks rest : List Block) (from index : ℕ) (block : Block) (t
 next-sums blocks rest from index block topskip maxdepth old new single is less at are grows =
     let xs = rest-items blocks rest from single is in
     let single' : AreSingle rest =
-        subst (λ (them : List Block). AreSingle them) (sym is) (drop-single from blocks single) in
+    subst (λ (them : List Block). AreSingle them) (sym is) (drop-single from blocks single) in
     let longer : take (suc index) (items_from blocks from)
-        ≡ take index (items_from blocks from) ++ single_items (block ∷ []) =
+    ≡ take index (items_from blocks from) ++ single_items (block ∷ []) =
     subst (λ (them : List Item). take (suc index) them ≡ take index them ++ single_items (block ∷ [])) xs
     (next-item rest index block single' less at) in
     subst (λ (them : List Item). AreSums topskip maxdepth them new) (sym longer)

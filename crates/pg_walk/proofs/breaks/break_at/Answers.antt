@@ -14,12 +14,12 @@ returns-in-Some c =
     let less : c.args.index < length c.args.blocks.now = omega (arith, c.requires.within, c.if-index-blocks.false) in
     c.item_break.ensures
     ∙ (ap (λ (o : Option Item). option_map_or (item_break (single_items c.args.blocks.now) c.args.index) o None)
-        c.in-Some.ensures
+    c.in-Some.ensures
     ∙ sym (break-inside c.args.blocks.now c.args.index c.requires.single less))
 
 pub returns-in-None : goal.returns-in-None
 returns-in-None c =
     let less : c.args.index < length c.args.blocks.now = omega (arith, c.requires.within, c.if-index-blocks.false) in
     ap (λ (o : Option Item). option_map_or (item_break (single_items c.args.blocks.now) c.args.index) o None)
-        c.in-None.ensures
+    c.in-None.ensures
     ∙ sym (break-inside c.args.blocks.now c.args.index c.requires.single less)

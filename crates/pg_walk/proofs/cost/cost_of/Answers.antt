@@ -21,14 +21,14 @@ returns c = λ items n sums spent penalty.
     let demerits = to_z-of_z w64 c.plus.result (record { sfits = search rules }) ∙ c.plus.ensures.value
     ∙ ap (λ (z : ℤ). z +ℤ to_z w64 (of_z w64 c.penalty_demerits.result))
     (to_z-of_z w64 c.demerits.result (record { sfits = search rules }) ∙ c.demerits.ensures
-        ∙ ap (λ (k : ℕ). square (pos (k + c.page_badness-badness.result))) line)
+    ∙ ap (λ (k : ℕ). square (pos (k + c.page_badness-badness.result))) line)
     ∙ ap (λ (z : ℤ). square (pos (style.line + c.page_badness-badness.result)) +ℤ z)
     (to_z-of_z w64 c.penalty_demerits.result (record { sfits = search rules }) ∙ c.penalty_demerits.ensures.value) in
     costs-are style c.args.room items n _ _ _ _ _ _ goal
     (to_z-of_z w64 c.total-total.result (record { sfits = search rules })
-        ∙ c.total-total.ensures.sums _ _ (take n items) sums)
+    ∙ c.total-total.ensures.sums _ _ (take n items) sums)
     badness
     (c.fitness.ensures ∙ ap (λ (z : ℤ). if style.version == 1 then 2 else fitness_by
-        (to_z w64 (of_z w64 c.total-total.result)) z c.page_badness-badness.result) goal)
+    (to_z w64 (of_z w64 c.total-total.result)) z c.page_badness-badness.result) goal)
     (penalty ∙ ap Some (sym price))
     demerits

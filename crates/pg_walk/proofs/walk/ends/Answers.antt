@@ -22,7 +22,7 @@ returns-then-room-from c =
     let low = too-low _ _ c.args.room style.min_text room text c.if-room-from.true in
     subst (λ (them : List End). AreEnds (document c.args.galley.now style) c.args.from c.args.room them)
     (low-room style c.args.room (items_from blocks c.args.from.block) c.args.from.block low
-        (suc (length blocks - c.args.from.block)) ∙ sym c.new.ensures)
+    (suc (length blocks - c.args.from.block)) ∙ sym c.new.ensures)
     (are-ends (document c.args.galley.now style) single c.requires.plain c.args.from c.requires.place c.args.room)
 
 pub walk-requires-clause-single : goal.walk-requires-clause-single
@@ -31,7 +31,7 @@ walk-requires-clause-single c = rigid-single c.args.galley.now.blocks c.requires
 pub walk-requires-clause-within : goal.walk-requires-clause-within
 walk-requires-clause-within c =
     (front-of c.args.galley.now.blocks c.args.from
-        (rigid-single c.args.galley.now.blocks c.requires.rigid) c.requires.place).1
+    (rigid-single c.args.galley.now.blocks c.requires.rigid) c.requires.place).1
 
 pub returns : goal.returns
 returns c =
@@ -42,6 +42,6 @@ returns c =
     if-ok c.walk.result _ _ (λ ends is.
     subst (λ (them : List End). AreEnds (document c.args.galley.now style) c.args.from c.args.room them)
     (sym (is ∙ ap (λ (z : ℤ). ends_below style z (items_from blocks c.args.from.block) c.args.from.block
-        (suc (length blocks - c.args.from.block))) room))
+    (suc (length blocks - c.args.from.block))) room))
     (are-ends (document c.args.galley.now style) single c.requires.plain c.args.from c.requires.place c.args.room))
-        c.walk.ensures
+    c.walk.ensures

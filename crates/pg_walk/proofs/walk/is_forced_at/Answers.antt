@@ -11,35 +11,35 @@ returns-then-block-len c =
     let blocks = c.args.galley.now.blocks in
     let p = to_z w32 (of_z w32 c.args.penalty) in
     let whole = forced-by blocks c.args.from c.args.index c.args.penalty c.len.result
-        (tail blocks) p c.requires.single c.requires.within c.requires.penalty
+    (tail blocks) p c.requires.single c.requires.within c.requires.penalty
     (c.len.ensures ∙ ap length c.blocks-2.ensures.blocks) refl
-        (to_z-of_z w32 c.args.penalty (record { sfits = search rules })) in
+    (to_z-of_z w32 c.args.penalty (record { sfits = search rules })) in
     let last : (c.args.from + c.args.index == c.len.result) ≡ true = grind (arith, nat_tests, c.if-block-len.true) in
     or-yes (c.args.from + c.args.index == c.len.result)
-        (int_le p (negsuc 9999) && nat_lt (c.args.from + c.args.index + 1) (tail blocks)) last ∙ whole
+    (int_le p (negsuc 9999) && nat_lt (c.args.from + c.args.index + 1) (tail blocks)) last ∙ whole
 
 pub returns-then-penalty-leminus10000 : goal.returns-then-penalty-leminus10000
 returns-then-penalty-leminus10000 c =
     let blocks = c.args.galley.now.blocks in
     let p = to_z w32 (of_z w32 c.args.penalty) in
     let whole = forced-by blocks c.args.from c.args.index c.args.penalty c.len.result c.tail.result p
-        c.requires.single c.requires.within c.requires.penalty
+    c.requires.single c.requires.within c.requires.penalty
     (c.len.ensures ∙ ap length c.blocks-2.ensures.blocks) c.tail.ensures
-        (to_z-of_z w32 c.args.penalty (record { sfits = search rules })) in
+    (to_z-of_z w32 c.args.penalty (record { sfits = search rules })) in
     let inside : (c.args.from + c.args.index == c.len.result) ≡ false =
-        grind (arith, nat_tests, c.if-block-len.false) in
+    grind (arith, nat_tests, c.if-block-len.false) in
     or-third (c.args.from + c.args.index == c.len.result) (int_le p (negsuc 9999))
-        (nat_lt (c.args.from + c.args.index + 1) c.tail.result) inside c.if-penalty-leminus10000.true ∙ whole
+    (nat_lt (c.args.from + c.args.index + 1) c.tail.result) inside c.if-penalty-leminus10000.true ∙ whole
 
 pub returns-else-penalty-leminus10000 : goal.returns-else-penalty-leminus10000
 returns-else-penalty-leminus10000 c =
     let blocks = c.args.galley.now.blocks in
     let p = to_z w32 (of_z w32 c.args.penalty) in
     let whole = forced-by blocks c.args.from c.args.index c.args.penalty c.len.result
-        (tail blocks) p c.requires.single c.requires.within c.requires.penalty
+    (tail blocks) p c.requires.single c.requires.within c.requires.penalty
     (c.len.ensures ∙ ap length c.blocks-2.ensures.blocks) refl
-        (to_z-of_z w32 c.args.penalty (record { sfits = search rules })) in
+    (to_z-of_z w32 c.args.penalty (record { sfits = search rules })) in
     let inside : (c.args.from + c.args.index == c.len.result) ≡ false =
-        grind (arith, nat_tests, c.if-block-len.false) in
+    grind (arith, nat_tests, c.if-block-len.false) in
     or-second (c.args.from + c.args.index == c.len.result) (int_le p (negsuc 9999))
-        (nat_lt (c.args.from + c.args.index + 1) (tail blocks)) inside c.if-penalty-leminus10000.false ∙ whole
+    (nat_lt (c.args.from + c.args.index + 1) (tail blocks)) inside c.if-penalty-leminus10000.false ∙ whole

@@ -36,17 +36,24 @@ returns-then-not-branch c =
     omega (arith, rest, dropped, c.loop-index-test.true) in
     c.in_ok-try_end.ensures.ends
     ∙ sym (stopped c.args.style.now c.args.start.room
-        (items_from c.args.galley.now.blocks c.args.start.block) c.args.start.block c.loop-index.index
+    (items_from c.args.galley.now.blocks c.args.start.block) c.args.start.block c.loop-index.index
     (suc (length c.args.galley.now.blocks - c.args.start.block)) (sym c.in_ok-try_end.ensures.passable
-        ∙ search rules) less)
+    ∙ search rules) less)
 
 pub add_block-requires-clause-few : goal.add_block-requires-clause-few
 add_block-requires-clause-few c =
     let rest = ap length c.rest_of-blocks.ensures.blocks in
     let dropped = length-drop c.args.start.block c.args.galley.now.blocks in
     let taken = length-take c.loop-index.index (items_from c.args.galley.now.blocks c.args.start.block) in
-    omega (arith, c.loop-index.invariant.sums.count_is, taken, rest, dropped, c.rest_of-blocks.ensures.few,
-        c.loop-index-test.true)
+    omega (
+      arith,
+      c.loop-index.invariant.sums.count_is,
+      taken,
+      rest,
+      dropped,
+      c.rest_of-blocks.ensures.few,
+      c.loop-index-test.true,
+    )
 
 pub loop-index-preserved : goal.loop-index-preserved
 loop-index-preserved c =
@@ -57,12 +64,12 @@ loop-index-preserved c =
     record {
       sums = subst (λ (k : ℕ). AreSums style.topskip style.maxdepth (take k items) c.add_block.new.sums) next
           (next-sums blocks c.rest_of-blocks.result.now c.args.start.block c.loop-index.index
-              c.index-blocks-index.result style.topskip style.maxdepth c.loop-index.sums c.add_block.new.sums
+          c.index-blocks-index.result style.topskip style.maxdepth c.loop-index.sums c.add_block.new.sums
           c.requires.single c.rest_of-blocks.ensures.blocks c.loop-index-test.true c.index-blocks-index.is
-              c.loop-index.invariant.sums c.add_block.ensures);
+          c.loop-index.invariant.sums c.add_block.ensures);
       passes = subst (λ (k : ℕ). passes_between items (is_over_at style c.args.start.room items) k ≡ true) next
           (passes-more style c.args.start.room items c.args.start.block c.loop-index.index
-              c.loop-index.invariant.passes (sym c.in_ok-try_end.ensures.passable ∙ c.if-not-branch.false));
+          c.loop-index.invariant.passes (sym c.in_ok-try_end.ensures.passable ∙ c.if-not-branch.false));
       ends = c.in_ok-try_end.ensures.ends
           ∙ ap (λ (k : ℕ). ends_below style c.args.start.room items c.args.start.block k) next;
     }
