@@ -1,6 +1,7 @@
 //! Pages as a space, in code: the space that a table of labels is filled over.
 #![tactic(auto)]
 
+mod columns;
 mod plans;
 mod runs;
 mod solving;

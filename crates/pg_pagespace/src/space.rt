@@ -3,6 +3,7 @@ ghost use Rattle.pg_columns.specs.Ranges.{AreInRange};
 ghost use Rattle.pg_flat.specs.Rigid.{AreRigid};
 ghost use Rattle.pg_plain.specs.Plain.{IsPlainStyle, plain_room};
 ghost use Rattle.pg_laws.specs.Pages.{plan_of};
+ghost use Rattle.pg_plan.specs.Order.{columns};
 ghost use Rattle.pg_plan.specs.declared.pages.PageMove.{PageMove as AMove};
 ghost use Rattle.pg_plan.specs.declared.states.State.{State as AState};
 ghost use Rattle.pg_rules.specs.Legal.{document};
@@ -12,6 +13,7 @@ ghost use Rattle.pg_table.specs.Label.{IsTable};
 ghost use Rattle.pg_table.specs.declared.table.Entry.{Entry};
 ghost use Rattle.pg_pagespace.specs.OneProof.{AreInRange-prop, AreRigid-prop, IsPlainStyle-prop};
 
+use crate::columns::moves_in;
 use crate::plans::pages_of;
 use crate::steps::{plain_state, steps_to};
 use pg_list::{Galley, Place};
@@ -72,6 +74,13 @@ impl<'a> PageSpace<'a> {
         Ok(Pagination {
             pages: pages_of(self.alloc, moves)?,
         })
+    }
+
+    /// The columns of a pagination as moves, in order.
+    pub fn run_of(&self, plan: &Pagination) -> Result<Moves, AllocError>
+        ensures { IfOk result (λ moves. reverse moves ≡ columns plan.now) }
+    {
+        moves_in(self.alloc, plan)
     }
 
     /// A filled table of the space tells the best pagination with its cost, and that none is legal where no label is
