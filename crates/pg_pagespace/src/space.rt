@@ -1,4 +1,4 @@
-ghost use Rattle.std.specs.Prelude.{◌≡◌, ◌+◌, ◌*◌, ◌<◌, ◌^◌, nat_abs, length, reverse, List, IfOk};
+ghost use Rattle.std.specs.Prelude.{◌≡◌, ◌+◌, ◌*◌, ◌<◌, ◌^◌, nat_abs, length, reverse, List, IfOk, IsTrue, ◌↔◌};
 ghost use Rattle.pg_columns.specs.Ranges.{AreInRange};
 ghost use Rattle.pg_flat.specs.Rigid.{AreRigid};
 ghost use Rattle.pg_plain.specs.Plain.{IsPlainStyle, plain_room};
@@ -6,6 +6,7 @@ ghost use Rattle.pg_laws.specs.Pages.{plan_of};
 ghost use Rattle.pg_plan.specs.Order.{columns};
 ghost use Rattle.pg_plan.specs.declared.pages.PageMove.{PageMove as AMove};
 ghost use Rattle.pg_plan.specs.declared.states.State.{State as AState};
+ghost use Rattle.pg_rules.specs.IsState.{IsState};
 ghost use Rattle.pg_rules.specs.Legal.{document};
 ghost use Rattle.pg_space.specs.Laws.{TellsAll};
 ghost use Rattle.pg_space.specs.PageSpace.{page_meaning};
@@ -16,6 +17,7 @@ ghost use Rattle.pg_pagespace.specs.OneProof.{AreInRange-prop, AreRigid-prop, Is
 use crate::columns::moves_in;
 use crate::plans::pages_of;
 use crate::steps::{plain_state, steps_to};
+use crate::testing::is_plain_state;
 use pg_list::{Galley, Place};
 use pg_plain::room;
 use pg_plan::{Moves, PageKey, PageMove, Pagination, State, compare_moves};
@@ -65,6 +67,13 @@ impl<'a> PageSpace<'a> {
             style,
             alloc,
         }
+    }
+
+    /// Whether a state is one of the space's own.
+    pub fn is_state(&self, state: &State) -> bool
+        ensures { IsTrue result ↔ IsState (document self.now.galley.now self.now.style.now) state.now }
+    {
+        is_plain_state(self.galley, self.style, state)
     }
 
     /// The pagination whose columns these are, in order.

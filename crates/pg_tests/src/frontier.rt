@@ -1,7 +1,10 @@
 //! The labels and the best pagination of a galley, worked out by hand.
 ghost use Rattle.std.specs.Prelude.{◌≡◌};
+ghost use Rattle.std.specs.Bool.{OnTrue};
+ghost use Rattle.pg_flat.specs.Rigid.{AreRigid};
 
 use crate::rows::equal_lines;
+use pg_list::{Block, Item};
 use pg_pagespace::{Outcome, PageSpace, solve};
 use pg_showbox::read_galley;
 use pg_steps::Steps;
@@ -12,12 +15,28 @@ use std::marker::Brand;
 use std::sync::ledger::{Blank, Ledger};
 use std::test::Fail;
 
+// The most bytes of a text.
+const ROOM: usize = 4096;
+
 /// Where the labels of a galley stand, and the best pagination's pages and cost.
 #[derive(Drop)]
 struct Solved {
     blocks: Vec<u32>,
     pages: usize,
     cost: i128,
+}
+
+fn are_rigid(blocks: &[Block]) -> bool
+    ensures { OnTrue result (AreRigid blocks.now) }
+{
+    match blocks {
+        [] => true,
+        [Block::One(Item::BoxItem { .. }), rest @ ..] => are_rigid(rest),
+        [Block::One(Item::Glue { stretch, shrink, .. }), rest @ ..] => {
+            *stretch == 0 && *shrink == 0 && are_rigid(rest)
+        }
+        _ => false,
+    }
 }
 
 // On pages of 58 points; None where the text is no galley, or no pagination is legal.
@@ -28,9 +47,15 @@ fn solve_text<L: Ledger>(alloc: Global, text: &[u8], blank: Blank) -> Result<Opt
 {
     let mut steps = Steps::<L>::new(blank);
     let style = plain_style(alloc, 58 * 65536);
-    let Ok(galley) = read_galley(alloc, text) else {
+    if text.len() > ROOM {
+        return Ok(None);
+    }
+    let Ok(galley) = read_galley(alloc, text, None) else {
         return Ok(None);
     };
+    if !are_rigid(galley.blocks().as_slice()) {
+        return Ok(None);
+    }
     let mut blocks = Vec::new(alloc);
     {
         let space = PageSpace::new(alloc, &galley, &style);

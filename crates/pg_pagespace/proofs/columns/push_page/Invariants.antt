@@ -1,7 +1,6 @@
 use Rattle.std.proofs.Common.{◌≡◌, ◌++◌, map, take}
 use Rattle.pg_plan.specs.Order.{no_floats}
 use Rattle.pg_plan.specs.declared.pages.Column.{Column}
-use Rattle.pg_plan.specs.declared.pages.PageMove.{PageMove}
 use Rattle.pg_pagespace.proofs.columns.push_page.Given as goal
 
 abbrev pub invariant-loop-column : goal.invariant-loop-column
