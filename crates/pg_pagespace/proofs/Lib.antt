@@ -4,3 +4,4 @@ mod Moves
 mod Spent
 mod RunsBack
 mod OneColumn
+mod StateTestLaws

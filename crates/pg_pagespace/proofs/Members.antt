@@ -16,7 +16,8 @@ none : {X : Type 0} (x : X) → Contains [] x → ⊥
 none x (k, l, e) = omega arith
 
 -- a member is the first or one of the others
-pub cases : {X P : Type 0} (x y : X) (xs : List X) → Contains (x ∷ xs) y → (x ≡ y → P) → (Contains xs y → P) → P
+pub cases : {X P : Type 0} (x y : X) (xs : List X) → Contains (x ∷ xs) y → (x ≡ y → P) →
+    (Contains xs y → P) → P
 cases x y xs (zero, l, e) first later = first e
 cases x y xs (suc k, l, e) first later = later (k, omega arith, e)
 

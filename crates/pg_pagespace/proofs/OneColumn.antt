@@ -11,10 +11,12 @@ use Rattle.pg_places.proofs.Tests.{if_true}
 use Rattle.pg_plain.proofs.Contexts.{first-column}
 use Rattle.pg_pagespace.specs.Singles.{single_page}
 
-pages_are : (style : StyleValue) → style.columns ≡ 1 → (ms : List PageMove) → pages_from style ms ≡ map single_page ms
+pages_are : (style : StyleValue) → style.columns ≡ 1 → (ms : List PageMove) →
+    pages_from style ms ≡ map single_page ms
 pages_are style one [] = refl
 pages_are style one (m ∷ ms) =
-    if_true (next_column style ms == 1) _ _ (subst (λ (n : ℕ). (n == 1) ≡ true) (sym (first-column style one ms)) refl)
+    if_true (next_column style ms == 1) _ _
+    (subst (λ (n : ℕ). (n == 1) ≡ true) (sym (first-column style one ms)) refl)
     ∙ ap (λ (pages : List Page). single_page m ∷ pages) (pages_are style one ms)
 
 map_append : {X Y : Type 0} (f : X → Y) (xs ys : List X) → map f (xs ++ ys) ≡ map f xs ++ map f ys

@@ -1,5 +1,5 @@
 -- Under a plain style each state has but a place and a fitness.
-use Rattle.std.proofs.Common.{◌≡◌, refl, sym, ap, subst, ◌∙◌, ℕ, ◌+◌, ◌*◌, ◌≤◌, List, [], ◌∷◌, length, Bool, true, false, Option, Some, None, arith}
+use Rattle.std.proofs.Common.{◌≡◌, refl, sym, ap, subst, ◌∙◌, ℕ, ◌+◌, ◌*◌, ◌≤◌, List, [], ◌∷◌, length, true, Option, Some, None, arith}
 use Rattle.std.specs.Prelude.{◌==◌, ◌||◌, ◌&&◌, if◌then◌else◌, is_some, int_le, int_lt, pos, ℤ, ◌^◌}
 use Rattle.std.specs.Option.{option_map_or}
 use Rattle.pg_list.specs.declared.blocks.Block.{Block}
@@ -13,10 +13,8 @@ use Rattle.pg_style.specs.declared.style.First.{First}
 use Rattle.pg_style.specs.declared.style.First.TheVariants.{Single}
 use Rattle.pg_plain.specs.Plain.{IsPlainStyle}
 use Rattle.pg_rules.specs.IsState.{IsState, has_side, not_first, not_some}
-use Rattle.pg_flat.specs.Flat.{is_same_place}
-use Rattle.pg_rules.specs.NoWorse.{is_no_worse, is_same_number, is_same_side}
+use Rattle.pg_rules.specs.NoWorse.{is_same_side}
 use Rattle.pg_rules.specs.Room.{Document}
-use Rattle.pg_rules.specs.States.{state_at}
 use Rattle.pg_space.specs.PageSpace.{rank}
 use Rattle.pg_pagespace.specs.PlainSteps.{plain_state}
 
@@ -53,7 +51,7 @@ pub no_items : {X : Type 0} (xs : List X) → length xs ≡ 0 → xs ≡ []
 no_items [] h = refl
 no_items (x ∷ xs) h = absurd (omega arith)
 
-fields : (at : Place) (fit : Option ℕ) (column : ℕ) (side : Side) (run : Option ℕ) (wide : Option ℤ)
+pub fields : (at : Place) (fit : Option ℕ) (column : ℕ) (side : Side) (run : Option ℕ) (wide : Option ℤ)
     (placed ages : List ℕ) → column ≡ 1 → side ≡ S → run ≡ None → wide ≡ None → placed ≡ [] → ages ≡ [] →
     ◌≡◌ {A = State} (record {
       place = at;
@@ -83,21 +81,7 @@ state_is blocks style u own =
     (no_items u.placed own.placed)
     (no_items u.ages own.waiting)
 
--- the first state
-pub start_is : (blocks : List Block) (style : StyleValue) →
-    state_at (with_form blocks style) [] ≡ plain_state (record { block = 0; variant = 0; index = 0 }) None
-start_is blocks style = refl
-
 -- ---- what is asked of a state
-
-with_true : (b c : Bool) → ((b && (c && true)) && true) ≡ (b && c)
-with_true true true = refl
-with_true true false = refl
-with_true false c = refl
-
-plain_no_worse : (p q : Place) (f g : Option ℕ) →
-    is_no_worse (plain_state p f) (plain_state q g) ≡ (is_same_place p q && is_same_number f g)
-plain_no_worse p q f g = with_true (is_same_place p q) (is_same_number f g)
 
 module _ (blocks : List Block) (style : StyleValue) (plain : IsPlainStyle style) where
   abbrev doc : StyleValue → Document
@@ -114,14 +98,3 @@ module _ (blocks : List Block) (style : StyleValue) (plain : IsPlainStyle style)
       rank (doc style) u ≡ 2 * (2 ^ 20 * u.place.block + u.place.index) + 1
   rank_is = by_form (λ s u. rank (doc s) u ≡ 2 * (2 ^ 20 * u.place.block + u.place.index) + 1)
       (λ u own. omega arith)
-
-  pub plain_starts : state_at (doc style) [] ≡ plain_state (record { block = 0; variant = 0; index = 0 }) None
-  plain_starts = subst (λ (s : StyleValue). state_at (doc s) [] ≡ plain_state
-      (record { block = 0; variant = 0; index = 0 }) None) (sym (form_is style plain)) (start_is blocks style)
-
-  -- a state is no worse than another of the same place and fitness
-  pub no_worse_is : (u : State) → IsState (doc style) u → (v : State) → IsState (doc style) v →
-      is_no_worse u v ≡ (is_same_place u.place v.place && is_same_number u.fit v.fit)
-  no_worse_is u own v other = by_form (λ s x. is_no_worse x v ≡ (is_same_place x.place v.place && is_same_number x.fit v.fit))
-      (λ x _. by_form (λ s y. is_no_worse (plain_state x.place x.fit) y ≡ (is_same_place x.place y.place && is_same_number x.fit y.fit))
-      (λ y _. plain_no_worse x.place y.place x.fit y.fit) v other) u own

@@ -20,10 +20,12 @@ by_move : {P : Type 0} (o : Option PageMove) → is_some o ≡ true → ((m : Pa
 by_move None h f = absurd cc
 by_move (Some m) h f = f m refl
 
-alone : (labels : List (Entry State PageMove)) (at : ℕ) → moves_on labels (at ∷ []) ≡ option_to_list (move_at labels at)
+alone : (labels : List (Entry State PageMove)) (at : ℕ) →
+    moves_on labels (at ∷ []) ≡ option_to_list (move_at labels at)
 alone labels at = by (move_at labels at) refl
   where
-    by : (o : Option PageMove) → move_at labels at ≡ o → moves_on labels (at ∷ []) ≡ option_to_list (move_at labels at)
+    by : (o : Option PageMove) → move_at labels at ≡ o →
+        moves_on labels (at ∷ []) ≡ option_to_list (move_at labels at)
     by None e = rw e refl
     by (Some m) e = rw e refl
 
@@ -46,8 +48,8 @@ pub leads_itself : (labels : List (Entry State PageMove)) (index : ℕ) → Lead
 leads_itself labels index e p ms at_e at_p run =
     subst (λ (x : Entry State PageMove). RunOf labels x ms) (some_same p e (sym at_p ∙ at_e)) run
 
-pub leads_on : (labels : List (Entry State PageMove)) (index : ℕ) (way : List ℕ) (at : ℕ) (d : Entry State PageMove) →
-    at < length labels → is_some (get_or labels at d).by ≡ true → LeadsBack labels index way at →
+pub leads_on : (labels : List (Entry State PageMove)) (index : ℕ) (way : List ℕ) (at : ℕ)
+    (d : Entry State PageMove) → at < length labels → is_some (get_or labels at d).by ≡ true → LeadsBack labels index way at →
     LeadsBack labels index (way ++ at ∷ []) (get_or labels at d).parent
 leads_on labels index way at d within moved leads e p' ms at_e at_p' run =
     by_move (get_or labels at d).by moved (λ m is.
@@ -61,11 +63,12 @@ leads_on labels index way at d within moved leads e p' ms at_e at_p' run =
         moves_on labels (way ++ at ∷ []) ++ ms ≡ moves_on labels way ++ (m ∷ ms)
     joined m is = ap (λ (ns : List PageMove). ns ++ ms) (one_more labels way at
         ∙ ap (λ (o : Option PageMove). moves_on labels way ++ option_to_list o)
-        (ap (λ (o : Option (Entry State PageMove)). option_map_or (λ (x : Entry State PageMove). x.by) o None) here ∙ is))
+        (ap (λ (o : Option (Entry State PageMove)). option_map_or (λ (x : Entry State PageMove). x.by) o None) here
+        ∙ is))
         ∙ append_assoc (moves_on labels way) (m ∷ []) ms
 
-pub leads_home : (labels : List (Entry State PageMove)) (index : ℕ) (way : List ℕ) (at : ℕ) (d : Entry State PageMove) →
-    at < length labels → is_some (get_or labels at d).by ≡ false → LeadsBack labels index way at →
+pub leads_home : (labels : List (Entry State PageMove)) (index : ℕ) (way : List ℕ) (at : ℕ)
+    (d : Entry State PageMove) → at < length labels → is_some (get_or labels at d).by ≡ false → LeadsBack labels index way at →
     IsWay labels index way
 leads_home labels index way at d within start leads e at_e =
     subst (λ (ns : List PageMove). RunOf labels e ns) (append-nil (moves_on labels way))

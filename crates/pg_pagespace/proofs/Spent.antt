@@ -92,7 +92,8 @@ solid_behind zero blocks = none (solid blocks)
 solid_behind (suc k) [] = let p : nat_le 0 (suc k) ≡ true = grind (arith, nat_tests) in p
 solid_behind (suc k) (block ∷ blocks) = one_less (is_solid_block block) (solid blocks) k ∙ solid_behind k blocks
   where
-    one_less : (b : Bool) (n k : ℕ) → nat_le (if nat_lt 0 n then n + 1 else (if b then 1 else 0)) (suc k) ≡ nat_le n k
+    one_less : (b : Bool) (n k : ℕ) →
+        nat_le (if nat_lt 0 n then n + 1 else (if b then 1 else 0)) (suc k) ≡ nat_le n k
     one_less true zero k = let p : nat_le 1 (suc k) ≡ true = grind (arith, nat_tests) in
         let q : nat_le 0 k ≡ true = grind (arith, nat_tests) in p ∙ sym q
     one_less false zero k = let p : nat_le 0 (suc k) ≡ true = grind (arith, nat_tests) in
@@ -105,8 +106,10 @@ solid_behind (suc k) (block ∷ blocks) = one_less (is_solid_block block) (solid
 
 one_item : (block : Block) (variant : ℕ) → IsRigidBlock block → length (picked_items block variant) ≤ 1
 one_item (One item) variant rigid = by_bool (variant == 0)
-    (λ t. subst (λ (items : List Item). length items ≤ 1) (sym (if_true (variant == 0) (item ∷ []) [] t)) (omega arith))
-    (λ f. subst (λ (items : List Item). length items ≤ 1) (sym (if_false (variant == 0) (item ∷ []) [] f)) (omega arith))
+    (λ t. subst (λ (items : List Item). length items ≤ 1) (sym (if_true (variant == 0) (item ∷ []) [] t))
+    (omega arith))
+    (λ f. subst (λ (items : List Item). length items ≤ 1) (sym (if_false (variant == 0) (item ∷ []) [] f))
+    (omega arith))
 one_item (Choice variants) variant rigid = absurd rigid
 
 few_items : (blocks : List Block) (block variant : ℕ) → AreRigid blocks →
@@ -117,7 +120,8 @@ few_items blocks block variant rigid = by (slice_get blocks block) refl
         length (unwrap_or (option_map (λ (block : Block). picked_items block variant) o) []) ≤ 1
     by None e = omega arith
     by (Some it) e = one_item it variant
-        (All-contains IsRigidBlock blocks it (All-from_recursion IsRigidBlock blocks rigid) (contains_at blocks block it e))
+        (All-contains IsRigidBlock blocks it (All-from_recursion IsRigidBlock blocks rigid)
+        (contains_at blocks block it e))
 
 pub front_of : (blocks : List Block) (at : Place) → AreRigid blocks → IsPlace blocks at → at.index ≡ 0
 front_of blocks at rigid place = by place.within

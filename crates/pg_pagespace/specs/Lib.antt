@@ -4,3 +4,4 @@ pub mod PagesLawful
 pub mod Solves
 pub mod Runs
 pub mod Singles
+pub mod StateTest

@@ -63,7 +63,8 @@ fn best_at(
     index: usize,
 ) -> Result<Outcome, AllocError>
     requires table { IsTable (page_meaning (document space.now.galley.now space.now.style.now)) labels.now }
-    requires best { IsBestOf (page_meaning (document space.now.galley.now space.now.style.now)) labels.now labels.now index }
+    requires best { IsBestOf (page_meaning (document space.now.galley.now space.now.style.now)) labels.now labels.now
+        index }
     ensures { IfOk result (Solves space.now.galley.now space.now.style.now) }
 {
     space.table_tells_all();

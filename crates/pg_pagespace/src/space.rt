@@ -1,10 +1,12 @@
-ghost use Rattle.std.specs.Prelude.{◌≡◌, ◌+◌, ◌*◌, ◌<◌, ◌^◌, nat_abs, length, reverse, List, IfOk};
+ghost use Rattle.std.specs.Prelude.{◌≡◌, ◌+◌, ◌*◌, ◌<◌, ◌^◌, nat_abs, length, reverse, List, IfOk, IsTrue, ◌↔◌};
 ghost use Rattle.pg_columns.specs.Ranges.{AreInRange};
 ghost use Rattle.pg_flat.specs.Rigid.{AreRigid};
 ghost use Rattle.pg_plain.specs.Plain.{IsPlainStyle, plain_room};
 ghost use Rattle.pg_laws.specs.Pages.{plan_of};
+ghost use Rattle.pg_plan.specs.Order.{columns};
 ghost use Rattle.pg_plan.specs.declared.pages.PageMove.{PageMove as AMove};
 ghost use Rattle.pg_plan.specs.declared.states.State.{State as AState};
+ghost use Rattle.pg_rules.specs.IsState.{IsState};
 ghost use Rattle.pg_rules.specs.Legal.{document};
 ghost use Rattle.pg_space.specs.Laws.{TellsAll};
 ghost use Rattle.pg_space.specs.PageSpace.{page_meaning};
@@ -12,8 +14,10 @@ ghost use Rattle.pg_table.specs.Label.{IsTable};
 ghost use Rattle.pg_table.specs.declared.table.Entry.{Entry};
 ghost use Rattle.pg_pagespace.specs.OneProof.{AreInRange-prop, AreRigid-prop, IsPlainStyle-prop};
 
+use crate::columns::moves_in;
 use crate::plans::pages_of;
 use crate::steps::{plain_state, steps_to};
+use crate::testing::is_plain_state;
 use pg_list::{Galley, Place};
 use pg_plain::room;
 use pg_plan::{Moves, PageKey, PageMove, Pagination, State, compare_moves};
@@ -65,6 +69,13 @@ impl<'a> PageSpace<'a> {
         }
     }
 
+    /// Whether a state is one of the space's own.
+    pub fn is_state(&self, state: &State) -> bool
+        ensures { IsTrue result ↔ IsState (document self.now.galley.now self.now.style.now) state.now }
+    {
+        is_plain_state(self.galley, self.style, state)
+    }
+
     /// The pagination whose columns these are, in order.
     pub fn pagination_of(&self, moves: &Moves) -> Result<Pagination, AllocError>
         ensures { IfOk result (λ plan. plan ≡ plan_of self.now.style.now (reverse moves.now)) }
@@ -72,6 +83,13 @@ impl<'a> PageSpace<'a> {
         Ok(Pagination {
             pages: pages_of(self.alloc, moves)?,
         })
+    }
+
+    /// The columns of a pagination as moves, in order.
+    pub fn run_of(&self, plan: &Pagination) -> Result<Moves, AllocError>
+        ensures { IfOk result (λ moves. reverse moves ≡ columns plan.now) }
+    {
+        moves_in(self.alloc, plan)
     }
 
     /// A filled table of the space tells the best pagination with its cost, and that none is legal where no label is

@@ -48,7 +48,7 @@ fn kept_fit(style: &Style, fit: u8) -> Option<u8>
     if style.version == 1 { None } else { Some(fit) }
 }
 
-// Whether two classes of fitness are not neighbours.
+// What a column of this fitness pays behind one of another.
 fn fit_cost(style: &Style, last: Option<u8>, fit: u8) -> u32
     ensures { pos result ≡ fit_cost_lem style.now last fit }
 {

@@ -6,6 +6,8 @@
 #[cfg(test)]
 mod cases;
 #[cfg(test)]
+mod frontier;
+#[cfg(test)]
 mod logs;
 #[cfg(test)]
 mod notation;

@@ -6,7 +6,7 @@ use std::alloc::{AllocError, Global};
 use std::test::Fail;
 
 // Lines of 7 points above and 2 below the baseline, with glue of 3 points between.
-fn equal_lines(alloc: Global, count: u32) -> Result<Vec<u8>, AllocError> {
+pub fn equal_lines(alloc: Global, count: u32) -> Result<Vec<u8>, AllocError> {
     let mut galley = b"\\vbox(0.0+0.0)x345.0\n".to_vec(alloc)?;
     for line in 0..count {
         if line > 0 {

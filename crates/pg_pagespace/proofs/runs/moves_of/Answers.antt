@@ -7,7 +7,8 @@ use Rattle.pg_pagespace.proofs.runs.moves_of.Goals as goal
 
 pub forth-preserved : goal.forth-preserved
 forth-preserved c =
-    ap (λ (ms : List PageMove). ms ++ reverse (moves_on c.args.labels.now c.pop.new.self.items)) c.in_ok-push_move.ensures
+    ap (λ (ms : List PageMove). ms ++ reverse (moves_on c.args.labels.now c.pop.new.self.items))
+    c.in_ok-push_move.ensures
     ∙ moves_forth c.args.labels.now c.forth.way.items c.pop.new.self.items c.in-Some.at c.forth.moves
     c.in-Some.ensures.items
     ∙ c.forth.invariant

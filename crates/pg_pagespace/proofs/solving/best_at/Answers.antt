@@ -8,7 +8,8 @@ use Rattle.pg_rules.specs.Cost.{cost}
 use Rattle.pg_pagespace.proofs.solving.best_at.Goals as goal
 
 pub moves_of-requires-clause-within : goal.moves_of-requires-clause-within
-moves_of-requires-clause-within c = slice_get_within c.args.labels.now c.args.index c.requires.best.entry c.requires.best.is
+moves_of-requires-clause-within c =
+    slice_get_within c.args.labels.now c.args.index c.requires.best.entry c.requires.best.is
 
 pub cost_at-requires : goal.cost_at-requires
 cost_at-requires c = slice_get_within c.args.labels.now c.args.index c.requires.best.entry c.requires.best.is

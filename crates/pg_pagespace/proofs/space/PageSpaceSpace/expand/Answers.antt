@@ -18,7 +18,8 @@ returns-clause-moves g c =
     let height = to_z-of_z w64 c.room.result (record { sfits = search rules }) ∙ c.room.ensures.value in
     let steps : c.in_ok-steps_to.field-0 ≡ steps_of style u c.in_ok-ends.ends =
     c.in_ok-steps_to.ensures ∙ ap (steps_of style u) c.as_slice.ensures in
-    subst (λ (its : List (Step State PageMove)). AreMoves (page_meaning (document c.args.self.now.galley.now style)) u its)
+    subst (λ (its : List (Step State PageMove)). AreMoves
+    (page_meaning (document c.args.self.now.galley.now style)) u its)
     (sym steps)
     (moves_of_ends blocks style c.args.self.now.plain u (to_z w64 (of_z w64 c.room.result)) c.in_ok-ends.ends
     c.requires height c.in_ok-ends.ensures)

@@ -1,0 +1,87 @@
+//! The labels and the best pagination of a galley, worked out by hand.
+ghost use Rattle.std.specs.Prelude.{◌≡◌};
+ghost use Rattle.std.specs.Bool.{OnTrue};
+ghost use Rattle.pg_flat.specs.Rigid.{AreRigid};
+
+use crate::rows::equal_lines;
+use pg_list::{Block, Item};
+use pg_pagespace::{Outcome, PageSpace, solve};
+use pg_showbox::read_galley;
+use pg_steps::Steps;
+use pg_style::plain_style;
+use pg_table::Table;
+use std::alloc::{AllocError, Global};
+use std::marker::Brand;
+use std::sync::ledger::{Blank, Ledger};
+use std::test::Fail;
+
+// The most bytes of a text.
+const ROOM: usize = 4096;
+
+/// Where the labels of a galley stand, and the best pagination's pages and cost.
+#[derive(Drop)]
+struct Solved {
+    blocks: Vec<u32>,
+    pages: usize,
+    cost: i128,
+}
+
+fn are_rigid(blocks: &[Block]) -> bool
+    ensures { OnTrue result (AreRigid blocks.now) }
+{
+    match blocks {
+        [] => true,
+        [Block::One(Item::BoxItem { .. }), rest @ ..] => are_rigid(rest),
+        [Block::One(Item::Glue { stretch, shrink, .. }), rest @ ..] => {
+            *stretch == 0 && *shrink == 0 && are_rigid(rest)
+        }
+        _ => false,
+    }
+}
+
+// On pages of 58 points; None where the text is no galley, or no pagination is legal.
+fn solve_text<L: Ledger>(alloc: Global, text: &[u8], blank: Blank) -> Result<Option<Solved>, AllocError>
+    requires name { blank.name ≡ L.name }
+    requires parts { blank.parts ≡ L.parts }
+    requires one { blank.parts ≡ 1 }
+{
+    let mut steps = Steps::<L>::new(blank);
+    let style = plain_style(alloc, 58 * 65536);
+    if text.len() > ROOM {
+        return Ok(None);
+    }
+    let Ok(galley) = read_galley(alloc, text, None) else {
+        return Ok(None);
+    };
+    if !are_rigid(galley.blocks().as_slice()) {
+        return Ok(None);
+    }
+    let mut blocks = Vec::new(alloc);
+    {
+        let space = PageSpace::new(alloc, &galley, &style);
+        let mut table = Table::new(alloc);
+        table.fill(&space, &mut steps)?;
+        for label in table.labels() {
+            blocks.push(label.state.place.block)?;
+        }
+    }
+    match solve(alloc, &galley, &style, &mut steps)? {
+        Outcome::Best(plan, cost) => Ok(Some(Solved {
+            blocks,
+            pages: plan.pages.as_slice().len(),
+            cost,
+        })),
+        Outcome::NoLegal => Ok(None),
+    }
+}
+
+#[test]
+fn ten_lines_have_eleven_labels(rt: HostRuntime) -> Result<(), Fail> {
+    let alloc = rt.alloc();
+    let text = equal_lines(alloc, 10)?;
+    let found = solve_text::<Brand>(alloc, &text, Blank::new(1))?.ok_or("no pages")?;
+    assert_eq!(rt; found.blocks.as_slice(), [0, 1, 3, 5, 7, 9, 11, 13, 15, 17, 19].as_slice());
+    assert_eq!(rt; found.pages, 2);
+    assert_eq!(rt; found.cost, 200);
+    Ok(())
+}
