@@ -1,0 +1,4 @@
+pub mod Areas
+pub mod AreFloats
+pub mod Callouts
+pub mod FloatsValue

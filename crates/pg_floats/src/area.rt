@@ -1,0 +1,1 @@
+//! The height of an area.

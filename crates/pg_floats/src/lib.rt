@@ -1,0 +1,15 @@
+//! The floats of a galley: their sizes and callouts, the heights of areas, and those that wait to be placed.
+//!
+//! `FloatList` is proved to be the list of floats that pg_rules (`specs/Floats.antt`) defines, with the callouts before
+//! a place and the height of an area; `specs/AreFloats.antt` says what a list is of a galley.
+#![tactic(auto)]
+
+mod area;
+mod callouts;
+mod fault;
+mod list;
+
+pub use fault::FloatFault;
+
+
+pub use list::FloatList;
