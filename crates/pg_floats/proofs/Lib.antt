@@ -1,2 +1,4 @@
+pub mod Areas
+pub mod Called
 pub mod Lists
 pub mod Numbers

@@ -52,11 +52,10 @@ picked-range (Choice (variant ∷ variants)) is = is.ranges.0
 
 -- ---- sizes
 
-pub size_of : Callout → ℤ
+abbrev pub size_of : Callout → ℤ
 size_of callout = pos callout.size
 
 sizes-in : (number b : ℕ) (items : List Item) → AllByRecursion IsItemInRange items → map size_of (callouts_in number b items) ≡ sizes_of number items
-unfolding size_of
 sizes-in number b [] all = refl
 sizes-in number b (BoxItem h d body ∷ items) all = sizes-in number b items all.1
 sizes-in number b (Rule h d body ∷ items) all = sizes-in number b items all.1

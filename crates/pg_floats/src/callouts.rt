@@ -1,5 +1,5 @@
 //! The callouts of the floats of one class.
-ghost use Rattle.std.specs.Prelude.{◌≡◌, ◌<◌, ◌≤◌, ◌+◌, ◌^◌, ◌++◌, ◌∷◌, [], OnOk, OnErr, IfOk, IfSome, length, pos, ◌≤ℤ◌};
+ghost use Rattle.std.specs.Prelude.{◌≡◌, ◌<◌, ◌≤◌, ◌+◌, ◌^◌, ◌++◌, ◌∷◌, [], OnOk, OnErr, IfOk, IfSome, length, slice_get};
 ghost use Rattle.std.specs.List.{AllByRecursion};
 ghost use Rattle.pg_list.specs.Ranges.{IsItemInRange};
 ghost use Rattle.pg_list.specs.Shapes.{IsBlock};
@@ -54,6 +54,13 @@ impl Callouts {
     {
         self.items.push(callout)?;
         Ok(())
+    }
+
+    pub fn at(&self, index: usize) -> Option<Callout>
+        ensures value { result ≡ slice_get self.now index }
+        ensures range { IfSome result IsInRange }
+    {
+        self.items.get(index).copied()
     }
 
     pub fn as_slice(&self) -> &[Callout]
