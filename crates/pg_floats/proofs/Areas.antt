@@ -1,7 +1,7 @@
 -- The floats that counts deal out, counted and added, and those of the definition.
-use Rattle.std.proofs.Common.{◌≡◌, refl, sym, ap, ◌∙◌, subst, ℕ, zero, suc, ◌+◌, ◌*◌, ◌-◌, ◌^◌, ◌<◌, ◌≤◌, List, [], ◌∷◌, ◌++◌, length, length-append, map, take, drop, arith, Bool, true, false, Option, Some, None, ℤ, pos, ◌+ℤ◌, ◌*ℤ◌, ◌≤ℤ◌}
+use Rattle.std.proofs.Common.{◌≡◌, refl, sym, ap, ◌∙◌, ℕ, zero, suc, ◌+◌, ◌*◌, ◌-◌, ◌^◌, ◌<◌, ◌≤◌, List, [], ◌∷◌, ◌++◌, length, length-append, map, take, drop, arith, true, false, Some, None, ℤ, pos, ◌+ℤ◌, ◌*ℤ◌, ◌≤ℤ◌}
 use Rattle.std.specs.Prelude.{◌==◌, ◌&&◌, ◌||◌, nat_le, if◌then◌else◌, unsigned_abs}
-use Rattle.std.specs.List.{AllByRecursion, sum_by}
+use Rattle.std.specs.List.{AllByRecursion}
 use Rattle.std.proofs.lemmas.Int.{ints}
 use Rattle.std.proofs.lemmas.Bool.Decides.{nat_tests}
 use Rattle.std.proofs.lemmas.List.{map-append}
@@ -22,7 +22,8 @@ use Rattle.pg_floats.specs.Callouts.{callouts_from}
 use Rattle.pg_floats.specs.FloatsValue.{ClassFloatsValue, IsInRange, total_of}
 use Rattle.pg_floats.proofs.Lists.{size_of, sizes-from, flat-first}
 
-pub sum-few : (callouts : List Callout) → AllByRecursion IsInRange callouts → sizes_together callouts ≤ 2 ^ 30 * length callouts
+pub sum-few : (callouts : List Callout) → AllByRecursion IsInRange callouts →
+    sizes_together callouts ≤ 2 ^ 30 * length callouts
 sum-few [] all = omega arith
 sum-few (c ∷ callouts) all =
     let e = sum_by-cons (λ (callout : Callout). callout.size) c callouts in
@@ -46,7 +47,8 @@ next-few callouts from count =
     take-few (suc n) [] = omega arith
     take-few (suc n) (x ∷ xs) = let r = take-few n xs in omega (arith, r)
 
-pub count-few : (slot : ℕ) (list : List ClassFloatsValue) (before counts : List ℕ) → dealt_count slot list before counts ≤ total_of list
+pub count-few : (slot : ℕ) (list : List ClassFloatsValue) (before counts : List ℕ) →
+    dealt_count slot list before counts ≤ total_of list
 count-few slot [] before counts = omega arith
 count-few slot (kept ∷ list) before counts =
     let e = sum_by-cons (λ (floats : ClassFloatsValue). length floats.callouts) kept list in
@@ -76,49 +78,71 @@ map-drop f (suc n) (x ∷ xs) = map-drop f n xs
 -- the callouts that are dealt out
 dealt_callouts : ℕ → List ClassFloatsValue → List ℕ → List ℕ → List Callout
 dealt_callouts slot [] before counts = []
-dealt_callouts slot (kept ∷ list) before counts = next_of kept.callouts (entry before slot) (entry counts slot) ++ dealt_callouts (slot + 1) list before counts
+dealt_callouts slot (kept ∷ list) before counts =
+    next_of kept.callouts (entry before slot) (entry counts slot) ++ dealt_callouts (slot + 1) list before counts
 
-dealt-is : (slot : ℕ) (list : List ClassFloatsValue) (before counts : List ℕ) → dealt_from slot (sizes_of_all list) before counts ≡ map size_of (dealt_callouts slot list before counts)
+dealt-is : (slot : ℕ) (list : List ClassFloatsValue) (before counts : List ℕ) →
+    dealt_from slot (sizes_of_all list) before counts ≡ map size_of (dealt_callouts slot list before counts)
 unfolding sizes_of_all dealt_callouts
 dealt-is slot [] before counts = refl
 dealt-is slot (kept ∷ list) before counts =
     ap (λ (xs : List ℤ). xs ++ dealt_from (slot + 1) (sizes_of_all list) before counts)
-    (ap (take (entry counts slot)) (map-drop size_of (entry before slot) kept.callouts) ∙ map-take size_of (entry counts slot) (drop (entry before slot) kept.callouts))
-    ∙ (ap (λ (xs : List ℤ). map size_of (next_of kept.callouts (entry before slot) (entry counts slot)) ++ xs) (dealt-is (slot + 1) list before counts)
-    ∙ sym (map-append size_of (next_of kept.callouts (entry before slot) (entry counts slot)) (dealt_callouts (slot + 1) list before counts)))
+    (ap (take (entry counts slot)) (map-drop size_of (entry before slot) kept.callouts)
+    ∙ map-take size_of (entry counts slot) (drop (entry before slot) kept.callouts))
+    ∙ (ap (λ (xs : List ℤ). map size_of (next_of kept.callouts (entry before slot) (entry counts slot)) ++ xs)
+    (dealt-is (slot + 1) list before counts)
+    ∙ sym (map-append size_of (next_of kept.callouts (entry before slot) (entry counts slot))
+    (dealt_callouts (slot + 1) list before counts)))
 
-count-is : (slot : ℕ) (list : List ClassFloatsValue) (before counts : List ℕ) → dealt_count slot list before counts ≡ length (dealt_callouts slot list before counts)
+count-is : (slot : ℕ) (list : List ClassFloatsValue) (before counts : List ℕ) →
+    dealt_count slot list before counts ≡ length (dealt_callouts slot list before counts)
 unfolding dealt_callouts
 count-is slot [] before counts = refl
 count-is slot (kept ∷ list) before counts =
-    ap (λ n. length (next_of kept.callouts (entry before slot) (entry counts slot)) + n) (count-is (slot + 1) list before counts)
-    ∙ sym (length-append (next_of kept.callouts (entry before slot) (entry counts slot)) (dealt_callouts (slot + 1) list before counts))
+    ap (λ n. length (next_of kept.callouts (entry before slot) (entry counts slot)) + n)
+    (count-is (slot + 1) list before counts)
+    ∙ sym (length-append (next_of kept.callouts (entry before slot) (entry counts slot))
+    (dealt_callouts (slot + 1) list before counts))
 
-sizes-are : (slot : ℕ) (list : List ClassFloatsValue) (before counts : List ℕ) → dealt_sizes slot list before counts ≡ sizes_together (dealt_callouts slot list before counts)
+sizes-are : (slot : ℕ) (list : List ClassFloatsValue) (before counts : List ℕ) →
+    dealt_sizes slot list before counts ≡ sizes_together (dealt_callouts slot list before counts)
 unfolding dealt_callouts
 sizes-are slot [] before counts = refl
 sizes-are slot (kept ∷ list) before counts =
-    ap (λ n. sizes_together (next_of kept.callouts (entry before slot) (entry counts slot)) + n) (sizes-are (slot + 1) list before counts)
-    ∙ sym (sum_by-append (λ (callout : Callout). callout.size) (next_of kept.callouts (entry before slot) (entry counts slot)) (dealt_callouts (slot + 1) list before counts))
+    ap (λ n. sizes_together (next_of kept.callouts (entry before slot) (entry counts slot)) + n)
+    (sizes-are (slot + 1) list before counts)
+    ∙ sym (sum_by-append (λ (callout : Callout). callout.size)
+    (next_of kept.callouts (entry before slot) (entry counts slot))
+    (dealt_callouts (slot + 1) list before counts))
 
-all-is : (slot : ℕ) (list : List ClassFloatsValue) (before counts : List ℕ) → has_dealt slot list before counts ≡ has_all_from slot (sizes_of_all list) before counts
+all-is : (slot : ℕ) (list : List ClassFloatsValue) (before counts : List ℕ) →
+    has_dealt slot list before counts ≡ has_all_from slot (sizes_of_all list) before counts
 unfolding sizes_of_all
 all-is slot [] before counts = refl
 all-is slot (kept ∷ list) before counts =
-    ap (λ b. has_next kept.callouts (entry before slot) (entry counts slot) && b) (all-is (slot + 1) list before counts)
-    ∙ ap (λ n. ((entry counts slot == 0) || nat_le (entry before slot + entry counts slot) n) && has_all_from (slot + 1) (sizes_of_all list) before counts) (sym (mapped size_of kept.callouts))
+    ap (λ b. has_next kept.callouts (entry before slot) (entry counts slot) && b)
+    (all-is (slot + 1) list before counts)
+    ∙ ap (λ n. ((entry counts slot == 0) || nat_le (entry before slot + entry counts slot) n)
+    && has_all_from (slot + 1) (sizes_of_all list) before counts) (sym (mapped size_of kept.callouts))
 
 floats-are : (blocks : List Block) (numbers : List ℕ) → AllByRecursion IsBlock blocks →
-    map (λ number. sizes_of number (flat blocks [])) numbers ≡ sizes_of_all (map (λ number. record { number = number; callouts = callouts_from number 0 blocks }) numbers)
+    map (λ number. sizes_of number (flat blocks [])) numbers
+    ≡ sizes_of_all (map (λ number. record {
+      number = number;
+      callouts =
+          callouts_from number 0 blocks;
+    }) numbers)
 unfolding sizes_of_all
 floats-are blocks [] all = refl
 floats-are blocks (number ∷ numbers) all =
-    ap (λ (xs : List ℤ). xs ∷ map (λ number. sizes_of number (flat blocks [])) numbers) (ap (λ (xs : List Item). sizes_of number xs) (flat-first blocks) ∙ sym (sizes-from number 0 blocks all))
+    ap (λ (xs : List ℤ). xs ∷ map (λ number. sizes_of number (flat blocks [])) numbers)
+    (ap (λ (xs : List Item). sizes_of number xs) (flat-first blocks) ∙ sym (sizes-from number 0 blocks all))
     ∙ ap (λ (xs : List (List ℤ)). map size_of (callouts_from number 0 blocks) ∷ xs) (floats-are blocks numbers all)
 
 -- ---- the height
 
-sum-is : (callouts : List Callout) → whole_sum_by (λ (z : ℤ). z) (map size_of callouts) ≡ pos (sizes_together callouts)
+sum-is : (callouts : List Callout) →
+    whole_sum_by (λ (z : ℤ). z) (map size_of callouts) ≡ pos (sizes_together callouts)
 sum-is [] = refl
 sum-is (c ∷ callouts) =
     let e = sum_by-cons (λ (callout : Callout). callout.size) c callouts in
@@ -143,40 +167,55 @@ height-is : (rule : AreaRuleValue) → IsAreaRule rule → (callouts : List Call
     area_height rule (map size_of callouts) ≡ pos (area_size rule (length callouts) (sizes_together callouts))
 height-is rule is [] = refl
 height-is rule is (c ∷ callouts) =
-    ap (λ n. (whole_sum_by (λ (z : ℤ). z) (map size_of (c ∷ callouts)) +ℤ (rule.sep *ℤ pos n)) +ℤ rule.gap) (mapped size_of callouts)
-    ∙ (height-sum (whole_sum_by (λ (z : ℤ). z) (map size_of (c ∷ callouts))) rule.sep rule.gap (length callouts) (sizes_together (c ∷ callouts)) (sum-is (c ∷ callouts)) is.sep_in.0 is.gap_in.0
+    ap (λ n. (whole_sum_by (λ (z : ℤ). z) (map size_of (c ∷ callouts)) +ℤ (rule.sep *ℤ pos n)) +ℤ rule.gap)
+    (mapped size_of callouts)
+    ∙ (height-sum (whole_sum_by (λ (z : ℤ). z) (map size_of (c ∷ callouts))) rule.sep rule.gap (length callouts)
+    (sizes_together (c ∷ callouts)) (sum-is (c ∷ callouts)) is.sep_in.0 is.gap_in.0
     ∙ some (length callouts) (sizes_together (c ∷ callouts)))
   where
-    some : (n m : ℕ) → pos ((m + unsigned_abs rule.sep * n) + unsigned_abs rule.gap) ≡ pos (area_size rule (suc n) m)
+    some : (n m : ℕ) → pos ((m + unsigned_abs rule.sep * n) + unsigned_abs rule.gap)
+        ≡ pos (area_size rule (suc n) m)
     some n m =
         let t : (suc n == 0) ≡ false = grind (arith, nat_tests) in
         let s : suc n - 1 ≡ n = omega arith in
         rw (t, s) refl
 
-all-there : (blocks : List Block) (style : StyleValue) (list : List ClassFloatsValue) → AreFloats blocks style list → floats blocks style ≡ sizes_of_all list
-all-there blocks style list are = floats-are blocks (float_numbers style) are.shape ∙ ap sizes_of_all (sym are.floats_are)
+all-there : (blocks : List Block) (style : StyleValue) (list : List ClassFloatsValue) →
+    AreFloats blocks style list → floats blocks style ≡ sizes_of_all list
+all-there blocks style list are =
+    floats-are blocks (float_numbers style) are.shape ∙ ap sizes_of_all (sym are.floats_are)
 
-pub area-none : (blocks : List Block) (style : StyleValue) (list : List ClassFloatsValue) (rule : AreaRuleValue) (placed counts : List ℕ) → AreFloats blocks style list →
+pub area-none : (blocks : List Block) (style : StyleValue) (list : List ClassFloatsValue) (rule : AreaRuleValue)
+    (placed counts : List ℕ) → AreFloats blocks style list →
     has_dealt 0 list placed counts ≡ false → None ≡ height_of (floats blocks style) rule placed counts
 area-none blocks style list rule placed counts are e =
     let is = all-there blocks style list are in
-    let none : has_all (floats blocks style) placed counts ≡ false = ap (λ (xs : List (List ℤ)). has_all xs placed counts) is ∙ (sym (all-is 0 list placed counts) ∙ e) in
+    let none : has_all (floats blocks style) placed counts ≡ false =
+    ap (λ (xs : List (List ℤ)). has_all xs placed counts) is ∙ (sym (all-is 0 list placed counts) ∙ e) in
     ap (λ b. if b then Some (area_height rule (dealt (floats blocks style) placed counts)) else None) (sym none)
 
-pub area-some : (blocks : List Block) (style : StyleValue) (list : List ClassFloatsValue) (rule : AreaRuleValue) (placed counts : List ℕ) (it : Dealt) → AreFloats blocks style list → IsAreaRule rule →
-    IsDealt list placed counts it → Some (pos (area_size rule it.count it.sizes)) ≡ height_of (floats blocks style) rule placed counts
+pub area-some : (blocks : List Block) (style : StyleValue) (list : List ClassFloatsValue) (rule : AreaRuleValue)
+    (placed counts : List ℕ) (it : Dealt) → AreFloats blocks style list → IsAreaRule rule →
+    IsDealt list placed counts it →
+    Some (pos (area_size rule it.count it.sizes)) ≡ height_of (floats blocks style) rule placed counts
 area-some blocks style list rule placed counts it are range is =
     let whole = all-there blocks style list are in
-    let there : has_all (floats blocks style) placed counts ≡ true = ap (λ (xs : List (List ℤ)). has_all xs placed counts) whole ∙ (sym (all-is 0 list placed counts) ∙ is.there) in
-    let height : area_height rule (dealt (floats blocks style) placed counts) ≡ pos (area_size rule it.count it.sizes) =
-        ap (λ (xs : List (List ℤ)). area_height rule (dealt xs placed counts)) whole
-        ∙ (ap (area_height rule) (dealt-is 0 list placed counts)
-        ∙ (height-is rule range (dealt_callouts 0 list placed counts)
-        ∙ (ap (λ n. pos (area_size rule n (sizes_together (dealt_callouts 0 list placed counts)))) (sym (is.count_is ∙ count-is 0 list placed counts))
-        ∙ ap (λ m. pos (area_size rule it.count m)) (sym (is.sizes_is ∙ sizes-are 0 list placed counts))))) in
-    ap Some (sym height) ∙ ap (λ b. if b then Some (area_height rule (dealt (floats blocks style) placed counts)) else None) (sym there)
+    let there : has_all (floats blocks style) placed counts ≡ true =
+    ap (λ (xs : List (List ℤ)). has_all xs placed counts) whole
+    ∙ (sym (all-is 0 list placed counts) ∙ is.there) in
+    let height : area_height rule (dealt (floats blocks style) placed counts)
+    ≡ pos (area_size rule it.count it.sizes) =
+    ap (λ (xs : List (List ℤ)). area_height rule (dealt xs placed counts)) whole
+    ∙ (ap (area_height rule) (dealt-is 0 list placed counts)
+    ∙ (height-is rule range (dealt_callouts 0 list placed counts)
+    ∙ (ap (λ n. pos (area_size rule n (sizes_together (dealt_callouts 0 list placed counts))))
+    (sym (is.count_is ∙ count-is 0 list placed counts))
+    ∙ ap (λ m. pos (area_size rule it.count m)) (sym (is.sizes_is ∙ sizes-are 0 list placed counts))))) in
+    ap Some (sym height) ∙ ap
+    (λ b. if b then Some (area_height rule (dealt (floats blocks style) placed counts)) else None) (sym there)
 
-pub dealt-end : (all rest : List ClassFloatsValue) (slot : ℕ) (placed counts : List ℕ) (it : Dealt) → length rest < 1 → total_of all ≤ 2 ^ 12 →
+pub dealt-end : (all rest : List ClassFloatsValue) (slot : ℕ) (placed counts : List ℕ) (it : Dealt) →
+    length rest < 1 → total_of all ≤ 2 ^ 12 →
     has_dealt slot rest placed counts ≡ has_dealt 0 all placed counts →
     it.count + dealt_count slot rest placed counts ≡ dealt_count 0 all placed counts →
     it.sizes + dealt_sizes slot rest placed counts ≡ dealt_sizes 0 all placed counts →

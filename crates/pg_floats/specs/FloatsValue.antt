@@ -1,7 +1,7 @@
 -- What contracts see of a list of floats.
 use Rattle.std.specs.Prelude.{ℕ, ◌<◌, ◌≤◌, ◌^◌, List, length, Option, None, slice_get}
 use Rattle.std.specs.Option.{option_map_or}
-use Rattle.std.specs.List.{AllByRecursion, sum_by}
+use Rattle.std.specs.List.{sum_by}
 use Rattle.pg_floats.specs.declared.callouts.Callout.{Callout}
 
 -- the floats of a class, in order

@@ -74,7 +74,8 @@ pub fn deal(list: &[ClassFloats], placed: &Counts, counts: &Counts) -> Option<De
     let mut rest = list;
     let mut slot = 0;
     'each: while let [floats, after @ ..] = rest {
-        let Some(next) = next_floats(&floats.callouts, entry(placed, slot), entry(counts, slot)) else {
+        let Some(next) = next_floats(&floats.callouts, entry(placed, slot), entry(counts, slot))
+        else {
             return None;
         };
         dealt.count += next.count;

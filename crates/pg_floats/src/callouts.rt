@@ -92,7 +92,12 @@ fn callout_of(item: &Item, number: u8, block: u32) -> Option<Callout>
 }
 
 // Adds the callouts of a block's items.
-fn push_callouts(out: &mut Callouts, items: &[Item], number: u8, block: u32) -> Result<(), AllocError>
+fn push_callouts(
+    out: &mut Callouts,
+    items: &[Item],
+    number: u8,
+    block: u32,
+) -> Result<(), AllocError>
     requires { AllByRecursion IsItemInRange items.now }
     ensures { OnOk result (out.new ≡ out.old ++ callouts_in number block items.now) }
 {

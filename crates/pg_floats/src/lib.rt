@@ -10,6 +10,4 @@ mod fault;
 mod list;
 
 pub use fault::FloatFault;
-
-
 pub use list::FloatList;

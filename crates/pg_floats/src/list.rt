@@ -113,7 +113,11 @@ fn push_class(
     Ok(())
 }
 
-fn lists_of(alloc: Global, blocks: &[Block], classes: &[Class]) -> Result<Vec<ClassFloats>, AllocError>
+fn lists_of(
+    alloc: Global,
+    blocks: &[Block],
+    classes: &[Class],
+) -> Result<Vec<ClassFloats>, AllocError>
     requires shape { AllByRecursion IsBlock blocks.now }
     requires few { length blocks.now ≤ 2 ^ 20 }
     ensures { IfOk result (λ lists. lists.items ≡ lists_from blocks.now classes.now) }
@@ -228,7 +232,10 @@ fn inserts_among(items: &[Item], index: usize, number: u8) -> usize
         Some(front) => front,
         None => items,
     };
-    front.iter().filter(|item| is_insert_of(item, number)).count()
+    front
+        .iter()
+        .filter(|item| is_insert_of(item, number))
+        .count()
 }
 
 // How many inserts of a class stand before a place in its variant.
@@ -236,7 +243,11 @@ fn inserts_before(galley: &Galley, place: Place, number: u8) -> usize
     ensures value { result ≡ length (sizes_of number (take place.index (items_around_of galley.now.blocks place))) }
     ensures few { result ≤ 2 ^ 20 }
 {
-    inserts_among(items_around(blocks_of(galley), place), place.index as usize, number)
+    inserts_among(
+        items_around(blocks_of(galley), place),
+        place.index as usize,
+        number,
+    )
 }
 
 // How many floats of a class are called before a place.

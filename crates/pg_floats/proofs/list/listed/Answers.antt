@@ -1,8 +1,6 @@
-use Rattle.std.proofs.Common.{◌≡◌, ◌+◌, ◌*◌, ◌^◌, ◌<◌, ◌≤◌, ap, sym, subst, arith, length, List, ℕ}
+use Rattle.std.proofs.Common.{ap, arith, length}
 use Rattle.std.proofs.Math.Nat.{mul-le-mul}
-use Rattle.pg_list.specs.Counts.{item_count}
-use Rattle.pg_floats.specs.FloatsValue.{ClassFloatsValue, total_of}
-use Rattle.pg_floats.specs.Callouts.{lists_from}
+use Rattle.pg_floats.specs.FloatsValue.{total_of}
 use Rattle.pg_floats.proofs.Lists.{blocks-few, lists-few, total-few}
 use Rattle.pg_floats.proofs.list.listed.Goals as goal
 

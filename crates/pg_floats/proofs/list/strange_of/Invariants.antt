@@ -6,7 +6,8 @@ use Rattle.pg_floats.proofs.list.strange_of.Given as goal
 
 abbrev pub invariant-each : goal.invariant-each
 invariant-each l =
-    (strange_blocks l.style.classes l.rest ≡ strange_blocks l.style.classes l.initial.rest) × AllByRecursion IsBlock l.rest
+    (strange_blocks l.style.classes l.rest ≡ strange_blocks l.style.classes l.initial.rest)
+    × AllByRecursion IsBlock l.rest
 
 abbrev pub decreases-each : goal.decreases-each
 decreases-each l = length l.rest
