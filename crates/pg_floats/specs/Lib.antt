@@ -2,3 +2,4 @@ pub mod Areas
 pub mod AreFloats
 pub mod Callouts
 pub mod FloatsValue
+pub mod QueueValue

@@ -8,6 +8,8 @@ mod area;
 mod callouts;
 mod fault;
 mod list;
+mod queue;
 
 pub use fault::FloatFault;
 pub use list::FloatList;
+pub use queue::{Late, Queue};
