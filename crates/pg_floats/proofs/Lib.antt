@@ -2,3 +2,4 @@ pub mod Areas
 pub mod Called
 pub mod Lists
 pub mod Numbers
+pub mod Queues

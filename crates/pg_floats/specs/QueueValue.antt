@@ -1,9 +1,13 @@
 -- The floats that are placed and that wait, by class, and the ages of these.
-use Rattle.std.specs.Prelude.{◌≡◌, ℕ, ◌+◌, ◌-◌, ◌<◌, ◌≤◌, ◌^◌, nat_le, if◌then◌else◌, List, [], ◌∷◌, length, map, sum, take, drop, slice_index, slice_set, replicate, Option, Some, None}
+use Rattle.std.specs.Prelude.{◌≡◌, ℕ, ◌+◌, ◌-◌, ◌<◌, ◌≤◌, ◌^◌, nat_le, ◌==◌, if◌then◌else◌, List, [], ◌∷◌, length, map, sum, take, drop, slice_index, slice_set, replicate, Option, Some, None}
 use Rattle.std.specs.List.{insert, remove, AllByRecursion}
 use Rattle.pg_style.specs.Values.{StyleValue}
 use Rattle.pg_rules.specs.Floats.{float_numbers}
 use Rattle.pg_rules.specs.Legal.{distance_table}
+use Rattle.pg_style.specs.Classes.{is_float_class}
+use Rattle.pg_style.specs.declared.style.Class.{Class}
+use Rattle.pg_style.specs.declared.style.Kind.{Kind}
+use Rattle.pg_style.specs.declared.style.Kind.TheVariants.{Note, Float}
 use Rattle.pg_floats.specs.declared.queue.Late.{Late}
 
 -- ages stand by class, then by number: of each class as many as wait
@@ -70,11 +74,26 @@ abbrev pub or_late : Option Late → Option Late → Option Late
 or_late (Some late) other = Some late
 or_late None other = other
 
--- the first by class and number
-abbrev pub late_from : StyleValue → ℕ → List ℕ → List ℕ → Option Late
-late_from style slot [] ages = None
-late_from style slot (count ∷ waiting) ages =
-    or_late (late_in (length (distance_table style slot)) slot (take count ages)) (late_from style (slot + 1) waiting (drop count ages))
+-- the first by class and number, where each slot has a limit
+abbrev pub late_by : (ℕ → ℕ) → ℕ → List ℕ → List ℕ → Option Late
+late_by limit slot [] ages = None
+late_by limit slot (count ∷ waiting) ages =
+    or_late (late_in (limit slot) slot (take count ages)) (late_by limit (slot + 1) waiting (drop count ages))
 
+-- the float that would have waited too long
 abbrev pub late_of : StyleValue → QueueValue → Option Late
-late_of style queue = late_from style 0 queue.waiting queue.ages
+late_of style queue = late_by (λ slot. length (distance_table style slot)) 0 queue.waiting queue.ages
+
+-- the table of the slot-th float class
+abbrev pub next_table : Kind → ℕ → List ℕ → List ℕ → List ℕ
+next_table (Note skip limit) slot same less = same
+next_table (Float area distance) slot same less = if slot == 0 then distance else less
+
+abbrev pub table_in : List Class → ℕ → List ℕ
+table_in [] slot = []
+table_in (class ∷ classes) slot = next_table class.kind slot (table_in classes slot) (table_in classes (slot - 1))
+
+-- how many float classes there are
+abbrev pub float_count_in : List Class → ℕ
+float_count_in [] = 0
+float_count_in (class ∷ classes) = (if is_float_class class then 1 else 0) + float_count_in classes
