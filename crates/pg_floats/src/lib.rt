@@ -7,9 +7,11 @@
 mod area;
 mod callouts;
 mod fault;
+mod laws;
 mod list;
 mod queue;
 
 pub use fault::FloatFault;
+pub use laws::queues_stay_young;
 pub use list::FloatList;
 pub use queue::{Late, Queue};

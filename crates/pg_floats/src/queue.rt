@@ -253,7 +253,12 @@ impl Queue {
     }
 
     /// A queue with these placed counts and these ages, of which each class has as many as its entry in `waiting`.
-    pub fn resume(style: &Style, placed: &Counts, waiting: &Counts, ages: &Ages) -> Result<Queue, AllocError>
+    pub fn resume(
+        style: &Style,
+        placed: &Counts,
+        waiting: &Counts,
+        ages: &Ages,
+    ) -> Result<Queue, AllocError>
         requires queue { IsQueue (record { placed = placed.now; waiting = waiting.now; ages = ages.now }) }
         requires of { IsOf style.now (record { placed = placed.now; waiting = waiting.now; ages = ages.now }) }
         ensures { IfOk result (λ queue. queue ≡ record { placed = placed.now; waiting = waiting.now; ages = ages.now }) }

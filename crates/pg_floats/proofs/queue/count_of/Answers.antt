@@ -6,5 +6,6 @@ use Rattle.pg_floats.proofs.queue.count_of.Goals as goal
 
 pub returns-clause-value : goal.returns-clause-value
 returns-clause-value c =
-    c.count_floats.ensures.value ∙ (ap (λ (classes : List Class). float_count_in classes) c.classes_of.ensures.classes
+    c.count_floats.ensures.value
+    ∙ (ap (λ (classes : List Class). float_count_in classes) c.classes_of.ensures.classes
     ∙ count-is c.args.style.now c.classes_of.ensures.range)

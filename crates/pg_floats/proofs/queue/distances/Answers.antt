@@ -6,5 +6,6 @@ use Rattle.pg_floats.proofs.queue.distances.Goals as goal
 
 pub returns : goal.returns
 returns c =
-    c.table_at.ensures.table ∙ (ap (λ (classes : List Class). table_in classes c.args.slot) c.classes_of.ensures.classes
+    c.table_at.ensures.table
+    ∙ (ap (λ (classes : List Class). table_in classes c.args.slot) c.classes_of.ensures.classes
     ∙ tables-are c.args.style.now c.args.slot c.classes_of.ensures.range)

@@ -1,4 +1,4 @@
-use Rattle.std.proofs.Common.{◌≡◌, ◌≤◌, length}
+use Rattle.std.proofs.Common.{◌≡◌, length}
 use Rattle.pg_floats.specs.QueueValue.{table_in}
 use Rattle.pg_floats.proofs.queue.table_at.Given as goal
 
