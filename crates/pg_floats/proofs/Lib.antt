@@ -1,0 +1,5 @@
+pub mod Areas
+pub mod Called
+pub mod Lists
+pub mod Numbers
+pub mod Queues

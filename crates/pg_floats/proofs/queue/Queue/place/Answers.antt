@@ -1,0 +1,18 @@
+use Rattle.std.proofs.Common.{◌≡◌, ◌<◌, ◌+◌, subst, sym, length, arith, ℕ, get_or, take}
+use Rattle.std.specs.Prelude.{sum}
+use Rattle.pg_rules.specs.Legal.{distance_table}
+use Rattle.pg_floats.proofs.Queues.{young-first, positive}
+use Rattle.pg_floats.proofs.queue.Queue.place.Goals as goal
+
+pub entry_of-requires : goal.entry_of-requires
+entry_of-requires c =
+    let style = c.args.style.now in
+    let some : 0 < get_or c.args.self.now.waiting c.args.slot 0 =
+    positive (get_or c.args.self.now.waiting c.args.slot 0) (λ e. let no = c.in-Some.ensures.none.1 e in cc) in
+    let first = young-first style 0 c.args.slot c.args.self.now.waiting c.args.self.now.ages c.requires.slot some
+    c.take_first.ensures.waits c.requires.of.young in
+    let z : 0 + c.args.slot ≡ c.args.slot = omega arith in
+    let P : ℕ → Type 0 = λ n. n < length (distance_table style c.args.slot) in
+    subst P (sym c.in-Some.ensures.age)
+    (subst (λ n. get_or c.args.self.now.ages (sum (take c.args.slot c.args.self.now.waiting)) 0 < length
+    (distance_table style n)) z first)

@@ -1,0 +1,5 @@
+pub mod Areas
+pub mod AreFloats
+pub mod Callouts
+pub mod FloatsValue
+pub mod QueueValue

@@ -1,0 +1,144 @@
+//! The callouts of the floats of one class.
+ghost use Rattle.std.specs.Prelude.{◌≡◌, ◌<◌, ◌≤◌, ◌+◌, ◌^◌, ◌++◌, ◌∷◌, [], OnOk, OnErr, IfOk, IfSome, length, slice_get};
+ghost use Rattle.std.specs.List.{AllByRecursion};
+ghost use Rattle.pg_list.specs.Ranges.{IsItemInRange};
+ghost use Rattle.pg_list.specs.Shapes.{IsBlock};
+ghost use Rattle.pg_list.specs.Places.{picked_items};
+ghost use Rattle.pg_floats.specs.FloatsValue.{IsInRange};
+ghost use Rattle.pg_floats.specs.Callouts.{callout_of as callout_of_item, callouts_in, callouts_from};
+
+use pg_list::{Block, Item};
+use std::alloc::{AllocError, Global};
+use std::marker::Model;
+use std::slice;
+
+/// Where a float is called, and its size in scaled points.
+#[derive(Clone, Copy, Debug, PartialEq, Eq)]
+pub struct Callout {
+    pub block: u32,
+    pub size: u32,
+}
+
+/// Callouts in order.
+#[derive(Debug, Drop)]
+pub struct Callouts {
+    items: Vec<Callout>,
+}
+
+impl Model for Callouts {
+    ghost use Rattle.std.specs.Prelude.{List};
+    ghost use Rattle.std.specs.List.{AllByRecursion};
+    ghost use Rattle.pg_floats.specs.declared.callouts.Callout.{Callout};
+
+    ghost Value = { List Callout };
+
+    ghost use Rattle.pg_floats.specs.FloatsValue.{IsInRange};
+
+    ghost view = { λ a. a.items.items };
+
+    ghost invariant = { λ a. AllByRecursion IsInRange a.items.items };
+}
+
+impl Callouts {
+    pub fn new(alloc: Global) -> Callouts
+        ensures { result ≡ [] }
+    {
+        Callouts {
+            items: Vec::new(alloc),
+        }
+    }
+
+    pub fn push(&mut self, callout: Callout) -> Result<(), AllocError>
+        requires { IsInRange callout }
+        ensures ok { OnOk result (self.new ≡ self.old ++ callout ∷ []) }
+    {
+        self.items.push(callout)?;
+        Ok(())
+    }
+
+    pub fn at(&self, index: usize) -> Option<Callout>
+        ensures value { result ≡ slice_get self.now index }
+        ensures range { IfSome result IsInRange }
+    {
+        self.items.get(index).copied()
+    }
+
+    pub fn as_slice(&self) -> &[Callout]
+        ensures items { result.now ≡ self.now }
+        ensures range { AllByRecursion IsInRange self.now }
+    {
+        self.items.as_slice()
+    }
+}
+
+fn callout_of(item: &Item, number: u8, block: u32) -> Option<Callout>
+    requires { IsItemInRange item.now }
+    ensures value { result ≡ callout_of_item number block item.now }
+    ensures range { IfSome result IsInRange }
+{
+    match item {
+        Item::Insert { class, size, .. } => {
+            if *class == number {
+                Some(Callout {
+                    block,
+                    size: size.unsigned_abs(),
+                })
+            } else {
+                None
+            }
+        }
+        _ => None,
+    }
+}
+
+// Adds the callouts of a block's items.
+fn push_callouts(
+    out: &mut Callouts,
+    items: &[Item],
+    number: u8,
+    block: u32,
+) -> Result<(), AllocError>
+    requires { AllByRecursion IsItemInRange items.now }
+    ensures { OnOk result (out.new ≡ out.old ++ callouts_in number block items.now) }
+{
+    let mut rest = items;
+    'items: while let [item, after @ ..] = rest {
+        if let Some(callout) = callout_of(item, number, block) {
+            out.push(callout)?;
+        }
+        rest = after;
+    }
+    Ok(())
+}
+
+/// The items of a block's first variant.
+pub fn first_items_of(block: &Block) -> &[Item]
+    requires { IsBlock block.now }
+    ensures items { result.now ≡ picked_items block.now 0 }
+    ensures range { AllByRecursion IsItemInRange (picked_items block.now 0) }
+{
+    match block {
+        Block::One(item) => slice::from_ref(item),
+        Block::Choice(choice) => match choice.variants().first() {
+            Some(variant) => variant.items.as_slice(),
+            None => &[],
+        },
+    }
+}
+
+/// The callouts of a class in a galley.
+pub fn callouts_of(alloc: Global, blocks: &[Block], number: u8) -> Result<Callouts, AllocError>
+    requires shape { AllByRecursion IsBlock blocks.now }
+    requires few { length blocks.now ≤ 2 ^ 20 }
+    ensures { IfOk result (λ callouts. callouts ≡ callouts_from number 0 blocks.now) }
+{
+    let mut callouts = Callouts::new(alloc);
+    let mut rest = blocks;
+    let mut index = 0u32;
+    'each: while let [block, after @ ..] = rest {
+        push_callouts(&mut callouts, first_items_of(block), number, index)?;
+        rest = after;
+        index += 1;
+    }
+    Ok(callouts)
+}

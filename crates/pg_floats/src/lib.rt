@@ -1,0 +1,17 @@
+//! The floats of a galley: their sizes and callouts, the heights of areas, and those that wait to be placed.
+//!
+//! `FloatList` is proved to be the list of floats that pg_rules (`specs/Floats.antt`) defines, with the callouts before
+//! a place and the height of an area; `specs/AreFloats.antt` says what a list is of a galley.
+#![tactic(auto)]
+
+mod area;
+mod callouts;
+mod fault;
+mod laws;
+mod list;
+mod queue;
+
+pub use fault::FloatFault;
+pub use laws::queues_stay_young;
+pub use list::FloatList;
+pub use queue::{Late, Queue};

@@ -1,0 +1,347 @@
+//! The list of floats.
+ghost use Rattle.std.specs.Prelude.{◌≡◌, ◌==◌, ◌↔◌, ◌<◌, ◌≤◌, ◌+◌, ◌^◌, ◌++◌, ◌∷◌, [], ℕ, List, Some, None, Ok, Err, OnOk, IfOk, IfSome, length, take, true, false, is_some, nat_lt, pos, slice_get, option_copied, MatchOption};
+ghost use Rattle.std.specs.List.{AllByRecursion, count_by};
+ghost use Rattle.std.specs.List.Sorted.{IsPartitionedBy, IsPartitionPoint};
+ghost use Rattle.pg_list.specs.Counts.{item_count};
+ghost use Rattle.pg_list.specs.Shapes.{IsBlock};
+ghost use Rattle.pg_list.specs.declared.blocks.Block.{Block as ABlock};
+ghost use Rattle.pg_style.specs.Values.{StyleValue};
+ghost use Rattle.pg_style.specs.Ranges.{AreClasses};
+ghost use Rattle.pg_style.specs.Classes.{is_float_class, float_numbers_of};
+ghost use Rattle.pg_list.specs.Places.{items_around as items_around_of};
+ghost use Rattle.pg_flat.specs.Flat.{items_before};
+ghost use Rattle.pg_rules.specs.Floats.{called, entry, floats, insert_size, sizes_of};
+ghost use Rattle.pg_list.specs.declared.item.Item.{Item as AnItem};
+ghost use Rattle.pg_floats.specs.declared.callouts.Callout.{Callout as ACallout};
+ghost use Rattle.pg_floats.specs.Areas.{has_dealt, IsDealt};
+ghost use Rattle.pg_floats.specs.FloatsValue.{callout_at, IsInRange, total_of};
+ghost use Rattle.pg_floats.specs.Callouts.{callouts_from, lists_from, strange_among, strange_blocks};
+ghost use Rattle.pg_floats.specs.AreFloats.{AreFloats, HasFloats, IsWithinLimit, MakesList, strange_class, float_size, height_of};
+
+use crate::area::{Dealt, area_size, deal};
+use crate::callouts::{Callout, Callouts, callouts_of, first_items_of};
+use crate::fault::FloatFault;
+use pg_list::{Block, Galley, Item, Place, items_around};
+use pg_plan::Counts;
+use pg_style::{AreaRule, Class, Kind, Style};
+use std::alloc::{AllocError, Global};
+use std::marker::Model;
+
+/// The floats of a class, in order.
+#[derive(Debug, Drop)]
+pub struct ClassFloats {
+    pub number: u8,
+    pub callouts: Callouts,
+}
+
+impl Model for ClassFloats {
+    ghost use Rattle.pg_floats.specs.FloatsValue.{ClassFloatsValue};
+
+    ghost Value = { ClassFloatsValue };
+
+    ghost view = { λ a. record { number = a.number; callouts = a.callouts } };
+}
+
+/// The floats of a galley by class, the float classes of the style in increasing number.
+#[derive(Debug, Drop)]
+pub struct FloatList {
+    classes: Vec<ClassFloats>,
+}
+
+impl Model for FloatList {
+    ghost use Rattle.std.specs.Prelude.{List};
+    ghost use Rattle.pg_floats.specs.FloatsValue.{ClassFloatsValue};
+
+    ghost Value = { List ClassFloatsValue };
+
+    ghost use Rattle.pg_floats.specs.FloatsValue.{AreKept};
+
+    ghost view = { λ a. a.classes.items };
+
+    ghost invariant = { λ a. AreKept a.classes.items };
+}
+
+// The class of the first insert among the items whose class the style does not have.
+fn strange_in(items: &[Item], style: &Style) -> Option<u8>
+    ensures { result ≡ strange_among style.now.classes items.now }
+{
+    let mut rest = items;
+    'items: while let [item, after @ ..] = rest {
+        if let Item::Insert { class, .. } = item {
+            if style.class_of(*class).is_none() {
+                return Some(*class);
+            }
+        }
+        rest = after;
+    }
+    None
+}
+
+// The class of the first insert of the blocks whose class the style does not have.
+fn strange_of(blocks: &[Block], style: &Style) -> Option<u8>
+    requires { AllByRecursion IsBlock blocks.now }
+    ensures { result ≡ strange_blocks style.now.classes blocks.now }
+{
+    let mut rest = blocks;
+    'each: while let [block, after @ ..] = rest {
+        if let Some(number) = strange_in(first_items_of(block), style) {
+            return Some(number);
+        }
+        rest = after;
+    }
+    None
+}
+
+// Adds the floats of a class, where it is a float class.
+fn push_class(
+    alloc: Global,
+    out: &mut Vec<ClassFloats>,
+    blocks: &[Block],
+    class: &Class,
+) -> Result<(), AllocError>
+    requires shape { AllByRecursion IsBlock blocks.now }
+    requires few { length blocks.now ≤ 2 ^ 20 }
+    ensures { OnOk result (out.new.items ≡ out.old.items ++ lists_from blocks.now (class.now ∷ [])) }
+{
+    if let Kind::Float { .. } = &class.kind {
+        let callouts = callouts_of(alloc, blocks, class.number)?;
+        out.push(ClassFloats {
+            number: class.number,
+            callouts,
+        })?;
+    }
+    Ok(())
+}
+
+fn lists_of(
+    alloc: Global,
+    blocks: &[Block],
+    classes: &[Class],
+) -> Result<Vec<ClassFloats>, AllocError>
+    requires shape { AllByRecursion IsBlock blocks.now }
+    requires few { length blocks.now ≤ 2 ^ 20 }
+    ensures { IfOk result (λ lists. lists.items ≡ lists_from blocks.now classes.now) }
+{
+    let mut lists = Vec::new(alloc);
+    let mut rest = classes;
+    'each: while let [class, after @ ..] = rest {
+        push_class(alloc, &mut lists, blocks, class)?;
+        rest = after;
+    }
+    Ok(lists)
+}
+
+// The number of floats of all classes.
+fn count_of(lists: &[ClassFloats]) -> usize
+    requires { total_of lists.now < 2 ^ 62 }
+    ensures { result ≡ total_of lists.now }
+{
+    let mut count = 0;
+    let mut rest = lists;
+    'each: while let [floats, after @ ..] = rest {
+        count += floats.callouts.as_slice().len();
+        rest = after;
+    }
+    count
+}
+
+// Lists within the limit, or how many floats there are.
+fn limited(lists: Vec<ClassFloats>) -> Result<FloatList, FloatFault>
+    requires few { length lists.items ≤ 8 }
+    requires total { total_of lists.items < 2 ^ 32 }
+    ensures { IsWithinLimit result lists.items }
+{
+    let count = count_of(lists.as_slice());
+    if count > 4096 {
+        return Err(FloatFault::Limit {
+            count: count as u32,
+        });
+    }
+    Ok(FloatList { classes: lists })
+}
+
+// The lists of classes that are in order.
+fn listed(alloc: Global, blocks: &[Block], classes: &[Class]) -> Result<FloatList, FloatFault>
+    requires shape { AllByRecursion IsBlock blocks.now }
+    requires few { item_count blocks.now ≤ 2 ^ 20 }
+    requires classes { length classes.now ≤ 8 }
+    ensures { IsWithinLimit result (lists_from blocks.now classes.now) }
+{
+    match lists_of(alloc, blocks, classes) {
+        Ok(lists) => limited(lists),
+        Err(_) => Err(FloatFault::Memory),
+    }
+}
+
+// The blocks of a galley keep their shape.
+fn blocks_of(galley: &Galley) -> &[Block]
+    ensures blocks { result.now ≡ galley.now.blocks }
+    ensures shape { AllByRecursion IsBlock galley.now.blocks }
+    ensures few { item_count galley.now.blocks ≤ 2 ^ 20 }
+{
+    galley.blocks().as_slice()
+}
+
+// The classes of a style, which stand in increasing number.
+fn classes_of(style: &Style) -> &[Class]
+    ensures classes { result.now ≡ style.now.classes }
+    ensures range { AreClasses style.now.classes }
+{
+    style.classes.as_slice()
+}
+
+// The first insert of a galley whose class the style does not have.
+fn strange(galley: &Galley, style: &Style) -> Option<u8>
+    ensures { result ≡ strange_class galley.now.blocks style.now }
+{
+    strange_of(blocks_of(galley), style)
+}
+
+// The floats of a galley, if they are not too many.
+fn all_floats(alloc: Global, galley: &Galley, style: &Style) -> Result<FloatList, FloatFault>
+    ensures { HasFloats result galley.now.blocks style.now }
+{
+    listed(alloc, blocks_of(galley), classes_of(style))
+}
+
+// How many callouts stand in blocks before one.
+fn called_above(callouts: &[Callout], block: u32) -> usize
+    ensures point { IsPartitionedBy (λ (callout : ACallout). nat_lt callout.block block) callouts.now →
+        IsPartitionPoint (λ (callout : ACallout). nat_lt callout.block block ≡ true)
+        (λ (callout : ACallout). nat_lt callout.block block ≡ false) callouts.now result }
+    ensures within { result ≤ length callouts.now }
+{
+    callouts.partition_point(|callout| callout.block < block)
+}
+
+fn is_insert_of(item: &Item, number: u8) -> bool
+    ensures { result ≡ is_some (insert_size number item.now) }
+{
+    match item {
+        Item::Insert { class, .. } => *class == number,
+        _ => false,
+    }
+}
+
+// How many inserts of a class stand among the first items.
+fn inserts_among(items: &[Item], index: usize, number: u8) -> usize
+    ensures value { result ≡ count_by (λ (item : AnItem). is_some (insert_size number item)) (take index items.now) }
+    ensures within { result ≤ length items.now }
+{
+    let front = match items.get(..index) {
+        Some(front) => front,
+        None => items,
+    };
+    front
+        .iter()
+        .filter(|item| is_insert_of(item, number))
+        .count()
+}
+
+// How many inserts of a class stand before a place in its variant.
+fn inserts_before(galley: &Galley, place: Place, number: u8) -> usize
+    ensures value { result ≡ length (sizes_of number (take place.index (items_around_of galley.now.blocks place))) }
+    ensures few { result ≤ 2 ^ 20 }
+{
+    inserts_among(
+        items_around(blocks_of(galley), place),
+        place.index as usize,
+        number,
+    )
+}
+
+// How many floats of a class are called before a place.
+fn called_in(floats: &ClassFloats, galley: &Galley, place: Place) -> u32
+    requires { length floats.now.callouts ≤ 2 ^ 12 }
+    ensures { AllByRecursion IsBlock galley.now.blocks →
+        floats.now.callouts ≡ callouts_from floats.now.number 0 galley.now.blocks →
+        result ≡ length (sizes_of floats.now.number (items_before galley.now.blocks place)) }
+{
+    let above = called_above(floats.callouts.as_slice(), place.block);
+    let within = inserts_before(galley, place, floats.number);
+    (above + within) as u32
+}
+
+fn size_of(callout: &Callout) -> i32
+    requires { IsInRange callout.now }
+    ensures { result ≡ pos callout.now.size }
+{
+    callout.size as i32
+}
+
+impl FloatList {
+    /// The floats of a galley whose inserts are of classes that the style has.
+    ///
+    /// `Class` comes exactly where the style lacks the class of an insert, and names the first such in galley order;
+    /// else `Limit` comes where there are more than 2^12 floats. `Memory` may come in place of it and of success.
+    pub fn of(alloc: Global, galley: &Galley, style: &Style) -> Result<FloatList, FloatFault>
+        ensures { MakesList result galley.now.blocks style.now }
+    {
+        match strange(galley, style) {
+            Some(number) => Err(FloatFault::Class { number }),
+            None => all_floats(alloc, galley, style),
+        }
+    }
+
+    // The callout of a float, by its slot and number.
+    fn callout_at(&self, slot: usize, number: u32) -> Option<Callout>
+        ensures value { result ≡ callout_at self.now slot number }
+        ensures range { IfSome result IsInRange }
+    {
+        match self.classes.get(slot) {
+            None => None,
+            Some(floats) => floats.callouts.at(number as usize),
+        }
+    }
+
+    /// The size of a float in scaled points, by its slot and number. None exactly where the class has not so many.
+    pub fn size(&self, slot: usize, number: u32) -> Option<i32>
+        ensures { (blocks : List ABlock) (style : StyleValue) → AreFloats blocks style self.now →
+            result ≡ float_size blocks style slot number }
+    {
+        match self.callout_at(slot, number) {
+            None => None,
+            Some(callout) => Some(size_of(&callout)),
+        }
+    }
+
+    // The floats of a slot.
+    fn floats_at(&self, slot: usize) -> Option<&ClassFloats>
+        ensures value { option_copied result ≡ slice_get self.now slot }
+        ensures few { IfSome result (λ floats. length floats.now.callouts ≤ 2 ^ 12) }
+    {
+        self.classes.get(slot)
+    }
+
+    /// How many floats of a slot are called before a place of the galley.
+    pub fn called(&self, galley: &Galley, place: Place, slot: usize) -> u32
+        ensures { (style : StyleValue) → AreFloats galley.now.blocks style self.now →
+            result ≡ entry (called galley.now.blocks style place) slot }
+    {
+        match self.floats_at(slot) {
+            None => 0,
+            Some(floats) => called_in(floats, galley, place),
+        }
+    }
+
+    // The floats that counts deal out behind those that are placed.
+    fn dealt(&self, placed: &Counts, counts: &Counts) -> Option<Dealt>
+        ensures { MatchOption result (has_dealt 0 self.now placed.now counts.now ≡ false)
+            (IsDealt self.now placed.now counts.now) }
+    {
+        deal(self.classes.as_slice(), placed, counts)
+    }
+
+    /// The height of an area that takes the next floats of each class by counts, behind those that are placed, in scaled
+    /// points: 0 without floats, else their sizes, a separator between two, and a gap. None exactly where a class has
+    /// not so many.
+    pub fn area(&self, rule: &AreaRule, placed: &Counts, counts: &Counts) -> Option<i64>
+        ensures { (blocks : List ABlock) (style : StyleValue) → AreFloats blocks style self.now →
+            result ≡ height_of (floats blocks style) rule.now placed.now counts.now }
+    {
+        match self.dealt(placed, counts) {
+            None => None,
+            Some(dealt) => Some(area_size(rule, &dealt) as i64),
+        }
+    }
+}

@@ -1,0 +1,2 @@
+pub mod AreNotes
+pub mod NotesValue

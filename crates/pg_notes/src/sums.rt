@@ -1,0 +1,224 @@
+//! The sums of notes by class.
+ghost use Rattle.std.specs.Prelude.{◌≡◌, ◌==◌, ℕ, List, ◌++◌, ◌∷◌, [], ◌+◌, ◌*◌, ◌<◌, ◌≤◌, ◌^◌, length, nat_abs, is_none, pos, ◌≤ℤ◌};
+ghost use Rattle.std.specs.List.{position, sum_by};
+ghost use Rattle.pg_list.specs.Ranges.{IsItemInRange, IsScaled};
+ghost use Rattle.pg_list.specs.declared.item.Item.{Item as AnItem};
+ghost use Rattle.pg_style.specs.Values.{StyleValue};
+ghost use Rattle.pg_style.specs.Ranges.{AreClasses, AreInOrder, IsStyle};
+ghost use Rattle.pg_list.specs.declared.item.Item.TheVariants.{Insert};
+ghost use Rattle.pg_notes.specs.declared.sums.NoteSum.{NoteSum as ANoteSum};
+ghost use Rattle.pg_rules.specs.Room.{notes, are_notes_within_limits};
+ghost use Rattle.pg_notes.specs.NotesValue.{note_height as note_height_of, heights as heights_of, is_over_limit as is_over_limit_of, first_over_limit};
+ghost use Rattle.pg_notes.specs.AreNotes.{AreNotes, AreNoteSums, first_over};
+
+use pg_list::Item;
+use pg_style::{Class, Kind, Style};
+use std::marker::Model;
+
+/// The sum of the sizes of a class's inserts in scaled points, and whether there is one.
+#[derive(Clone, Copy, Debug, PartialEq, Eq)]
+pub struct NoteSum {
+    pub size: u64,
+    pub is_there: bool,
+}
+
+/// The sums of the notes of a segment so far, for each class of a style in increasing number.
+///
+/// Every call with a style wants the style with which all items so far were added.
+#[derive(Debug, Drop)]
+pub struct NoteSums {
+    sums: [NoteSum; 8],
+    count: u32,
+}
+
+impl Model for NoteSums {
+    ghost use Rattle.pg_notes.specs.NotesValue.{NotesValue};
+
+    ghost Value = { NotesValue };
+
+    ghost use Rattle.pg_notes.specs.NotesValue.{IsWellKept};
+
+    ghost view = { λ a. record { sums = a.sums; count = a.count } };
+
+    ghost invariant = { λ a. IsWellKept a.sums a.count };
+}
+
+// The classes of a style, which stand in increasing number.
+fn classes_of(style: &Style) -> &[Class]
+    ensures classes { result.now ≡ style.now.classes }
+    ensures range { AreClasses style.now.classes }
+{
+    style.classes.as_slice()
+}
+
+fn position_of(classes: &[Class], number: u8) -> Option<usize>
+    ensures { result ≡ position (λ (class : Class). class.number == number) classes.now }
+{
+    classes.iter().position(|class| class.number == number)
+}
+
+// The sum of the class with this number, where there is one, with an insert of this size.
+fn add_insert(sums: &mut [NoteSum], classes: &[Class], number: u8, size: u64)
+    requires places { length classes.now ≤ length sums.old }
+    requires room { sum_by (λ (sum : ANoteSum). sum.size) sums.old + size < 2 ^ 62 }
+    ensures sums { (items : List AnItem) (body : List ℕ) → AreInOrder classes.now →
+        AreNoteSums items classes.now sums.old →
+        AreNoteSums (items ++ Insert number (pos size) body ∷ []) classes.now sums.new }
+    ensures bound { sum_by (λ (sum : ANoteSum). sum.size) sums.new
+        ≤ sum_by (λ (sum : ANoteSum). sum.size) sums.old + size }
+{
+    if let Some(index) = position_of(classes, number) {
+        let sum = &mut sums[index];
+        sum.size += size;
+        sum.is_there = true;
+    }
+}
+
+// The size of an insert, which is not negative.
+fn size_of(size: &i32) -> u64
+    requires from { pos 0 ≤ℤ size.now }
+    requires to { IsScaled size.now }
+    ensures value { pos result ≡ size.now }
+    ensures size { result < 2 ^ 30 }
+{
+    size.unsigned_abs() as u64
+}
+
+// The sums with one more item.
+fn add_item(sums: &mut [NoteSum], classes: &[Class], item: &Item)
+    requires places { length classes.now ≤ length sums.old }
+    requires room { sum_by (λ (sum : ANoteSum). sum.size) sums.old + 2 ^ 30 < 2 ^ 62 }
+    requires in_range { IsItemInRange item.now }
+    ensures sums { (items : List AnItem) → AreInOrder classes.now → AreNoteSums items classes.now sums.old →
+        AreNoteSums (items ++ item.now ∷ []) classes.now sums.new }
+    ensures bound { sum_by (λ (sum : ANoteSum). sum.size) sums.new
+        ≤ sum_by (λ (sum : ANoteSum). sum.size) sums.old + 2 ^ 30 }
+{
+    if let Item::Insert { class, size, .. } = item {
+        add_insert(sums, classes, *class, size_of(size));
+    }
+}
+
+// What the notes of a class take: nothing where there are none, else its skip and their sizes.
+fn note_height(class: &Class, sum: &NoteSum) -> u64
+    requires { note_height_of class.now.kind sum.now < 2 ^ 62 }
+    ensures { result ≡ note_height_of class.now.kind sum.now }
+{
+    match &class.kind {
+        Kind::Note { skip, .. } => {
+            if sum.is_there {
+                skip.unsigned_abs() as u64 + sum.size
+            } else {
+                0
+            }
+        }
+        Kind::Float { .. } => 0,
+    }
+}
+
+fn heights(classes: &[Class], sums: &[NoteSum]) -> u64
+    requires { heights_of classes.now sums.now < 2 ^ 62 }
+    ensures { result ≡ heights_of classes.now sums.now }
+{
+    let mut height = 0u64;
+    let mut rest = classes;
+    let mut left = sums;
+    'classes: while let [class, after @ ..] = rest {
+        let [sum, behind @ ..] = left else {
+            return height;
+        };
+        height += note_height(class, sum);
+        rest = after;
+        left = behind;
+    }
+    height
+}
+
+fn is_over_limit(class: &Class, sum: &NoteSum) -> bool
+    ensures { result ≡ is_over_limit_of class.now.kind sum.now }
+{
+    match &class.kind {
+        Kind::Note { limit, .. } => sum.size > limit.unsigned_abs() as u64,
+        Kind::Float { .. } => false,
+    }
+}
+
+fn first_over_in(classes: &[Class], sums: &[NoteSum]) -> Option<u8>
+    ensures { result ≡ first_over_limit classes.now sums.now }
+{
+    let mut rest = classes;
+    let mut left = sums;
+    'classes: while let [class, after @ ..] = rest {
+        let [sum, behind @ ..] = left else {
+            return None;
+        };
+        if is_over_limit(class, sum) {
+            return Some(class.number);
+        }
+        rest = after;
+        left = behind;
+    }
+    None
+}
+
+impl NoteSums {
+    /// The sums of no items, whatever the style.
+    pub fn start() -> NoteSums
+        ensures { (style : StyleValue) → IsStyle style → AreNotes style [] result }
+    {
+        NoteSums {
+            sums: [NoteSum {
+                size: 0,
+                is_there: false,
+            }; 8],
+            count: 0,
+        }
+    }
+
+    /// Adds the next item. At most 2^20 items are added.
+    pub fn add(&mut self, style: &Style, item: &Item)
+        requires few { self.old.count < 2 ^ 20 }
+        requires in_range { IsItemInRange item.now }
+        ensures { (items : List AnItem) → AreNotes style.now items self.old →
+            AreNotes style.now (items ++ item.now ∷ []) self.new }
+    {
+        add_item(&mut self.sums, classes_of(style), item);
+        self.count += 1;
+    }
+
+    // The heights of all classes, within the bound that the number of items gives.
+    fn taken(&self, style: &Style) -> u64
+        ensures value { result ≡ heights_of style.now.classes self.now.sums }
+        ensures size { result < 2 ^ 51 }
+        ensures range { AreClasses style.now.classes }
+    {
+        heights(classes_of(style), &self.sums)
+    }
+
+    // The number of the first class above its limit.
+    fn first_above(&self, style: &Style) -> Option<u8>
+        ensures value { result ≡ first_over_limit style.now.classes self.now.sums }
+        ensures range { AreClasses style.now.classes }
+    {
+        first_over_in(classes_of(style), &self.sums)
+    }
+
+    /// What the notes take of a column's room, in scaled points: for each note class with a note its skip and the
+    /// sizes of its notes.
+    pub fn height(&self, style: &Style) -> i64
+        ensures sums { (items : List AnItem) → AreNotes style.now items self.now → result ≡ notes style.now items }
+        ensures size { nat_abs result < 2 ^ 51 }
+    {
+        self.taken(style) as i64
+    }
+
+    /// The least number of a note class whose notes together are above its limit. None exactly where no class is.
+    pub fn first_over(&self, style: &Style) -> Option<u8>
+        ensures first { (items : List AnItem) → AreNotes style.now items self.now →
+            result ≡ first_over style.now items }
+        ensures none { (items : List AnItem) → AreNotes style.now items self.now →
+            is_none result ≡ are_notes_within_limits style.now items }
+    {
+        self.first_above(style)
+    }
+}
