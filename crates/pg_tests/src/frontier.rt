@@ -32,15 +32,26 @@ fn are_rigid(blocks: &[Block]) -> bool
     match blocks {
         [] => true,
         [Block::One(Item::BoxItem { .. }), rest @ ..] => are_rigid(rest),
-        [Block::One(Item::Glue { stretch, shrink, .. }), rest @ ..] => {
-            *stretch == 0 && *shrink == 0 && are_rigid(rest)
-        }
+        [
+            Block::One(
+                Item::Glue {
+                    stretch,
+                    shrink,
+                    ..
+                },
+            ),
+            rest @ ..,
+        ] => { *stretch == 0 && *shrink == 0 && are_rigid(rest) }
         _ => false,
     }
 }
 
 // On pages of 58 points; None where the text is no galley, or no pagination is legal.
-fn solve_text<L: Ledger>(alloc: Global, text: &[u8], blank: Blank) -> Result<Option<Solved>, AllocError>
+fn solve_text<L: Ledger>(
+    alloc: Global,
+    text: &[u8],
+    blank: Blank,
+) -> Result<Option<Solved>, AllocError>
     requires name { blank.name ≡ L.name }
     requires parts { blank.parts ≡ L.parts }
     requires one { blank.parts ≡ 1 }
@@ -80,7 +91,10 @@ fn ten_lines_have_eleven_labels(rt: HostRuntime) -> Result<(), Fail> {
     let alloc = rt.alloc();
     let text = equal_lines(alloc, 10)?;
     let found = solve_text::<Brand>(alloc, &text, Blank::new(1))?.ok_or("no pages")?;
-    assert_eq!(rt; found.blocks.as_slice(), [0, 1, 3, 5, 7, 9, 11, 13, 15, 17, 19].as_slice());
+    assert_eq!(rt;
+        found.blocks.as_slice(),
+        [0, 1, 3, 5, 7, 9, 11, 13, 15, 17, 19].as_slice()
+    );
     assert_eq!(rt; found.pages, 2);
     assert_eq!(rt; found.cost, 200);
     Ok(())
