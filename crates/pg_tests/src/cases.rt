@@ -40,6 +40,15 @@ impl World {
     }
 }
 
+impl World {
+    /// A style file of the name `s`, a galley of the name `g`, and no fault.
+    pub fn with_style(alloc: Global, style: Vec<u8>, galley: Vec<u8>) -> Result<World, AllocError> {
+        let mut world = World::of(alloc, galley)?;
+        world.files.push((String::from_str(alloc, "s")?, style))?;
+        Ok(world)
+    }
+}
+
 // The words of a line, between its spaces; of an empty line none.
 fn words_of(alloc: Global, line: &str) -> Result<Vec<String>, AllocError> {
     let mut words = Vec::new(alloc);

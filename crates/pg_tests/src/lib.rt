@@ -15,3 +15,5 @@ mod notation;
 mod refusals;
 #[cfg(test)]
 mod rows;
+#[cfg(test)]
+mod styles;

@@ -24,7 +24,12 @@ run --height 58.0 --height 58.0 g
 run --height 58.0 --wrap 7.9 g
 run --height --wrap 79 g
 run --labels --height 58.0 g
-run style g
+run style
+run style g more
+run --height 58.0 style g
+run --labels style g
+run -style g
+run style -g
 edit style g script
 check style g output
 make 1

@@ -34,16 +34,21 @@ fn full_page(alloc: Global, number: &[u8], places: &[u8]) -> Result<Vec<u8>, All
     Ok(page)
 }
 
+/// The pages of ten such lines, 58 points high.
+pub fn two_full_pages(alloc: Global) -> Result<Vec<u8>, AllocError> {
+    let mut pages = b"pages 2 cost 200 width 345.0\n".to_vec(alloc)?;
+    pages.extend_from_slice(&full_page(alloc, b"1", b"0 0 0 to 9 0 0")?)?;
+    pages.extend_from_slice(&full_page(alloc, b"2", b"9 0 0 to 19 0 0")?)?;
+    Ok(pages)
+}
+
 #[test]
 fn ten_lines_fill_two_pages(rt: HostRuntime) -> Result<(), Fail> {
     let alloc = rt.alloc();
     let world = World::of(alloc, equal_lines(alloc, 10)?)?;
     let end = call(alloc, "run --height 58.0 g", world)?;
-    let mut want = b"pages 2 cost 200 width 345.0\n".to_vec(alloc)?;
-    want.extend_from_slice(&full_page(alloc, b"1", b"0 0 0 to 9 0 0")?)?;
-    want.extend_from_slice(&full_page(alloc, b"2", b"9 0 0 to 19 0 0")?)?;
     assert_eq!(rt; end.status, Status::Done);
-    assert_eq!(rt; end.out.as_slice(), want.as_slice());
+    assert_eq!(rt; end.out.as_slice(), two_full_pages(alloc)?.as_slice());
     assert_eq!(rt; end.say.as_slice(), b"".as_slice());
     Ok(())
 }
