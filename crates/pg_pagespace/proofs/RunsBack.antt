@@ -49,8 +49,8 @@ leads_itself labels index e p ms at_e at_p run =
     subst (λ (x : Entry State PageMove). RunOf labels x ms) (some_same p e (sym at_p ∙ at_e)) run
 
 pub leads_on : (labels : List (Entry State PageMove)) (index : ℕ) (way : List ℕ) (at : ℕ)
-    (d : Entry State PageMove) → at < length labels → is_some (get_or labels at d).by ≡ true → LeadsBack labels index way at →
-    LeadsBack labels index (way ++ at ∷ []) (get_or labels at d).parent
+    (d : Entry State PageMove) → at < length labels → is_some (get_or labels at d).by ≡ true →
+    LeadsBack labels index way at → LeadsBack labels index (way ++ at ∷ []) (get_or labels at d).parent
 leads_on labels index way at d within moved leads e p' ms at_e at_p' run =
     by_move (get_or labels at d).by moved (λ m is.
     subst (λ (ns : List PageMove). RunOf labels e ns) (sym (joined m is))
@@ -68,8 +68,8 @@ leads_on labels index way at d within moved leads e p' ms at_e at_p' run =
         ∙ append_assoc (moves_on labels way) (m ∷ []) ms
 
 pub leads_home : (labels : List (Entry State PageMove)) (index : ℕ) (way : List ℕ) (at : ℕ)
-    (d : Entry State PageMove) → at < length labels → is_some (get_or labels at d).by ≡ false → LeadsBack labels index way at →
-    IsWay labels index way
+    (d : Entry State PageMove) → at < length labels → is_some (get_or labels at d).by ≡ false →
+    LeadsBack labels index way at → IsWay labels index way
 leads_home labels index way at d within start leads e at_e =
     subst (λ (ns : List PageMove). RunOf labels e ns) (append-nil (moves_on labels way))
     (leads e (get_or labels at d) [] at_e (slice_get-get_or labels at d within)
