@@ -1,16 +1,10 @@
 -- The numbers of a column, from its sums.
-use Rattle.std.proofs.Common.{◌≡◌, ◌∙◌, sym, refl, ap, ◌+◌, ◌-◌, ◌<◌, ◌≤◌, ℕ, zero, suc, arith, subst, List, [], ◌∷◌, take, drop, length, Bool, true, false, ℤ, pos, ◌-ℤ◌}
-use Rattle.std.specs.Prelude.{not, ◌&&◌, nat_le, nat_lt, if◌then◌else◌}
-use Rattle.std.specs.List.{list_all, AllByRecursion}
-use Rattle.std.proofs.lemmas.Bool.{le-leb}
-use Rattle.std.proofs.lemmas.Bool.Decides.{nat_tests}
+use Rattle.std.proofs.Common.{◌≡◌, ◌∙◌, refl, ap, ◌+◌, ◌-◌, ℕ, zero, suc, List, [], ◌∷◌, take, drop, Bool, true, false, ℤ, pos}
+use Rattle.std.specs.Prelude.{not}
 use Rattle.pg_list.specs.declared.item.Item.{Item}
 use Rattle.pg_list.specs.declared.blocks.Block.{Block}
 use Rattle.pg_list.specs.declared.blocks.Block.TheVariants.{One, Choice}
-use Rattle.pg_list.specs.Places.{solid, count_to_last, is_solid_block}
-use Rattle.pg_list.specs.Shapes.{is_discardable}
 use Rattle.pg_flat.specs.Badness.{is_over, page_badness}
-use Rattle.pg_flat.specs.Break.{is_spent}
 use Rattle.pg_flat.specs.Totals.{total, shrink, trimmed}
 use Rattle.pg_flat.specs.Whole.{square}
 use Rattle.pg_sums.specs.AreSums.{AreSums}
@@ -18,7 +12,6 @@ use Rattle.pg_sums.specs.SumsValue.{SumsValue}
 use Rattle.pg_style.specs.Values.{StyleValue}
 use Rattle.pg_plain.specs.Plain.{AreSingle, single_items, items_between, plain_room}
 use Rattle.pg_plain.proofs.Singles.{drop-items, drop-single}
-use Rattle.pg_pages.specs.declared.columns.TextNumbers.{TextNumbers}
 use Rattle.pg_pages.specs.PlainText.{numbers_from}
 use Rattle.pg_plain.specs.Plain.{not_over}
 
@@ -72,31 +65,3 @@ pub between-items : (blocks : List Block) (from to : ℕ) → AreSingle blocks �
 between-items blocks from to single =
     take-items (to - from) (drop from blocks) (drop-single from blocks single)
     ∙ ap (λ (items : List Item). take (to - from) items) (drop-items from blocks single)
-
--- ---- the end of the text
-
-all-step : (n : ℕ) (d rest : Bool) → rest ≡ nat_le n 0 →
-    (d && rest) ≡ nat_le (if nat_lt 0 n then n + 1 else (if not d then 1 else 0)) 0
-all-step n true rest e = grind (arith, nat_tests)
-all-step n false rest e = grind (arith, nat_tests)
-
-pub all-weak : (blocks : List Block) → AreSingle blocks →
-    list_all is_discardable (single_items blocks) ≡ nat_le (solid blocks) 0
-all-weak [] single = refl
-all-weak (One item ∷ blocks) single =
-    all-step (solid blocks) (is_discardable item) (list_all is_discardable (single_items blocks)) (all-weak blocks single.1)
-all-weak (Choice variants ∷ blocks) single = absurd single.0
-
-less-step : (n k : ℕ) (d : Bool) →
-    nat_le n k ≡ nat_le (if nat_lt 0 n then n + 1 else (if not d then 1 else 0)) (suc k)
-less-step n k true = grind (arith, nat_tests)
-less-step n k false = grind (arith, nat_tests)
-
--- only discardable items stand from a block on exactly where no solid one does
-pub spent-from : (blocks : List Block) (k : ℕ) → AreSingle blocks →
-    is_spent (single_items blocks) k ≡ nat_le (solid blocks) k
-spent-from blocks zero single = all-weak blocks single
-spent-from [] (suc k) single = sym (le-leb 0 (suc k) (omega arith))
-spent-from (One item ∷ blocks) (suc k) single = spent-from blocks k single.1
-    ∙ less-step (solid blocks) k (is_discardable item)
-spent-from (Choice variants ∷ blocks) (suc k) single = absurd single.0

@@ -1,32 +1,28 @@
 -- The text of a column of boxes and rigid glue.
-use Rattle.std.proofs.Common.{◌≡◌, ◌∙◌, sym, refl, ap, ◌+◌, ◌-◌, ◌<◌, ◌≤◌, ℕ, zero, suc, arith, subst, List, [], ◌∷◌, ◌++◌, take, drop, map, length, append-nil, append_assoc, Bool, true, false, Option, Some, None, ℤ, pos, ◌+ℤ◌, ◌-ℤ◌, ◌*ℤ◌, ◌⊎◌, inl, inr}
-use Rattle.std.specs.Prelude.{◌==◌, ◌&&◌, not, if◌then◌else◌, slice_get, int_lt}
-use Rattle.std.specs.List.{flat_map, AllByRecursion, list_all, take_while, prefix_len}
+use Rattle.std.proofs.Common.{◌≡◌, refl, ap, ℕ, zero, suc, arith, subst, List, [], ◌∷◌, ◌++◌, take, drop, map, length, Bool, true, false, Option, Some, None, ℤ, pos, ◌+ℤ◌, ◌-ℤ◌, ◌⊎◌, inl, inr}
+use Rattle.std.specs.Prelude.{◌==◌, not, if◌then◌else◌, slice_get}
+use Rattle.std.specs.List.{flat_map, AllByRecursion, prefix_len}
 use Rattle.std.specs.Option.{option_map_or}
 use Rattle.std.proofs.lemmas.Bool.{cases_Bool}
-use Rattle.std.proofs.lemmas.Bool.Decides.{nat_tests}
 use Rattle.std.proofs.lemmas.Int.{ints}
-use Rattle.std.proofs.lemmas.List.{drop-drop}
 use Rattle.pg_list.specs.declared.item.Item.{Item}
 use Rattle.pg_list.specs.declared.item.Item.TheVariants.{BoxItem, Rule, Glue, Kern, Penalty, Insert, Carry}
 use Rattle.pg_list.specs.declared.item.Order.{Order}
-use Rattle.pg_list.specs.declared.item.Order.TheVariants.{Finite, Fil, Fill, Filll}
 use Rattle.pg_list.specs.declared.blocks.Block.{Block}
 use Rattle.pg_list.specs.declared.blocks.Block.TheVariants.{One, Choice}
 use Rattle.pg_list.specs.Shapes.{is_box, is_discardable}
-use Rattle.pg_flat.specs.Break.{break_penalty, item_break, follows_solid, is_spent}
-use Rattle.pg_flat.specs.Rigid.{IsRigid, IsRigidBlock, AreRigid}
+use Rattle.pg_flat.specs.Break.{break_penalty, item_break, follows_solid}
+use Rattle.pg_flat.specs.Rigid.{IsRigid, AreRigid}
 use Rattle.pg_flat.specs.Totals.{trimmed, is_same_order}
-use Rattle.pg_flat.specs.Whole.{whole_sum_by}
 use Rattle.pg_glue.specs.declared.Elastic.{Elastic}
 use Rattle.pg_glue.specs.declared.Sense.{Sense}
 use Rattle.pg_glue.specs.declared.Sense.TheVariants.{Stretch, Shrink}
-use Rattle.pg_glue.specs.Widths.{amounts, amount_of, chosen, set_widths, widths_from, share}
-use Rattle.pg_plain.specs.Plain.{AreSingle, single_items}
+use Rattle.pg_glue.specs.Widths.{amounts, chosen, set_widths, widths_from}
+use Rattle.pg_plain.specs.Plain.{single_items}
 use Rattle.pg_pages.specs.Bodies.{plain_text, set_text}
 use Rattle.pg_pages.specs.SetGlue.{stretching, shrinking, own_width}
 use Rattle.pg_pages.specs.PageText.{set_items, items_text, top_line}
-use Rattle.pg_pages.specs.PlainText.{own_text, own_items}
+use Rattle.pg_pages.specs.PlainText.{own_items}
 
 abbrev pub AllRigid : List Item → Type 0
 AllRigid items = AllByRecursion IsRigid items
@@ -35,11 +31,6 @@ pub items-rigid : (blocks : List Block) → AreRigid blocks → AllRigid (single
 items-rigid [] all = tt
 items-rigid (One item ∷ blocks) all = (all.0, items-rigid blocks all.1)
 items-rigid (Choice variants ∷ blocks) all = absurd all.0
-
-pub blocks-single : (blocks : List Block) → AreRigid blocks → AreSingle blocks
-blocks-single [] all = tt
-blocks-single (One item ∷ blocks) all = (tt, blocks-single blocks all.1)
-blocks-single (Choice variants ∷ blocks) all = absurd all.0
 
 pub rigid-take : (n : ℕ) (items : List Item) → AllRigid items → AllRigid (take n items)
 rigid-take zero items all = tt

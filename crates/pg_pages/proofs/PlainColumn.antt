@@ -1,18 +1,15 @@
 -- The page text of a plain column is the plain one.
-use Rattle.std.proofs.Common.{◌≡◌, ◌∙◌, sym, refl, ap, ◌+◌, ◌-◌, ◌<◌, ◌≤◌, ℕ, arith, subst, List, [], ◌∷◌, ◌++◌, take, drop, map, length, append-nil, append_assoc, Bool, true, false, Option, Some, None, ℤ, pos, ◌+ℤ◌, ◌-ℤ◌, inl, inr}
+use Rattle.std.proofs.Common.{◌≡◌, ◌∙◌, sym, refl, ap, ◌+◌, ◌-◌, ◌<◌, ◌≤◌, ℕ, arith, subst, List, [], ◌++◌, take, drop, length, append-nil, append_assoc, Bool, true, false, Option, ℤ, pos, ◌-ℤ◌}
 use Rattle.std.specs.Prelude.{◌==◌, ◌&&◌, not, if◌then◌else◌, int_lt, codes}
 use Rattle.std.specs.List.{flat_map}
 use Rattle.std.specs.Option.{option_map_or}
-use Rattle.std.proofs.lemmas.Bool.{cases_Bool}
 use Rattle.std.proofs.lemmas.Bool.Decides.{nat_tests}
 use Rattle.std.proofs.lemmas.Int.{ints}
 use Rattle.std.proofs.lemmas.List.{drop-drop}
 use Rattle.pg_list.specs.declared.item.Item.{Item}
-use Rattle.pg_flat.specs.Break.{is_spent, break_penalty}
-use Rattle.pg_flat.specs.Badness.{page_badness}
+use Rattle.pg_flat.specs.Break.{is_spent}
 use Rattle.pg_flat.specs.Rigid.{AreRigid}
-use Rattle.pg_flat.specs.Totals.{trimmed, total}
-use Rattle.pg_flat.specs.Whole.{square}
+use Rattle.pg_flat.specs.Totals.{trimmed}
 use Rattle.pg_glue.specs.declared.Sense.TheVariants.{Stretch, Shrink}
 use Rattle.pg_glue.specs.Widths.{set_widths}
 use Rattle.pg_plan.specs.declared.pages.PageMove.{PageMove}
@@ -22,15 +19,16 @@ use Rattle.pg_style.specs.Values.{StyleValue}
 use Rattle.pg_style.specs.declared.style.First.{First}
 use Rattle.pg_rules.specs.ColumnRules.{segment, text_total, text_goal, text_badness}
 use Rattle.pg_rules.specs.Cost.{text_demerits, penalty_demerits}
-use Rattle.pg_rules.specs.History.{next_column, next_page, next_side, placed_of, context, side_of}
-use Rattle.pg_rules.specs.Room.{Document, ColumnContext, items_of, size_of, is_text}
-use Rattle.pg_plain.specs.Plain.{single_items, items_between, plain_move, plain_context, plain_room, IsPlainStyle}
-use Rattle.pg_plain.proofs.Contexts.{bare, bare-is, with_style, first-column, page-number, context-is, goal-is, items-of, size-is}
+use Rattle.pg_rules.specs.History.{next_page, next_side, placed_of, context, side_of}
+use Rattle.pg_rules.specs.Room.{Document, items_of, size_of, is_text}
+use Rattle.pg_plain.specs.Plain.{single_items, items_between, plain_move, plain_context, IsPlainStyle}
+use Rattle.pg_plain.proofs.Singles.{rigid-single}
+use Rattle.pg_plain.proofs.Contexts.{bare-is, with_style, first-column, page-number, context-is, goal-is, items-of, size-is}
 use Rattle.pg_pages.specs.SetGlue.{glue_widths, stretching, shrinking, own_width}
 use Rattle.pg_pages.specs.Words.{line}
-use Rattle.pg_pages.specs.PageText.{floats_text, notes_text, area, text_column, column_text, column_body, float_column, column_line, page_line, page_head, set_line, text_area, end_penalty, items_text, top_line, top_area, bottom_area}
+use Rattle.pg_pages.specs.PageText.{floats_text, notes_text, area, text_column, column_text, column_body, float_column, column_line, page_line, page_head, set_line, text_area, end_penalty, top_line, top_area, bottom_area}
 use Rattle.pg_pages.specs.PlainText.{numbers_between, numbers_text, text_head, text_of_items, text_between, plain_page_text, own_items}
-use Rattle.pg_pages.proofs.Plain.{AllRigid, items-rigid, blocks-single, rigid-drop, rigid-take, rigid-trimmed, nothing-added, still, stretching-still, shrinking-still, stretching-widths, shrinking-widths, text-of-items}
+use Rattle.pg_pages.proofs.Plain.{AllRigid, items-rigid, rigid-drop, rigid-take, rigid-trimmed, nothing-added, still, stretching-still, shrinking-still, stretching-widths, shrinking-widths, text-of-items}
 
 -- ---- no floats and no notes
 
@@ -49,19 +47,19 @@ no-notes style plain items =
 pub segment-is : (doc : Document) → AreRigid doc.blocks → (from to : ℕ) →
     segment (plain_context doc from to) (to - from) ≡ trimmed (items_between doc.blocks from to)
 segment-is doc rigid from to =
-    ap (λ (items : List Item). trimmed (take (to - from) items)) (items-of doc (blocks-single doc.blocks rigid) from to)
+    ap (λ (items : List Item). trimmed (take (to - from) items)) (items-of doc (rigid-single doc.blocks rigid) from to)
 
 pub spent-is : (doc : Document) → AreRigid doc.blocks → (from to : ℕ) → from ≤ to →
     is_spent (items_of (plain_context doc from to)) (to - from) ≡ is_spent (single_items doc.blocks) to
 spent-is doc rigid from to onward =
     let there : from + (to - from) ≡ to = omega (arith, onward) in
-    ap (λ (items : List Item). is_spent items (to - from)) (items-of doc (blocks-single doc.blocks rigid) from to)
+    ap (λ (items : List Item). is_spent items (to - from)) (items-of doc (rigid-single doc.blocks rigid) from to)
     ∙ ap (λ (items : List Item). is_spent items 0) (drop-drop (to - from) from (single_items doc.blocks) ∙ ap (λ (k : ℕ). drop k (single_items doc.blocks)) there)
 
 pub rigid-column : (doc : Document) → AreRigid doc.blocks → (from to : ℕ) →
     AllRigid (items_of (plain_context doc from to))
 rigid-column doc rigid from to =
-    subst (λ (items : List Item). AllRigid items) (sym (items-of doc (blocks-single doc.blocks rigid) from to)) (rigid-drop from (single_items doc.blocks) (items-rigid doc.blocks rigid))
+    subst (λ (items : List Item). AllRigid items) (sym (items-of doc (rigid-single doc.blocks rigid) from to)) (rigid-drop from (single_items doc.blocks) (items-rigid doc.blocks rigid))
 
 abbrev pub spaced : List Item → ℕ → ℤ → ℤ → Bool → List ℤ
 spaced items n size goal spent =
@@ -160,7 +158,7 @@ body-is doc plain rigid from to onward within =
     let apart : is_text it ≡ true = let differ : (from == to) ≡ false = grind (arith, nat_tests) in
     rw differ refl in
     ap (λ (b : Bool). if b then option_map_or (text_column it) (size_of it) [] else float_column it) apart
-    ∙ ap (λ (o : Option ℕ). option_map_or (text_column it) o []) (size-is doc (blocks-single doc.blocks rigid) from to forward within)
+    ∙ ap (λ (o : Option ℕ). option_map_or (text_column it) o []) (size-is doc (rigid-single doc.blocks rigid) from to forward within)
     ∙ text-is doc plain rigid from to forward
 
 pub column-is : (doc : Document) → IsPlainStyle doc.style → AreRigid doc.blocks → (from to : ℕ) →

@@ -1,17 +1,15 @@
 -- The page text of plain pages, one after another.
-use Rattle.std.proofs.Common.{◌≡◌, ◌∙◌, sym, refl, ap, ◌+◌, ◌<◌, ◌≤◌, ℕ, zero, suc, take, arith, subst, List, [], ◌∷◌, ◌++◌, length, length-append, append-nil}
+use Rattle.std.proofs.Common.{◌≡◌, ◌∙◌, sym, refl, ap, ◌+◌, ◌<◌, ℕ, zero, suc, take, arith, subst, List, [], ◌∷◌, ◌++◌, length, length-append}
 use Rattle.std.specs.Prelude.{reverse}
 use Rattle.std.proofs.Math.ListN.{get_or}
-use Rattle.std.specs.List.{AllByRecursion}
 use Rattle.std.proofs.lemmas.List.{reverse-append}
 use Rattle.pg_flat.specs.Rigid.{AreRigid}
 use Rattle.pg_plan.specs.declared.pages.Page.{Page}
-use Rattle.pg_plan.specs.declared.pages.PageMove.{PageMove}
 use Rattle.pg_plan.specs.Order.{columns_of}
 use Rattle.pg_rules.specs.Room.{Document}
 use Rattle.pg_plain.specs.Plain.{IsPlainStyle, plain_move}
 use Rattle.pg_pages.specs.PageText.{columns_text, column_text}
-use Rattle.pg_pages.specs.PlainText.{ArePlainPages, IsPlainPage, plain_page, plain_page_text, text_of_page}
+use Rattle.pg_pages.specs.PlainText.{ArePlainPages, IsPlainPage, plain_page_text, text_of_page}
 use Rattle.pg_pages.proofs.PlainColumn.{column-is}
 
 -- plain pages have a column each

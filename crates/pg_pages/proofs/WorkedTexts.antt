@@ -1,6 +1,6 @@
 -- Page texts, computed.
-use Rattle.std.proofs.Common.{◌≡◌, refl, ◌+◌, zero, suc, ℕ, pos, List, [], ◌∷◌, ◌++◌}
-use Rattle.std.specs.Prelude.{codes, map, ◌*◌}
+use Rattle.std.proofs.Common.{◌≡◌, refl, zero, suc, ℕ, pos, List, [], ◌∷◌}
+use Rattle.std.specs.Prelude.{codes}
 use Rattle.pg_list.specs.declared.item.Item.{Item}
 use Rattle.pg_list.specs.declared.item.Item.TheVariants.{BoxItem, Glue, Penalty, Insert}
 use Rattle.pg_list.specs.declared.item.Order.TheVariants.{Finite}

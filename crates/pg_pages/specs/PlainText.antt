@@ -1,10 +1,9 @@
 -- The page text of columns of text alone, in galleys of boxes and rigid glue.
-use Rattle.std.specs.Prelude.{◌≡◌, ℕ, ◌+◌, ◌<◌, ◌≤◌, Bool, true, false, not, List, [], ◌∷◌, ◌++◌, drop, length, slice_get, codes, decimal, ℤ, pos, ◌+ℤ◌}
+use Rattle.std.specs.Prelude.{◌≡◌, ℕ, ◌+◌, ◌<◌, ◌≤◌, Bool, true, false, List, [], ◌∷◌, ◌++◌, length, slice_get, codes, decimal, ℤ, pos}
 use Rattle.std.specs.List.{flat_map, AllByRecursion}
 use Rattle.std.specs.Option.{option_map_or}
 use Rattle.pg_list.specs.declared.item.Item.{Item}
 use Rattle.pg_list.specs.declared.item.Item.TheVariants.{Glue}
-use Rattle.pg_list.specs.declared.blocks.Block.{Block}
 use Rattle.pg_list.specs.Shapes.{is_box}
 use Rattle.pg_flat.specs.Badness.{page_badness}
 use Rattle.pg_flat.specs.Break.{is_spent}
@@ -18,7 +17,7 @@ use Rattle.pg_rules.specs.Room.{Document}
 use Rattle.pg_scaled.specs.Scaled.{scaled_text}
 use Rattle.pg_plain.specs.Plain.{single_items, items_between, plain_move, plain_room, fits_between}
 use Rattle.pg_pages.specs.declared.columns.TextNumbers.{TextNumbers}
-use Rattle.pg_pages.specs.Words.{line, whole_text, counts_text}
+use Rattle.pg_pages.specs.Words.{line, whole_text}
 use Rattle.pg_pages.specs.Bodies.{plain_text, set_text}
 use Rattle.pg_pages.specs.PageText.{top_line, page_line, column_line}
 

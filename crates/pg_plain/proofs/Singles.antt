@@ -1,5 +1,5 @@
 -- The flat list of a galley of single items.
-use Rattle.std.proofs.Common.{◌≡◌, refl, ap, subst, arith, ℕ, zero, suc, ◌+◌, ◌≤◌, ◌<◌, List, [], ◌∷◌, ◌++◌, length, take, drop, map, Bool, true, false, Some}
+use Rattle.std.proofs.Common.{◌≡◌, refl, ap, subst, arith, ℕ, zero, suc, ◌+◌, ◌<◌, List, [], ◌∷◌, length, drop, map, Bool, true, false, Some}
 use Rattle.std.specs.Prelude.{◌==◌, not, nat_lt}
 use Rattle.std.specs.List.{position, prefix_len}
 use Rattle.std.proofs.lemmas.Bool.Decides.{nat_tests}
@@ -30,24 +30,6 @@ pub items-length : (blocks : List Block) → AreSingle blocks → length (single
 items-length [] single = refl
 items-length (One item ∷ blocks) single = ap suc (items-length blocks single.1)
 items-length (Choice variants ∷ blocks) single = absurd single.0
-
-pub singles_append : (xs ys : List Block) → single_items (xs ++ ys) ≡ single_items xs ++ single_items ys
-singles_append [] ys = refl
-singles_append (One item ∷ xs) ys = ap (λ (items : List Item). item ∷ items) (singles_append xs ys)
-singles_append (Choice variants ∷ xs) ys = singles_append xs ys
-
-pub singles_length : (xs : List Block) → length (single_items xs) ≤ length xs
-singles_length [] = omega arith
-singles_length (One item ∷ xs) = omega (arith, singles_length xs)
-singles_length (Choice variants ∷ xs) = omega (arith, singles_length xs)
-
-pub take-items : (k : ℕ) (blocks : List Block) → AreSingle blocks →
-    single_items (take k blocks) ≡ take k (single_items blocks)
-take-items zero blocks single = refl
-take-items (suc k) [] single = refl
-take-items (suc k) (One item ∷ blocks) single =
-    ap (λ (items : List Item). item ∷ items) (take-items k blocks single.1)
-take-items (suc k) (Choice variants ∷ blocks) single = absurd single.0
 
 -- rigid blocks are single items
 pub rigid-single : (blocks : List Block) → AreRigid blocks → AreSingle blocks

@@ -1,7 +1,7 @@
-use Rattle.std.proofs.Common.{rules, arith, ◌≡◌, ◌∙◌, ◌+◌, ap, sym, ℕ, ℤ, pos, w64}
+use Rattle.std.proofs.Common.{rules, ◌≡◌, ◌∙◌, ◌+◌, ap, ℕ, pos, w64}
 use Rattle.std.proofs.lemmas.Int.{to_z-of_z}
 use Rattle.pg_flat.specs.Whole.{square}
-use Rattle.pg_plain.specs.Plain.{single_items, plain_room}
+use Rattle.pg_plain.specs.Plain.{single_items}
 use Rattle.pg_pages.proofs.Numbers.{is_under, numbers_are, size_is, badness_is}
 use Rattle.pg_pages.proofs.columns.numbers_of.Goals as goal
 

@@ -1,6 +1,5 @@
-use Rattle.std.proofs.Common.{rules, ◌≡◌, ◌∙◌, sym, ap, ◌+◌, List, [], ◌∷◌, ◌++◌, take, ℕ, append_assoc}
+use Rattle.std.proofs.Common.{◌≡◌, ◌∙◌, sym, ap, ◌+◌, List, [], ◌∷◌, ◌++◌, take, ℕ, append_assoc}
 use Rattle.std.proofs.lemmas.Grind.{flat_map-append}
-use Rattle.pg_list.specs.declared.item.Item.{Item}
 use Rattle.pg_plain.specs.Plain.{single_items}
 use Rattle.pg_pages.specs.PlainText.{own_items, own_text}
 use Rattle.pg_pages.proofs.Singles.{singles_append, one_more, grows_on}

@@ -1,6 +1,5 @@
-use Rattle.std.proofs.Common.{rules, ◌≡◌, ◌∙◌, sym, ap, subst, arith, ◌+◌, ◌≤◌, ◌<◌, List, [], ◌∷◌, ◌++◌, take, length, ℕ, to_z, of_z, w32}
+use Rattle.std.proofs.Common.{◌≡◌, ◌∙◌, sym, ap, subst, arith, ◌+◌, List, [], ◌∷◌, ◌++◌, take, to_z, of_z, w32}
 use Rattle.pg_list.specs.declared.item.Item.{Item}
-use Rattle.pg_list.specs.declared.blocks.Block.{Block}
 use Rattle.std.proofs.lemmas.List.{length-take}
 use Rattle.pg_sums.specs.AreSums.{AreSums}
 use Rattle.pg_plain.specs.Plain.{single_items}

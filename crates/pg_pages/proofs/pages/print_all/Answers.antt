@@ -1,7 +1,7 @@
-use Rattle.std.proofs.Common.{rules, arith, ◌≡◌, ◌∙◌, ◌++◌, ◌+◌, ◌≤◌, ◌<◌, [], ◌∷◌, ap, sym, subst, ℕ, ℤ, List, take, length, append_assoc, to_z, of_z}
+use Rattle.std.proofs.Common.{arith, ◌≡◌, ◌∙◌, ◌++◌, ◌+◌, ap, sym, subst, ℕ, ℤ, List, take, length, append_assoc, to_z, of_z}
 use Rattle.std.specs.Prelude.{reverse}
 use Rattle.std.specs.Int.{w128}
-use Rattle.std.proofs.lemmas.List.{length-take, take_rest}
+use Rattle.std.proofs.lemmas.List.{length-take}
 use Rattle.std.proofs.lemmas.Int.{to_z-of_z}
 use Rattle.pg_plan.specs.declared.pages.Page.{Page}
 use Rattle.pg_plan.specs.Order.{columns_of}

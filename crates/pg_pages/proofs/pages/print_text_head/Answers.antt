@@ -1,4 +1,4 @@
-use Rattle.std.proofs.Common.{◌≡◌, ◌∙◌, ◌++◌, ap, ℤ, w32, w64, rules}
+use Rattle.std.proofs.Common.{◌∙◌, ◌++◌, ap, ℤ, w32, w64, rules}
 use Rattle.std.specs.Prelude.{codes}
 use Rattle.std.proofs.lemmas.Int.{to_z-of_z}
 use Rattle.pg_flat.specs.Totals.{top_glue}
