@@ -1,13 +1,13 @@
 //! The columns of a pagination as moves.
 ghost use Rattle.std.specs.Prelude.{◌≡◌, ◌++◌, reverse, IfOk, OnOk};
-ghost use Rattle.pg_plan.specs.Order.{columns, no_floats as no_floats_lem, page_moves};
+ghost use Rattle.pg_plan.specs.Order.{columns, no_floats as the_no_floats, page_moves};
 
 use pg_plan::{Column, Counts, Moves, Page, PageMove, Pagination};
 use std::alloc::{AllocError, Global};
 
 // A zero for each class.
 fn no_floats(alloc: Global, counts: &[u16]) -> Result<Counts, AllocError>
-    ensures { IfOk result (λ zeros. zeros ≡ no_floats_lem counts.now) }
+    ensures { IfOk result (λ zeros. zeros ≡ the_no_floats counts.now) }
 {
     let mut zeros = Counts::new(alloc);
     for count in counts {

@@ -1,7 +1,7 @@
 //! The steps from a state under a plain style.
 ghost use Rattle.std.specs.Prelude.{◌≡◌, ◌≤◌, ◌++◌, ◌∷◌, [], length, pos, ◌+ℤ◌, ◌≤ℤ◌, IfOk, OnOk};
-ghost use Rattle.pg_rules.specs.Cost.{run_demerits as run_demerits_lem};
-ghost use Rattle.pg_pagespace.specs.PlainSteps.{plain_state as plain_state_lem, text_move as text_move_lem, kept_fit as kept_fit_lem, fit_cost as fit_cost_lem, step_to as step_to_lem, steps_of};
+ghost use Rattle.pg_rules.specs.Cost.{run_demerits as the_run_demerits};
+ghost use Rattle.pg_pagespace.specs.PlainSteps.{plain_state as the_plain_state, text_move as the_text_move, kept_fit as the_kept_fit, fit_cost as the_fit_cost, step_to as the_step_to, steps_of};
 
 use pg_list::Place;
 use pg_plan::{Ages, Column, Counts, PageMove, Picks, Side, State};
@@ -12,7 +12,7 @@ use std::alloc::{AllocError, Global};
 
 /// The state of a beginning that ends at a place, where the last column had this fitness.
 pub fn plain_state(alloc: Global, place: Place, fit: Option<u8>) -> State
-    ensures { result ≡ plain_state_lem place fit }
+    ensures { result ≡ the_plain_state place fit }
 {
     State {
         place,
@@ -27,7 +27,7 @@ pub fn plain_state(alloc: Global, place: Place, fit: Option<u8>) -> State
 }
 
 fn text_move(alloc: Global, from: Place, to: Place, picks: &Picks) -> Result<PageMove, AllocError>
-    ensures { IfOk result (λ it. it ≡ text_move_lem from to picks.now) }
+    ensures { IfOk result (λ it. it ≡ the_text_move from to picks.now) }
 {
     Ok(PageMove {
         column: Column {
@@ -43,14 +43,14 @@ fn text_move(alloc: Global, from: Place, to: Place, picks: &Picks) -> Result<Pag
 }
 
 fn kept_fit(style: &Style, fit: u8) -> Option<u8>
-    ensures { result ≡ kept_fit_lem style.now fit }
+    ensures { result ≡ the_kept_fit style.now fit }
 {
     if style.version == 1 { None } else { Some(fit) }
 }
 
 // What a column of this fitness pays behind one of another.
 fn fit_cost(style: &Style, last: Option<u8>, fit: u8) -> u32
-    ensures { pos result ≡ fit_cost_lem style.now last fit }
+    ensures { pos result ≡ the_fit_cost style.now last fit }
 {
     match last {
         Some(last) if last.abs_diff(fit) > 1 => style.fitness,
@@ -59,7 +59,7 @@ fn fit_cost(style: &Style, last: Option<u8>, fit: u8) -> u32
 }
 
 fn run_demerits(style: &Style) -> u32
-    ensures { pos result ≡ run_demerits_lem style.now 0 }
+    ensures { pos result ≡ the_run_demerits style.now 0 }
 {
     match style.runs.as_slice().first() {
         Some(run) => run.demerits,
@@ -69,7 +69,7 @@ fn run_demerits(style: &Style) -> u32
 
 // What the column that ends there costs.
 fn cost_to(style: &Style, state: &State, end: &End) -> i128
-    ensures { result ≡ (step_to_lem style.now state.now end.now).cost }
+    ensures { result ≡ (the_step_to style.now state.now end.now).cost }
 {
     let text = i128::from(end.cost.demerits) + i128::from(end.pick_demerits);
     let page = u64::from(run_demerits(style)) + u64::from(fit_cost(style, state.fit, end.cost.fit));
@@ -82,7 +82,7 @@ fn step_to(
     state: &State,
     end: &End,
 ) -> Result<Step<State, PageMove>, AllocError>
-    ensures { IfOk result (λ step. step ≡ step_to_lem style.now state.now end.now) }
+    ensures { IfOk result (λ step. step ≡ the_step_to style.now state.now end.now) }
 {
     Ok(Step {
         to: plain_state(alloc, end.to, kept_fit(style, end.cost.fit)),

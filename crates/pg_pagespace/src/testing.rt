@@ -1,7 +1,7 @@
 //! The test of a state under a plain style.
 ghost use Rattle.std.specs.Prelude.{◌≡◌, ◌<◌, ◌^◌, length};
 ghost use Rattle.pg_flat.specs.Flat.{end_of, is_same_place};
-ghost use Rattle.pg_pagespace.specs.StateTest.{has_fit as has_fit_lem, has_place as has_place_lem, has_plain_fields as has_plain_fields_lem, is_plain_state as is_plain_state_lem};
+ghost use Rattle.pg_pagespace.specs.StateTest.{has_fit as the_has_fit, has_place as the_has_place, has_plain_fields as the_has_plain_fields, is_plain_state as the_is_plain_state};
 
 use pg_list::{Galley, Place, items_around};
 use pg_plan::{Side, State};
@@ -14,7 +14,7 @@ fn is_at_end(galley: &Galley, place: Place) -> bool
 }
 
 fn has_place(galley: &Galley, place: Place) -> bool
-    ensures { result ≡ has_place_lem galley.now.blocks place }
+    ensures { result ≡ the_has_place galley.now.blocks place }
 {
     let within = (place.index as usize) < items_around(galley.blocks().as_slice(), place).len();
     let front = place.index != 0 || place.variant == 0;
@@ -22,7 +22,7 @@ fn has_place(galley: &Galley, place: Place) -> bool
 }
 
 fn has_plain_fields(state: &State) -> bool
-    ensures { result ≡ has_plain_fields_lem state.now }
+    ensures { result ≡ the_has_plain_fields state.now }
 {
     let one = state.column == 1 && state.side == Side::S;
     let floats = state.placed.as_slice().is_empty() && state.ages.as_slice().is_empty();
@@ -30,7 +30,7 @@ fn has_plain_fields(state: &State) -> bool
 }
 
 fn has_fit(style: &Style, fit: Option<u8>) -> bool
-    ensures { result ≡ has_fit_lem style.now fit }
+    ensures { result ≡ the_has_fit style.now fit }
 {
     match fit {
         None => true,
@@ -40,7 +40,7 @@ fn has_fit(style: &Style, fit: Option<u8>) -> bool
 
 /// Whether a state may be that of a beginning, under a plain style.
 pub fn is_plain_state(galley: &Galley, style: &Style, state: &State) -> bool
-    ensures { result ≡ is_plain_state_lem galley.now.blocks style.now state.now }
+    ensures { result ≡ the_is_plain_state galley.now.blocks style.now state.now }
 {
     has_place(galley, state.place) && has_plain_fields(state) && has_fit(style, state.fit)
 }

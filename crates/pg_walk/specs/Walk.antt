@@ -18,6 +18,7 @@ use Rattle.pg_rules.specs.Cost.{penalty_demerits}
 use Rattle.pg_walk.specs.declared.end.End.{End}
 use Rattle.pg_walk.specs.declared.end.TextCost.{TextCost}
 
+-- the item of a block that is one item
 abbrev pub item_in : Block → Option Item
 item_in (One item) = Some item
 item_in (Choice variants) = None
@@ -30,9 +31,11 @@ items_from blocks from = drop from (single_items blocks)
 abbrev pub total_at : StyleValue → List Item → ℕ → ℤ
 total_at style items n = total style.topskip style.maxdepth (trimmed (take n items))
 
+-- the first n items are over in a room of this height
 abbrev pub is_over_at : StyleValue → ℤ → List Item → ℕ → Bool
 is_over_at style room items n = is_over (total_at style items n) (shrink (trimmed (take n items))) room
 
+-- how badly they fill it
 abbrev pub badness_at : StyleValue → ℤ → List Item → ℕ → ℕ
 badness_at style room items n = page_badness (is_spent items n) room (total_at style items n) (trimmed (take n items))
 
