@@ -3,3 +3,4 @@ pub mod Called
 pub mod Lists
 pub mod Numbers
 pub mod Queues
+pub mod History

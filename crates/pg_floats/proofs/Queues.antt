@@ -351,17 +351,17 @@ limit-some style slot are h =
     let t = table-some style.classes slot are.each (omega (arith, h, n)) in
     subst (λ (xs : List ℕ). 0 < length xs) (tables-are style slot are) t
 
-near-take : (n : ℕ) (xs : List ℕ) → n ≤ length xs → take (suc n) (take n xs ++ 0 ∷ drop n xs) ≡ take n xs ++ 0 ∷ []
+pub near-take : (n : ℕ) (xs : List ℕ) → n ≤ length xs → take (suc n) (take n xs ++ 0 ∷ drop n xs) ≡ take n xs ++ 0 ∷ []
 near-take zero xs h = refl
 near-take (suc n) [] h = absurd (omega arith)
 near-take (suc n) (x ∷ xs) h = ap (λ ys. x ∷ ys) (near-take n xs (omega arith))
 
-near-drop : (n : ℕ) (xs : List ℕ) → n ≤ length xs → drop (suc n) (take n xs ++ 0 ∷ drop n xs) ≡ drop n xs
+pub near-drop : (n : ℕ) (xs : List ℕ) → n ≤ length xs → drop (suc n) (take n xs ++ 0 ∷ drop n xs) ≡ drop n xs
 near-drop zero xs h = refl
 near-drop (suc n) [] h = absurd (omega arith)
 near-drop (suc n) (x ∷ xs) h = near-drop n xs (omega arith)
 
-far-take : (n j m : ℕ) (xs : List ℕ) (ys : List ℕ) → m ≡ n + j → n ≤ length xs →
+pub far-take : (n j m : ℕ) (xs : List ℕ) (ys : List ℕ) → m ≡ n + j → n ≤ length xs →
     take n (take m xs ++ ys) ≡ take n xs
 far-take zero j m xs ys e h = refl
 far-take (suc n) j zero xs ys e h = absurd (omega (arith, e))
@@ -369,14 +369,14 @@ far-take (suc n) j (suc m) [] ys e h = absurd (omega arith)
 far-take (suc n) j (suc m) (x ∷ xs) ys e h =
     ap (λ zs. x ∷ zs) (far-take n j m xs ys (omega (arith, e)) (omega arith))
 
-far-drop : (n j m : ℕ) (xs : List ℕ) (ys : List ℕ) → m ≡ n + j → n ≤ length xs →
+pub far-drop : (n j m : ℕ) (xs : List ℕ) (ys : List ℕ) → m ≡ n + j → n ≤ length xs →
     drop n (take m xs ++ ys) ≡ take j (drop n xs) ++ ys
 far-drop zero j m xs ys e h = let same : m ≡ j = omega (arith, e) in ap (λ k. take k xs ++ ys) same
 far-drop (suc n) j zero xs ys e h = absurd (omega (arith, e))
 far-drop (suc n) j (suc m) [] ys e h = absurd (omega arith)
 far-drop (suc n) j (suc m) (x ∷ xs) ys e h = far-drop n j m xs ys (omega (arith, e)) (omega arith)
 
-drop-more : (n j m : ℕ) (xs : List ℕ) → m ≡ n + j → drop m xs ≡ drop j (drop n xs)
+pub drop-more : (n j m : ℕ) (xs : List ℕ) → m ≡ n + j → drop m xs ≡ drop j (drop n xs)
 drop-more zero j m xs e = let same : m ≡ j = omega (arith, e) in ap (λ k. drop k xs) same
 drop-more (suc n) j zero xs e = absurd (omega (arith, e))
 drop-more (suc n) j (suc m) [] e = sym (none-left j)
@@ -386,7 +386,7 @@ drop-more (suc n) j (suc m) [] e = sym (none-left j)
     none-left (suc j) = refl
 drop-more (suc n) j (suc m) (x ∷ xs) e = drop-more n j m xs (omega (arith, e))
 
-sum-one : (n : ℕ) → sum (n ∷ []) ≡ n
+pub sum-one : (n : ℕ) → sum (n ∷ []) ≡ n
 sum-one n = omega (arith, sum_by-cons (λ (m : ℕ). m) n [])
 
 young-insert : (style : StyleValue) (s slot : ℕ) (waiting ages : List ℕ) → slot < length waiting →
@@ -458,7 +458,7 @@ young-remove style s (suc slot) (count ∷ waiting) ages h some e young =
           ∙ ap (λ (xs : List ℕ). take j (drop count ages) ++ xs) (drop-more count (suc j) (suc i) ages more))) ih,
     )
 
-set-long : (xs : List ℕ) (i v : ℕ) → length (set xs i v) ≡ length xs
+pub set-long : (xs : List ℕ) (i v : ℕ) → length (set xs i v) ≡ length xs
 set-long [] i v = refl
 set-long (x ∷ xs) zero v = refl
 set-long (x ∷ xs) (suc i) v = ap suc (set-long xs i v)

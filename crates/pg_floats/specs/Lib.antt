@@ -3,3 +3,4 @@ pub mod AreFloats
 pub mod Callouts
 pub mod FloatsValue
 pub mod QueueValue
+pub mod History

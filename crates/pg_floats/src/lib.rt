@@ -1,7 +1,9 @@
 //! The floats of a galley: their sizes and callouts, the heights of areas, and those that wait to be placed.
 //!
 //! `FloatList` is proved to be the list of floats that pg_rules (`specs/Floats.antt`) defines, with the callouts before
-//! a place and the height of an area; `specs/AreFloats.antt` says what a list is of a galley.
+//! a place and the height of an area; `specs/AreFloats.antt` says what a list is of a galley. `Queue` is proved to keep,
+//! after any callouts, placings and ends of pages, the placed floats and the ages that counting gives (`specs/QueueValue.antt`,
+//! `specs/History.antt`).
 #![tactic(auto)]
 
 mod area;
@@ -12,6 +14,6 @@ mod list;
 mod queue;
 
 pub use fault::FloatFault;
-pub use laws::queues_stay_young;
+pub use laws::{queues_count_history, queues_stay_young};
 pub use list::FloatList;
 pub use queue::{Late, Queue};
