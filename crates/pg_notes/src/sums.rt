@@ -164,7 +164,8 @@ fn first_over_in(classes: &[Class], sums: &[NoteSum]) -> Option<u8>
 impl NoteSums {
     /// The sums of no items, whatever the style.
     pub fn start() -> NoteSums
-        ensures { (style : StyleValue) → IsStyle style → AreNotes style [] result }
+        ensures notes { (style : StyleValue) → IsStyle style → AreNotes style [] result }
+        ensures count { result.count ≡ 0 }
     {
         NoteSums {
             sums: [NoteSum {
@@ -179,8 +180,9 @@ impl NoteSums {
     pub fn add(&mut self, style: &Style, item: &Item)
         requires few { self.old.count < 2 ^ 20 }
         requires in_range { IsItemInRange item.now }
-        ensures { (items : List AnItem) → AreNotes style.now items self.old →
+        ensures notes { (items : List AnItem) → AreNotes style.now items self.old →
             AreNotes style.now (items ++ item.now ∷ []) self.new }
+        ensures count { self.new.count ≡ self.old.count + 1 }
     {
         add_item(&mut self.sums, classes_of(style), item);
         self.count += 1;

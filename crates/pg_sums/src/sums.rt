@@ -45,7 +45,8 @@ impl Sums {
         requires topskip { IsScaled topskip }
         requires maxdepth { IsScaled maxdepth }
         requires hanging { pos 0 ≤ℤ maxdepth }
-        ensures { AreSums topskip maxdepth [] result }
+        ensures sums { AreSums topskip maxdepth [] result }
+        ensures count { result.count ≡ 0 }
     {
         Sums {
             topskip,
@@ -66,8 +67,9 @@ impl Sums {
     pub fn add(&mut self, item: &Item)
         requires few { self.old.count < 2 ^ 20 }
         requires in_range { IsItemInRange item.now }
-        ensures { (topskip maxdepth : ℤ) (items : List AnItem) → AreSums topskip maxdepth items self.old →
+        ensures sums { (topskip maxdepth : ℤ) (items : List AnItem) → AreSums topskip maxdepth items self.old →
             AreSums topskip maxdepth (items ++ item.now ∷ []) self.new }
+        ensures count { self.new.count ≡ self.old.count + 1 }
     {
         if self.counts(item) {
             self.totals.add(self.topskip, self.maxdepth, item);

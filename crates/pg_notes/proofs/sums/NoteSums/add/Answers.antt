@@ -6,8 +6,8 @@ use Rattle.pg_notes.specs.AreNotes.{AreNoteSums}
 use Rattle.pg_notes.proofs.Kept.{notes-push}
 use Rattle.pg_notes.proofs.sums.NoteSums.add.Goals as goal
 
-pub returns : goal.returns
-returns c = λ items are.
+pub returns-clause-notes : goal.returns-clause-notes
+returns-clause-notes c = λ items are.
     let Q : List Class → Type 0 = λ classes. AreInOrder classes in
     let order = subst Q (sym c.classes_of.ensures.classes) c.classes_of.ensures.range.in_order in
     let P : List Class → Type 0 = λ classes. AreNoteSums items classes c.self.inside.sums →
