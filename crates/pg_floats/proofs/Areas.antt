@@ -18,7 +18,7 @@ use Rattle.pg_floats.specs.declared.area.Dealt.{Dealt}
 use Rattle.pg_floats.specs.declared.callouts.Callout.{Callout}
 use Rattle.pg_floats.specs.AreFloats.{AreFloats, height_of}
 use Rattle.pg_floats.specs.Areas.{sizes_together, next_of, has_next, has_dealt, dealt_count, dealt_sizes, area_size, IsDealt}
-use Rattle.pg_floats.specs.Callouts.{callouts_from}
+use Rattle.pg_floats.specs.Callouts.{callouts_from, class_floats}
 use Rattle.pg_floats.specs.FloatsValue.{ClassFloatsValue, IsInRange, total_of}
 use Rattle.pg_floats.proofs.Lists.{size_of, sizes-from, flat-first}
 
@@ -127,11 +127,7 @@ all-is slot (kept ∷ list) before counts =
 
 floats-are : (blocks : List Block) (numbers : List ℕ) → AllByRecursion IsBlock blocks →
     map (λ number. sizes_of number (flat blocks [])) numbers
-    ≡ sizes_of_all (map (λ number. record {
-      number = number;
-      callouts =
-          callouts_from number 0 blocks;
-    }) numbers)
+    ≡ sizes_of_all (map (class_floats blocks) numbers)
 unfolding sizes_of_all
 floats-are blocks [] all = refl
 floats-are blocks (number ∷ numbers) all =

@@ -9,6 +9,7 @@
 mod area;
 mod callouts;
 mod fault;
+mod inserts;
 mod laws;
 mod list;
 mod queue;
