@@ -1,5 +1,7 @@
 -- The floats called before a place, and the sizes of floats, from the lists that are kept.
-use Rattle.std.proofs.Common.{◌≡◌, refl, sym, ap, ◌∙◌, subst, ℕ, zero, suc, ◌+◌, ◌<◌, ◌≤◌, List, [], ◌∷◌, ◌++◌, length, map, take, drop, append_assoc, arith, Bool, true, false, Option, Some, None, ◌⊎◌, inl, inr, ℤ}
+use Rattle.std.proofs.Common.{◌≡◌, refl, sym, ap, ◌∙◌, subst, ℕ, zero, suc, ◌+◌, ◌<◌, ◌≤◌, List, [], ◌∷◌, ◌++◌}
+use Rattle.std.proofs.Common.{length, map, take, drop, append_assoc, arith, Bool, true, false, Option, Some, None}
+use Rattle.std.proofs.Common.{◌⊎◌, inl, inr, ℤ}
 use Rattle.std.specs.Prelude.{◌==◌, if◌then◌else◌, nat_lt, slice_get, option_map, unsigned_abs}
 use Rattle.std.specs.Option.{option_map_or}
 use Rattle.std.specs.List.{AllByRecursion, cons_option}

@@ -1,5 +1,6 @@
 -- The callouts that are kept, and the floats of the definition.
-use Rattle.std.proofs.Common.{◌≡◌, refl, sym, ap, ◌∙◌, ℕ, suc, ◌+◌, ◌*◌, ◌<◌, ◌≤◌, List, [], ◌∷◌, ◌++◌, length, length-append, map, arith, Bool, true, false, Option, Some, None, ℤ, pos}
+use Rattle.std.proofs.Common.{◌≡◌, refl, sym, ap, ◌∙◌, ℕ, suc, ◌+◌, ◌*◌, ◌<◌, ◌≤◌, List, [], ◌∷◌, ◌++◌, length}
+use Rattle.std.proofs.Common.{length-append, map, arith, Bool, true, false, Option, Some, None, ℤ, pos}
 use Rattle.std.specs.Prelude.{◌==◌, if◌then◌else◌, option_map, is_none, unsigned_abs, Result, Ok, Err}
 use Rattle.std.specs.List.{AllByRecursion, filter, filter_map, find, cons_option, sum_by}
 use Rattle.std.proofs.lemmas.Int.{ints}

@@ -1,5 +1,6 @@
 -- The inserts before a place in its variant, counted in the places of all inserts of their class.
-use Rattle.std.proofs.Common.{◌≡◌, refl, sym, ap, ◌∙◌, subst, ℕ, zero, suc, ◌+◌, ◌<◌, ◌≤◌, List, [], ◌∷◌, ◌++◌, length, length-append}
+use Rattle.std.proofs.Common.{◌≡◌, refl, sym, ap, ◌∙◌, subst, ℕ, zero, suc, ◌+◌, ◌<◌, ◌≤◌, List, [], ◌∷◌, ◌++◌}
+use Rattle.std.proofs.Common.{length, length-append}
 use Rattle.std.proofs.Common.{take, drop, append_assoc, append-nil, arith, Bool, true, false, Option, Some, None, ℤ}
 use Rattle.std.specs.Prelude.{◌==◌, if◌then◌else◌, slice_get, is_some, option_map, unwrap_or}
 use Rattle.std.specs.List.{AllByRecursion, cons_option, sum_by}
@@ -141,7 +142,8 @@ module _ (number b v : ℕ) where
       (all-in _ number b w 0 variant.items (λ j le lt. less-variant b w v j 0 (omega (arith, e))))
       (around-among (w + 1) k variants (omega (arith, e)))
 
-  around-block : (n : ℕ) (block : Block) → b ≡ n → Around number b v (picked_items block v) (places_of_block number n block)
+  around-block : (n : ℕ) (block : Block) → b ≡ n →
+      Around number b v (picked_items block v) (places_of_block number n block)
   around-block n (One item) e = by (v == 0) refl
     where
       by : (t : Bool) → (v == 0) ≡ t →
@@ -183,7 +185,8 @@ cut-in number b v j (suc i) (item ∷ items) =
     let e : j + 1 + i ≡ j + suc i = omega arith in
     ap (λ ps. one ++ ps) (cut-in number b v (j + 1) i items
     ∙ ap (λ m. places_in number b v (j + 1) (take i items) ++ places_in number b v m (drop i items)) e)
-    ∙ sym (append_assoc one (places_in number b v (j + 1) (take i items)) (places_in number b v (j + suc i) (drop i items)))
+    ∙ sym (append_assoc one (places_in number b v (j + 1) (take i items))
+    (places_in number b v (j + suc i) (drop i items)))
 
 take-few : (i : ℕ) (items : List Item) → length (take i items) ≤ i
 take-few zero items = omega arith

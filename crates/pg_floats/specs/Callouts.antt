@@ -1,5 +1,6 @@
 -- The callouts of a class, block by block.
-use Rattle.std.specs.Prelude.{ℕ, ◌+◌, List, [], ◌∷◌, ◌++◌, map, Option, Some, None, option_map, is_none, ℤ, unsigned_abs}
+use Rattle.std.specs.Prelude.{ℕ, ◌+◌, List, [], ◌∷◌, ◌++◌, map, Option, Some, None, option_map, is_none, ℤ}
+use Rattle.std.specs.Prelude.{unsigned_abs}
 use Rattle.std.specs.List.{filter, filter_map, find}
 use Rattle.pg_list.specs.declared.item.Item.{Item}
 use Rattle.pg_list.specs.declared.item.Item.TheVariants.{Insert}

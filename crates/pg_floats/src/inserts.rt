@@ -9,7 +9,8 @@ ghost use Rattle.pg_list.specs.declared.blocks.Block.{Block as ABlock};
 ghost use Rattle.pg_list.specs.declared.variants.Variant.{Variant as AVariant};
 ghost use Rattle.pg_list.specs.declared.galley.Place.{Place as APlace};
 ghost use Rattle.pg_rules.specs.Floats.{insert_size, sizes_of};
-ghost use Rattle.pg_floats.specs.Places.{is_before as comes_before, places_in, places_among, places_of_block, places_from};
+ghost use Rattle.pg_floats.specs.Places.{is_before as comes_before, places_in, places_among, places_of_block};
+ghost use Rattle.pg_floats.specs.Places.{places_from};
 
 use pg_list::{Block, Item, Place, Variant};
 use std::alloc::{AllocError, Global};

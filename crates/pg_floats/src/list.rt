@@ -1,5 +1,7 @@
 //! The list of floats.
-ghost use Rattle.std.specs.Prelude.{◌≡◌, ◌==◌, ◌↔◌, ◌<◌, ◌≤◌, ◌+◌, ◌^◌, ◌++◌, ◌∷◌, [], ℕ, List, Some, None, Ok, Err, OnOk, IfOk, IfSome, length, take, true, false, is_some, nat_lt, pos, slice_get, option_copied, MatchOption};
+ghost use Rattle.std.specs.Prelude.{◌≡◌, ◌==◌, ◌↔◌, ◌<◌, ◌≤◌, ◌+◌, ◌^◌, ◌++◌, ◌∷◌, [], ℕ, List, Some, None, Ok, Err};
+ghost use Rattle.std.specs.Prelude.{OnOk, IfOk, IfSome, length, take, true, false, is_some, nat_lt, pos, slice_get};
+ghost use Rattle.std.specs.Prelude.{option_copied, MatchOption};
 ghost use Rattle.std.specs.List.{AllByRecursion};
 ghost use Rattle.std.specs.List.Sorted.{IsPartitionedBy, IsPartitionPoint};
 ghost use Rattle.pg_list.specs.Counts.{item_count};
@@ -14,7 +16,8 @@ ghost use Rattle.pg_floats.specs.declared.callouts.Callout.{Callout as ACallout}
 ghost use Rattle.pg_floats.specs.Areas.{has_dealt, IsDealt};
 ghost use Rattle.pg_floats.specs.FloatsValue.{callout_at, IsInRange, total_of};
 ghost use Rattle.pg_floats.specs.Callouts.{class_floats, lists_from, strange_among, strange_blocks};
-ghost use Rattle.pg_floats.specs.AreFloats.{AreFloats, HasFloats, IsWithinLimit, MakesList, strange_class, float_size, height_of};
+ghost use Rattle.pg_floats.specs.AreFloats.{AreFloats, HasFloats, IsWithinLimit, MakesList, strange_class};
+ghost use Rattle.pg_floats.specs.AreFloats.{float_size, height_of};
 
 use crate::area::{Dealt, area_size, deal};
 use crate::callouts::{Callout, Callouts, callouts_of, first_items_of};
@@ -300,9 +303,9 @@ impl FloatList {
         deal(self.classes.as_slice(), placed, counts)
     }
 
-    /// The height of an area that takes the next floats of each class by counts, behind those that are placed, in scaled
-    /// points: 0 without floats, else their sizes, a separator between two, and a gap. None exactly where a class has
-    /// not so many.
+    /// The height of an area that takes the next floats of each class by counts, behind those that are placed, in
+    /// scaled points: 0 without floats, else their sizes, a separator between two, and a gap. None exactly where a
+    /// class has not so many.
     pub fn area(&self, rule: &AreaRule, placed: &Counts, counts: &Counts) -> Option<i64>
         ensures { (blocks : List ABlock) (style : StyleValue) → AreFloats blocks style self.now →
             result ≡ height_of (floats blocks style) rule.now placed.now counts.now }
