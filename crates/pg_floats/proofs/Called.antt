@@ -20,7 +20,7 @@ use Rattle.pg_floats.specs.declared.callouts.Callout.{Callout}
 use Rattle.pg_floats.specs.AreFloats.{AreFloats, float_size}
 use Rattle.pg_floats.specs.Callouts.{callouts_in, callouts_from, class_floats}
 use Rattle.pg_floats.specs.FloatsValue.{ClassFloatsValue, callout_at}
-use Rattle.pg_floats.proofs.Parts.{all-both, found}
+use Rattle.pg_floats.proofs.Parts.{all-both, found, take-short}
 use Rattle.pg_floats.proofs.Lists.{length-from, sizes-from, size_of, flat-first}
 
 -- ---- the callouts of a class stand by block
@@ -76,11 +76,6 @@ cut-long : (b : ℕ) (blocks : List Block) → (drop b blocks ≡ []) ⊎ (lengt
 cut-long zero blocks = inr refl
 cut-long (suc b) [] = inl refl
 cut-long (suc b) (block ∷ blocks) = elim (cut-long b blocks) [ inl e ↦ inl e | inr e ↦ inr (ap suc e) ]
-
-take-short : (b : ℕ) (blocks : List Block) → length (take b blocks) ≤ b
-take-short zero blocks = omega arith
-take-short (suc b) [] = omega arith
-take-short (suc b) (block ∷ blocks) = let r = take-short b blocks in omega (arith, r)
 
 all-take : (b : ℕ) (blocks : List Block) → AllByRecursion IsBlock blocks → AllByRecursion IsBlock (take b blocks)
 all-take zero blocks all = tt

@@ -1,6 +1,6 @@
 -- A list in two parts by a test, and the point between them.
 use Rattle.std.proofs.Common.{◌≡◌, refl, ap, ℕ, zero, suc, ◌+◌, ◌<◌, ◌≤◌, List, [], ◌∷◌, ◌++◌, length, length-append}
-use Rattle.std.proofs.Common.{get_or, drop, subst}
+use Rattle.std.proofs.Common.{get_or, drop, subst, take}
 use Rattle.std.proofs.Common.{arith, Bool, true, false, ◌⊎◌, inl, inr}
 use Rattle.std.specs.List.{AllByRecursion}
 use Rattle.std.specs.List.Sorted.{IsPartitionedBy, IsPartitionPoint}
@@ -25,7 +25,7 @@ module _ {X : Type 0} (p : X → Bool) where
   get-false (x ∷ xs) ys zero d all h l = absurd (omega arith)
   get-false (x ∷ xs) ys (suc k) d all h l = get-false xs ys k d all (omega arith) (omega arith)
 
-  pub parted : (xs ys : List X) → AllByRecursion (λ (x : X). p x ≡ true) xs →
+  parted : (xs ys : List X) → AllByRecursion (λ (x : X). p x ≡ true) xs →
       AllByRecursion (λ (x : X). p x ≡ false) ys → IsPartitionedBy p (xs ++ ys)
   parted xs ys a b i j d le l t = by (below j (length xs))
     where
@@ -43,7 +43,7 @@ module _ {X : Type 0} (p : X → Bool) where
       by (inl h) = get-true xs ys i d a (omega (arith, h, le))
       by (inr h) = let f = get-false xs ys j d b h l in absurd (cc)
 
-  pub point-is : (d : X) (xs ys : List X) (n : ℕ) → AllByRecursion (λ (x : X). p x ≡ true) xs →
+  point-is : (d : X) (xs ys : List X) (n : ℕ) → AllByRecursion (λ (x : X). p x ≡ true) xs →
       AllByRecursion (λ (x : X). p x ≡ false) ys →
       n ≤ length (xs ++ ys) →
       IsPartitionPoint (λ (x : X). p x ≡ true) (λ (x : X). p x ≡ false) (xs ++ ys) n → n ≡ length xs
@@ -94,3 +94,8 @@ found {X} p d xs ys zs n e a b le point =
 pub drop-front : {X : Type 0} (xs ys : List X) → drop (length xs) (xs ++ ys) ≡ ys
 drop-front [] ys = refl
 drop-front (x ∷ xs) ys = drop-front xs ys
+
+pub take-short : {X : Type 0} (n : ℕ) (xs : List X) → length (take n xs) ≤ n
+take-short zero xs = omega arith
+take-short (suc n) [] = omega arith
+take-short (suc n) (x ∷ xs) = let r = take-short n xs in omega (arith, r)

@@ -16,7 +16,7 @@ use Rattle.pg_list.specs.Counts.{item_count, block_size}
 use Rattle.pg_list.specs.Places.{place, picked_items, items_around}
 use Rattle.pg_rules.specs.Floats.{sizes_of, insert_size}
 use Rattle.pg_floats.specs.Places.{is_before, places_in, places_among, places_of_block, places_from}
-use Rattle.pg_floats.proofs.Parts.{all-both, found, drop-front}
+use Rattle.pg_floats.proofs.Parts.{all-both, found, drop-front, take-short}
 
 -- ---- the order of places
 
@@ -188,11 +188,6 @@ cut-in number b v j (suc i) (item ∷ items) =
     ∙ sym (append_assoc one (places_in number b v (j + 1) (take i items))
     (places_in number b v (j + suc i) (drop i items)))
 
-take-few : (i : ℕ) (items : List Item) → length (take i items) ≤ i
-take-few zero items = omega arith
-take-few (suc i) [] = omega arith
-take-few (suc i) (item ∷ items) = let r = take-few i items in omega (arith, r)
-
 length-in : (number b v j : ℕ) (items : List Item) →
     length (places_in number b v j items) ≡ length (sizes_of number items)
 length-in number b v j [] = refl
@@ -230,7 +225,7 @@ counted number b v i items places rest first n r is le point le' point' =
     let parts : rest ≡ early ++ (late ++ r.post) = left
     ∙ (ap (λ ps. ps ++ r.post) (cut-in number b v 0 i items) ∙ append_assoc early late r.post) in
     let early-before = all-in (λ (at : Place). is_before at (place b v i) ≡ true) number b v 0 (take i items)
-    (λ j ge lt. less-index b v j i (omega (arith, lt, take-few i items))) in
+    (λ j ge lt. less-index b v j i (omega (arith, lt, take-short i items))) in
     let late-not = all-in (λ (at : Place). is_before at (place b v i) ≡ false) number b v (0 + i) (drop i items)
     (λ j ge lt. more-index b v j i (omega (arith, ge))) in
     found (λ (at : Place). is_before at (place b v i)) (place 0 0 0) early (late ++ r.post) rest n

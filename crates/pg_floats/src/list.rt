@@ -1,7 +1,7 @@
 //! The list of floats.
-ghost use Rattle.std.specs.Prelude.{◌≡◌, ◌==◌, ◌↔◌, ◌<◌, ◌≤◌, ◌+◌, ◌^◌, ◌++◌, ◌∷◌, [], ℕ, List, Some, None, Ok, Err};
-ghost use Rattle.std.specs.Prelude.{OnOk, IfOk, IfSome, length, take, true, false, is_some, nat_lt, pos, slice_get};
-ghost use Rattle.std.specs.Prelude.{option_copied, MatchOption};
+ghost use Rattle.std.specs.Prelude.{◌≡◌, ◌<◌, ◌≤◌, ◌+◌, ◌^◌, ◌++◌, ◌∷◌, [], ℕ, List, Some, None, Ok, Err, OnOk};
+ghost use Rattle.std.specs.Prelude.{IfOk, IfSome, MatchOption, length, true, false, nat_lt, pos, slice_get};
+ghost use Rattle.std.specs.Prelude.{option_copied};
 ghost use Rattle.std.specs.List.{AllByRecursion};
 ghost use Rattle.std.specs.List.Sorted.{IsPartitionedBy, IsPartitionPoint};
 ghost use Rattle.pg_list.specs.Counts.{item_count};
@@ -9,7 +9,6 @@ ghost use Rattle.pg_list.specs.Shapes.{IsBlock};
 ghost use Rattle.pg_list.specs.declared.blocks.Block.{Block as ABlock};
 ghost use Rattle.pg_style.specs.Values.{StyleValue};
 ghost use Rattle.pg_style.specs.Ranges.{AreClasses};
-ghost use Rattle.pg_style.specs.Classes.{is_float_class, float_numbers_of};
 ghost use Rattle.pg_flat.specs.Flat.{items_before};
 ghost use Rattle.pg_rules.specs.Floats.{called, entry, floats, sizes_of};
 ghost use Rattle.pg_floats.specs.declared.callouts.Callout.{Callout as ACallout};
@@ -283,8 +282,8 @@ impl FloatList {
         self.classes.get(slot)
     }
 
-    /// How many floats of a slot are called before a place of the galley that the list is of, which the contract alone
-    /// reads. The time is logarithmic in the number of the class's inserts in all variants.
+    /// How many floats of a slot are called before a place of the galley. The list keeps what it needs of the galley,
+    /// which the contract alone reads; the time is logarithmic in the number of the class's inserts in all variants.
     pub fn called(&self, _galley: &Galley, place: Place, slot: usize) -> u32
         ensures { (style : StyleValue) → AreFloats _galley.now.blocks style self.now →
             result ≡ entry (called _galley.now.blocks style place) slot }
