@@ -193,14 +193,16 @@ fn first_late(classes: &[Class], waiting: &[u16], ages: &[u8]) -> Option<Late>
 impl Queue {
     /// How many floats of each class are placed.
     pub fn placed(&self) -> &Counts
-        ensures { result.now ≡ self.now.placed }
+        ensures placed { result.now ≡ self.now.placed }
+        ensures kept { IsQueue self.now }
     {
         &self.placed
     }
 
     /// The ages of the floats that wait, by class and number.
     pub fn ages(&self) -> &Ages
-        ensures { result.now ≡ self.now.ages }
+        ensures ages { result.now ≡ self.now.ages }
+        ensures kept { IsQueue self.now }
     {
         &self.ages
     }
