@@ -1,5 +1,7 @@
 -- The floats that counts deal out, counted and added, and those of the definition.
-use Rattle.std.proofs.Common.{◌≡◌, refl, sym, ap, ◌∙◌, ℕ, zero, suc, ◌+◌, ◌*◌, ◌-◌, ◌^◌, ◌<◌, ◌≤◌, List, [], ◌∷◌, ◌++◌, length, length-append, map, take, drop, arith, true, false, Some, None, ℤ, pos, ◌+ℤ◌, ◌*ℤ◌, ◌≤ℤ◌}
+use Rattle.std.proofs.Common.{◌≡◌, refl, sym, ap, ◌∙◌, ℕ, zero, suc, ◌+◌, ◌*◌, ◌-◌, ◌^◌, ◌<◌, ◌≤◌, List, [], ◌∷◌}
+use Rattle.std.proofs.Common.{◌++◌, length, length-append, map, take, drop, arith, true, false, Some, None, ℤ, pos}
+use Rattle.std.proofs.Common.{◌+ℤ◌, ◌*ℤ◌, ◌≤ℤ◌}
 use Rattle.std.specs.Prelude.{◌==◌, ◌&&◌, ◌||◌, nat_le, if◌then◌else◌, unsigned_abs}
 use Rattle.std.specs.List.{AllByRecursion}
 use Rattle.std.proofs.lemmas.Int.{ints}
@@ -13,12 +15,14 @@ use Rattle.pg_flat.specs.Flat.{flat}
 use Rattle.pg_flat.specs.Whole.{whole_sum_by}
 use Rattle.pg_style.specs.Ranges.{IsAreaRule}
 use Rattle.pg_style.specs.Values.{AreaRuleValue, StyleValue}
-use Rattle.pg_rules.specs.Floats.{entry, dealt_from, dealt, has_all_from, has_all, area_height, sizes_of, float_numbers, floats}
+use Rattle.pg_rules.specs.Floats.{entry, dealt_from, dealt, has_all_from, has_all, area_height, sizes_of}
+use Rattle.pg_rules.specs.Floats.{float_numbers, floats}
 use Rattle.pg_floats.specs.declared.area.Dealt.{Dealt}
 use Rattle.pg_floats.specs.declared.callouts.Callout.{Callout}
 use Rattle.pg_floats.specs.AreFloats.{AreFloats, height_of}
-use Rattle.pg_floats.specs.Areas.{sizes_together, next_of, has_next, has_dealt, dealt_count, dealt_sizes, area_size, IsDealt}
-use Rattle.pg_floats.specs.Callouts.{callouts_from}
+use Rattle.pg_floats.specs.Areas.{sizes_together, next_of, has_next, has_dealt, dealt_count, dealt_sizes, area_size}
+use Rattle.pg_floats.specs.Areas.{IsDealt}
+use Rattle.pg_floats.specs.Callouts.{callouts_from, class_floats}
 use Rattle.pg_floats.specs.FloatsValue.{ClassFloatsValue, IsInRange, total_of}
 use Rattle.pg_floats.proofs.Lists.{size_of, sizes-from, flat-first}
 
@@ -127,11 +131,7 @@ all-is slot (kept ∷ list) before counts =
 
 floats-are : (blocks : List Block) (numbers : List ℕ) → AllByRecursion IsBlock blocks →
     map (λ number. sizes_of number (flat blocks [])) numbers
-    ≡ sizes_of_all (map (λ number. record {
-      number = number;
-      callouts =
-          callouts_from number 0 blocks;
-    }) numbers)
+    ≡ sizes_of_all (map (class_floats blocks) numbers)
 unfolding sizes_of_all
 floats-are blocks [] all = refl
 floats-are blocks (number ∷ numbers) all =

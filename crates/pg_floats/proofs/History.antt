@@ -1,14 +1,18 @@
 -- A queue counts what happened to it.
-use Rattle.std.proofs.Common.{◌≡◌, refl, sym, ap, ◌∙◌, subst, ℕ, zero, suc, ◌+◌, ◌-◌, ◌<◌, ◌≤◌, List, [], ◌∷◌, ◌++◌, length, length-append, append_assoc, map, take, drop, get_or, set, add-one, arith, Bool, true, false, inl, inr, length-drop}
+use Rattle.std.proofs.Common.{◌≡◌, refl, sym, ap, ◌∙◌, subst, ℕ, zero, suc, ◌+◌, ◌-◌, ◌<◌, ◌≤◌, List, [], ◌∷◌, ◌++◌}
+use Rattle.std.proofs.Common.{length, length-append, append_assoc, map, take, drop, get_or, set, add-one, arith, Bool}
+use Rattle.std.proofs.Common.{true, false, inl, inr, length-drop}
 use Rattle.std.specs.Prelude.{◌==◌, if◌then◌else◌, sum}
 use Rattle.std.specs.List.{insert, remove}
 use Rattle.std.proofs.lemmas.Bool.{cases_Bool}
 use Rattle.std.proofs.lemmas.Bool.Decides.{nat_tests}
-use Rattle.std.proofs.lemmas.List.{append-nil, take-map, drop-map, map-append, length-map, get_or-set_same, get_or-set_other, drop-append-le}
+use Rattle.std.proofs.lemmas.List.{append-nil, take-map, drop-map, map-append, length-map, get_or-set_same}
+use Rattle.std.proofs.lemmas.List.{get_or-set_other, drop-append-le}
 use Rattle.std.proofs.lemmas.List.Edits.{length-insert, length-remove}
 use Rattle.std.proofs.lemmas.List.Sums.{sum_by-cons, sum_by-set, sum_by-take-drop}
 use Rattle.pg_floats.specs.QueueValue.{IsQueue, QueueValue, turned, with_callout, with_placed}
-use Rattle.pg_floats.specs.History.{CountsHistory, Event, Leads, ages_by, ages_of, called, page_ended, pages, placed, placings, since_callouts}
+use Rattle.pg_floats.specs.History.{CountsHistory, Event, Leads, ages_by, ages_of, called, page_ended, pages, placed}
+use Rattle.pg_floats.specs.History.{placings, since_callouts}
 use Rattle.pg_floats.proofs.Queues.{drop-more, far-drop, far-take, near-drop, near-take, set-long, sum-one}
 
 -- ---- the ages of one class

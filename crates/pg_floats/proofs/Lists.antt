@@ -1,5 +1,6 @@
 -- The callouts that are kept, and the floats of the definition.
-use Rattle.std.proofs.Common.{◌≡◌, refl, sym, ap, ◌∙◌, ℕ, suc, ◌+◌, ◌*◌, ◌<◌, ◌≤◌, List, [], ◌∷◌, ◌++◌, length, length-append, map, arith, Bool, true, false, Option, Some, None, ℤ, pos}
+use Rattle.std.proofs.Common.{◌≡◌, refl, sym, ap, ◌∙◌, ℕ, suc, ◌+◌, ◌*◌, ◌<◌, ◌≤◌, List, [], ◌∷◌, ◌++◌, length}
+use Rattle.std.proofs.Common.{length-append, map, arith, Bool, true, false, Option, Some, None, ℤ, pos}
 use Rattle.std.specs.Prelude.{◌==◌, if◌then◌else◌, option_map, is_none, unsigned_abs, Result, Ok, Err}
 use Rattle.std.specs.List.{AllByRecursion, filter, filter_map, find, cons_option, sum_by}
 use Rattle.std.proofs.lemmas.Int.{ints}
@@ -29,7 +30,8 @@ use Rattle.pg_floats.specs.declared.fault.FloatFault.{FloatFault}
 use Rattle.pg_floats.specs.declared.fault.FloatFault.TheVariants.{Class as FaultClass, Limit, Memory}
 use Rattle.pg_floats.specs.AreFloats.{HasFloats, IsWithinLimit}
 use Rattle.pg_floats.specs.FloatsValue.{ClassFloatsValue, total_of}
-use Rattle.pg_floats.specs.Callouts.{callouts_in, callouts_from, first_items, insert_class, strange_among, strange_blocks, lists_from}
+use Rattle.pg_floats.specs.Callouts.{callouts_in, callouts_from, class_floats, first_items, insert_class, strange_among}
+use Rattle.pg_floats.specs.Callouts.{strange_blocks, lists_from}
 
 -- ---- the flat list, block by block
 
@@ -101,9 +103,9 @@ length-from number n blocks all =
 -- ---- how many
 
 abbrev class_list : List Block → Class → ClassFloatsValue
-class_list blocks class = record { number = class.number; callouts = callouts_from class.number 0 blocks }
+class_list blocks class = class_floats blocks class.number
 
-sizes-few : (number : ℕ) (items : List Item) → length (sizes_of number items) ≤ length items
+pub sizes-few : (number : ℕ) (items : List Item) → length (sizes_of number items) ≤ length items
 sizes-few number [] = omega arith
 sizes-few number (item ∷ items) = by (insert_size number item) (sizes_of number items) (sizes-few number items)
   where
@@ -192,28 +194,24 @@ blocks-few (block ∷ blocks) all =
 
 -- ---- the lists of the definition
 
-abbrev number_list : List Block → ℕ → ClassFloatsValue
-number_list blocks number = record { number = number; callouts = callouts_from number 0 blocks }
-
 mapped-twice : {X Y Z : Type 0} (f : Y → Z) (g : X → Y) (xs : List X) → map f (map g xs) ≡ map (λ x. f (g x)) xs
 mapped-twice f g [] = refl
 mapped-twice f g (x ∷ xs) = ap (λ ys. f (g x) ∷ ys) (mapped-twice f g xs)
 
 pub lists-are : (blocks : List Block) (style : StyleValue) → AreClasses style.classes →
-    lists_from blocks style.classes
-    ≡ map (λ number. record { number = number; callouts = callouts_from number 0 blocks }) (float_numbers style)
+    lists_from blocks style.classes ≡ map (class_floats blocks) (float_numbers style)
 lists-are blocks style are =
-    sym (mapped-twice (number_list blocks) (λ (class : Class). class.number) (filter is_float_class style.classes))
-    ∙ ap (map (number_list blocks)) (sym (numbers-are style are))
+    sym (mapped-twice (class_floats blocks) (λ (class : Class). class.number) (filter is_float_class style.classes))
+    ∙ ap (map (class_floats blocks)) (sym (numbers-are style are))
 
 pub total-is : (blocks : List Block) (numbers : List ℕ) → AllByRecursion IsBlock blocks →
-    total_of (map (λ number. record { number = number; callouts = callouts_from number 0 blocks }) numbers)
+    total_of (map (class_floats blocks) numbers)
     ≡ sum_by (λ (sizes : List ℤ). length sizes) (map (λ number. sizes_of number (flat blocks [])) numbers)
 total-is blocks [] all = refl
 total-is blocks (number ∷ numbers) all =
-    sum_by-cons (λ (floats : ClassFloatsValue). length floats.callouts) (number_list blocks number)
-    (map (number_list blocks) numbers)
-    ∙ (ap (λ n. n + total_of (map (number_list blocks) numbers)) (length-from number 0 blocks all)
+    sum_by-cons (λ (floats : ClassFloatsValue). length floats.callouts) (class_floats blocks number)
+    (map (class_floats blocks) numbers)
+    ∙ (ap (λ n. n + total_of (map (class_floats blocks) numbers)) (length-from number 0 blocks all)
     ∙ (ap (λ n. length (sizes_of number (flat blocks [])) + n) (total-is blocks numbers all)
     ∙ sym (sum_by-cons (λ (sizes : List ℤ). length sizes) (sizes_of number (flat blocks []))
     (map (λ number. sizes_of number (flat blocks [])) numbers))))

@@ -1,5 +1,7 @@
 -- Tables by slot, ages that are late, and queues that stay young.
-use Rattle.std.proofs.Common.{◌≡◌, ◌≢◌, refl, sym, ap, ◌∙◌, subst, ℕ, zero, suc, ◌+◌, ◌-◌, ◌<◌, ◌≤◌, List, [], ◌∷◌, ◌++◌, length, map, take, drop, get_or, set, add-one, arith, Bool, true, false, Option, Some, None, length-drop}
+use Rattle.std.proofs.Common.{◌≡◌, ◌≢◌, refl, sym, ap, ◌∙◌, subst, ℕ, zero, suc, ◌+◌, ◌-◌, ◌<◌, ◌≤◌, List, [], ◌∷◌}
+use Rattle.std.proofs.Common.{◌++◌, length, map, take, drop, get_or, set, add-one, arith, Bool, true, false, Option}
+use Rattle.std.proofs.Common.{Some, None, length-drop}
 use Rattle.std.specs.Prelude.{◌==◌, if◌then◌else◌, nat_le, slice_get, sum, replicate, IsNone}
 use Rattle.std.specs.Option.{option_map_or}
 use Rattle.std.specs.List.{AllByRecursion, filter, insert, remove}
@@ -16,7 +18,8 @@ use Rattle.pg_style.specs.declared.style.Kind.TheVariants.{Note, Float}
 use Rattle.pg_rules.specs.Floats.{float_kind, float_numbers}
 use Rattle.pg_rules.specs.Legal.{distance_table}
 use Rattle.pg_floats.specs.declared.queue.Late.{Late}
-use Rattle.pg_floats.specs.QueueValue.{AreYoung, IsOf, IsQueue, QueueValue, none, late_in, late_by, late_of, or_late, next_table, table_in, float_count_in, with_callout, with_placed}
+use Rattle.pg_floats.specs.QueueValue.{AreYoung, IsOf, IsQueue, QueueValue, none, late_in, late_by, late_of, or_late}
+use Rattle.pg_floats.specs.QueueValue.{next_table, table_in, float_count_in, with_callout, with_placed}
 use Rattle.pg_floats.proofs.Numbers.{numbers-are}
 
 -- ---- tables

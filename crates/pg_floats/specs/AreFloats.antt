@@ -1,5 +1,6 @@
 -- What a kept list says of the floats of a galley.
-use Rattle.std.specs.Prelude.{◌≡◌, ℕ, ◌<◌, ◌≤◌, ◌^◌, List, [], length, map, Option, Some, None, slice_get, if◌then◌else◌, ℤ, Result, Ok, Err}
+use Rattle.std.specs.Prelude.{◌≡◌, ℕ, ◌<◌, ◌≤◌, ◌^◌, List, [], length, map, Option, Some, None, slice_get}
+use Rattle.std.specs.Prelude.{if◌then◌else◌, ℤ, Result, Ok, Err}
 use Rattle.std.specs.List.{sum_by, AllByRecursion}
 use Rattle.pg_list.specs.Shapes.{IsBlock}
 use Rattle.std.specs.Option.{option_map_or}
@@ -8,15 +9,14 @@ use Rattle.pg_flat.specs.Flat.{flat}
 use Rattle.pg_style.specs.Values.{StyleValue, AreaRuleValue}
 use Rattle.pg_rules.specs.Floats.{float_numbers, floats, dealt, has_all, area_height}
 use Rattle.pg_floats.specs.FloatsValue.{ClassFloatsValue, total_of}
-use Rattle.pg_floats.specs.Callouts.{callouts_from, strange_among}
+use Rattle.pg_floats.specs.Callouts.{class_floats, strange_among}
 use Rattle.pg_floats.specs.declared.fault.FloatFault.{FloatFault}
 use Rattle.pg_floats.specs.declared.fault.FloatFault.TheVariants.{Class, Limit, Memory}
 
--- the list holds, for each float class of the style in increasing number, the callouts of a galley's blocks
+-- the list holds, for each float class of the style in increasing number, its floats in a galley's blocks
 pub record AreFloats (blocks : List Block) (style : StyleValue) (list : List ClassFloatsValue) : Type 0 where
   pub shape : AllByRecursion IsBlock blocks
-  pub floats_are : list
-      ≡ map (λ number. record { number = number; callouts = callouts_from number 0 blocks }) (float_numbers style)
+  pub floats_are : list ≡ map (class_floats blocks) (float_numbers style)
 
 -- the class of the first insert, in galley order, that the style does not have
 abbrev pub strange_class : List Block → StyleValue → Option ℕ
@@ -43,9 +43,11 @@ HasFloats (Err Memory) blocks style = Unit {0}
 -- a list comes where the style has all classes and there are at most 2^12 floats; a class is named exactly where it
 -- is strange, and a count only where it is above the limit and no class is strange
 abbrev pub MakesList : Result (List ClassFloatsValue) FloatFault → List Block → StyleValue → Type 0
-MakesList (Ok list) blocks style = AreFloats blocks style list × (strange_class blocks style ≡ None) × (float_total blocks style ≤ 2 ^ 12)
+MakesList (Ok list) blocks style =
+    AreFloats blocks style list × (strange_class blocks style ≡ None) × (float_total blocks style ≤ 2 ^ 12)
 MakesList (Err (Class number)) blocks style = strange_class blocks style ≡ Some number
-MakesList (Err (Limit count)) blocks style = (strange_class blocks style ≡ None) × (count ≡ float_total blocks style) × (2 ^ 12 < count)
+MakesList (Err (Limit count)) blocks style =
+    (strange_class blocks style ≡ None) × (count ≡ float_total blocks style) × (2 ^ 12 < count)
 MakesList (Err Memory) blocks style = strange_class blocks style ≡ None
 
 -- the size of a float, by its slot and number

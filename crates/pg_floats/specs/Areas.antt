@@ -1,5 +1,6 @@
 -- The height of an area, from the callouts of its floats.
-use Rattle.std.specs.Prelude.{◌≡◌, ℕ, ◌+◌, ◌*◌, ◌-◌, ◌≤◌, ◌^◌, ◌==◌, ◌&&◌, ◌||◌, nat_le, Bool, true, if◌then◌else◌, List, [], ◌∷◌, length, take, drop, unsigned_abs}
+use Rattle.std.specs.Prelude.{◌≡◌, ℕ, ◌+◌, ◌*◌, ◌-◌, ◌≤◌, ◌^◌, ◌==◌, ◌&&◌, ◌||◌, nat_le, Bool, true, if◌then◌else◌}
+use Rattle.std.specs.Prelude.{List, [], ◌∷◌, length, take, drop, unsigned_abs}
 use Rattle.std.specs.List.{sum_by}
 use Rattle.pg_style.specs.Values.{AreaRuleValue}
 use Rattle.pg_rules.specs.Floats.{entry}
@@ -32,7 +33,8 @@ dealt_count slot (floats ∷ list) before counts =
 abbrev pub dealt_sizes : ℕ → List ClassFloatsValue → List ℕ → List ℕ → ℕ
 dealt_sizes slot [] before counts = 0
 dealt_sizes slot (floats ∷ list) before counts =
-    sizes_together (next_of floats.callouts (entry before slot) (entry counts slot)) + dealt_sizes (slot + 1) list before counts
+    sizes_together (next_of floats.callouts (entry before slot) (entry counts slot))
+    + dealt_sizes (slot + 1) list before counts
 
 -- the next floats of a class, counted and added
 pub record IsNext (callouts : List Callout) (from count : ℕ) (dealt : Dealt) : Type 0 where

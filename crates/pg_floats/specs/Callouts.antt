@@ -1,5 +1,6 @@
 -- The callouts of a class, block by block.
-use Rattle.std.specs.Prelude.{ℕ, ◌+◌, List, [], ◌∷◌, ◌++◌, map, Option, Some, None, option_map, is_none, ℤ, unsigned_abs}
+use Rattle.std.specs.Prelude.{ℕ, ◌+◌, List, [], ◌∷◌, ◌++◌, map, Option, Some, None, option_map, is_none, ℤ}
+use Rattle.std.specs.Prelude.{unsigned_abs}
 use Rattle.std.specs.List.{filter, filter_map, find}
 use Rattle.pg_list.specs.declared.item.Item.{Item}
 use Rattle.pg_list.specs.declared.item.Item.TheVariants.{Insert}
@@ -11,10 +12,12 @@ use Rattle.pg_rules.specs.Floats.{insert_size}
 use Rattle.pg_rules.specs.Legal.{or_else}
 use Rattle.pg_floats.specs.declared.callouts.Callout.{Callout}
 use Rattle.pg_floats.specs.FloatsValue.{ClassFloatsValue}
+use Rattle.pg_floats.specs.Places.{places_from}
 
 -- a float's callout: its block and its size
 abbrev pub callout_of : ℕ → ℕ → Item → Option Callout
-callout_of number block item = option_map (λ (size : ℤ). record { block = block; size = unsigned_abs size }) (insert_size number item)
+callout_of number block item =
+    option_map (λ (size : ℤ). record { block = block; size = unsigned_abs size }) (insert_size number item)
 
 abbrev pub callouts_in : ℕ → ℕ → List Item → List Callout
 callouts_in number block items = filter_map (callout_of number block) items
@@ -22,7 +25,8 @@ callouts_in number block items = filter_map (callout_of number block) items
 -- the callouts of the blocks from the n-th on; all variants of a choice have those of its first
 abbrev pub callouts_from : ℕ → ℕ → List Block → List Callout
 callouts_from number n [] = []
-callouts_from number n (block ∷ blocks) = callouts_in number n (picked_items block 0) ++ callouts_from number (n + 1) blocks
+callouts_from number n (block ∷ blocks) =
+    callouts_in number n (picked_items block 0) ++ callouts_from number (n + 1) blocks
 
 -- the items of the blocks, with the first variant of each choice
 abbrev pub first_items : List Block → List Item
@@ -37,12 +41,21 @@ insert_class _ = None
 abbrev pub strange_among : List Class → List Item → Option ℕ
 strange_among classes items = find (λ number. is_none (class_in classes number)) (filter_map insert_class items)
 
--- for each float class its callouts
+-- the floats of a class
+abbrev pub class_floats : List Block → ℕ → ClassFloatsValue
+class_floats blocks number = record {
+  number = number;
+  callouts = callouts_from number 0 blocks;
+  places = places_from number 0 blocks;
+}
+
+-- for each float class its floats
 abbrev pub lists_from : List Block → List Class → List ClassFloatsValue
 lists_from blocks classes =
-    map (λ (class : Class). record { number = class.number; callouts = callouts_from class.number 0 blocks }) (filter is_float_class classes)
+    map (λ (class : Class). class_floats blocks class.number) (filter is_float_class classes)
 
 -- the same, block by block
 abbrev pub strange_blocks : List Class → List Block → Option ℕ
 strange_blocks classes [] = None
-strange_blocks classes (block ∷ blocks) = or_else (strange_among classes (picked_items block 0)) (strange_blocks classes blocks)
+strange_blocks classes (block ∷ blocks) =
+    or_else (strange_among classes (picked_items block 0)) (strange_blocks classes blocks)

@@ -1,5 +1,6 @@
 -- What happens to a queue, and what it then holds.
-use Rattle.std.specs.Prelude.{◌≡◌, ℕ, zero, suc, ◌+◌, ◌<◌, ◌≤◌, ◌==◌, if◌then◌else◌, List, [], ◌∷◌, ◌++◌, length, map, take, drop, slice_index}
+use Rattle.std.specs.Prelude.{◌≡◌, ℕ, zero, suc, ◌+◌, ◌<◌, ◌≤◌, ◌==◌, if◌then◌else◌, List, [], ◌∷◌, ◌++◌, length, map}
+use Rattle.std.specs.Prelude.{take, drop, slice_index}
 use Rattle.pg_floats.specs.QueueValue.{QueueValue, with_callout, with_placed, turned}
 
 -- a float of a class is called; the first of a class that waits is placed; a page ends

@@ -1,5 +1,6 @@
 -- The floats that are placed and that wait, by class, and the ages of these.
-use Rattle.std.specs.Prelude.{◌≡◌, ℕ, ◌+◌, ◌-◌, ◌<◌, ◌≤◌, ◌^◌, nat_le, ◌==◌, if◌then◌else◌, List, [], ◌∷◌, length, map, sum, take, drop, slice_index, slice_set, replicate, Option, Some, None}
+use Rattle.std.specs.Prelude.{◌≡◌, ℕ, ◌+◌, ◌-◌, ◌<◌, ◌≤◌, ◌^◌, nat_le, ◌==◌, if◌then◌else◌, List, [], ◌∷◌, length}
+use Rattle.std.specs.Prelude.{map, sum, take, drop, slice_index, slice_set, replicate, Option, Some, None}
 use Rattle.std.specs.List.{insert, remove, AllByRecursion}
 use Rattle.pg_style.specs.Values.{StyleValue}
 use Rattle.pg_rules.specs.Floats.{float_numbers}
@@ -68,7 +69,8 @@ turned queue = record { placed = queue.placed; waiting = queue.waiting; ages = m
 -- the first age of a slot that would reach the length of its table
 abbrev pub late_in : ℕ → ℕ → List ℕ → Option Late
 late_in limit slot [] = None
-late_in limit slot (age ∷ ages) = if nat_le limit (age + 1) then Some (record { slot = slot; age = limit }) else late_in limit slot ages
+late_in limit slot (age ∷ ages) =
+    if nat_le limit (age + 1) then Some (record { slot = slot; age = limit }) else late_in limit slot ages
 
 abbrev pub or_late : Option Late → Option Late → Option Late
 or_late (Some late) other = Some late

@@ -1,9 +1,11 @@
 //! The height of an area.
-ghost use Rattle.std.specs.Prelude.{◌≡◌, ◌+◌, ◌*◌, ◌<◌, ◌≤◌, ◌^◌, List, length, slice_index, false, MatchOption, unsigned_abs};
+ghost use Rattle.std.specs.Prelude.{◌≡◌, ◌+◌, ◌*◌, ◌<◌, ◌≤◌, ◌^◌, List, length, slice_index, false, MatchOption};
+ghost use Rattle.std.specs.Prelude.{unsigned_abs};
 ghost use Rattle.std.specs.List.{AllByRecursion};
 ghost use Rattle.pg_style.specs.Ranges.{IsAreaRule};
 ghost use Rattle.pg_floats.specs.FloatsValue.{IsInRange, total_of};
-ghost use Rattle.pg_floats.specs.Areas.{area_size as area_size_of, has_dealt, has_next, sizes_together, IsDealt, IsNext};
+ghost use Rattle.pg_floats.specs.Areas.{area_size as area_size_of, has_dealt, has_next, sizes_together, IsDealt};
+ghost use Rattle.pg_floats.specs.Areas.{IsNext};
 
 use crate::callouts::{Callout, Callouts};
 use crate::list::ClassFloats;
@@ -68,7 +70,8 @@ fn next_floats(callouts: &Callouts, from: usize, count: usize) -> Option<Dealt>
 pub fn deal(list: &[ClassFloats], placed: &Counts, counts: &Counts) -> Option<Dealt>
     requires few { total_of list.now ≤ 2 ^ 12 }
     requires slots { length list.now ≤ 8 }
-    ensures { MatchOption result (has_dealt 0 list.now placed.now counts.now ≡ false) (IsDealt list.now placed.now counts.now) }
+    ensures { MatchOption result (has_dealt 0 list.now placed.now counts.now ≡ false)
+        (IsDealt list.now placed.now counts.now) }
 {
     let mut dealt = Dealt { count: 0, sizes: 0 };
     let mut rest = list;

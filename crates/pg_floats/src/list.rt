@@ -1,45 +1,49 @@
 //! The list of floats.
-ghost use Rattle.std.specs.Prelude.{◌≡◌, ◌==◌, ◌↔◌, ◌<◌, ◌≤◌, ◌+◌, ◌^◌, ◌++◌, ◌∷◌, [], ℕ, List, Some, None, Ok, Err, OnOk, IfOk, IfSome, length, take, true, false, is_some, nat_lt, pos, slice_get, option_copied, MatchOption};
-ghost use Rattle.std.specs.List.{AllByRecursion, count_by};
+ghost use Rattle.std.specs.Prelude.{◌≡◌, ◌<◌, ◌≤◌, ◌+◌, ◌^◌, ◌++◌, ◌∷◌, [], ℕ, List, Some, None, Ok, Err, OnOk};
+ghost use Rattle.std.specs.Prelude.{IfOk, IfSome, MatchOption, length, true, false, nat_lt, pos, slice_get};
+ghost use Rattle.std.specs.Prelude.{option_copied};
+ghost use Rattle.std.specs.List.{AllByRecursion};
 ghost use Rattle.std.specs.List.Sorted.{IsPartitionedBy, IsPartitionPoint};
 ghost use Rattle.pg_list.specs.Counts.{item_count};
 ghost use Rattle.pg_list.specs.Shapes.{IsBlock};
 ghost use Rattle.pg_list.specs.declared.blocks.Block.{Block as ABlock};
 ghost use Rattle.pg_style.specs.Values.{StyleValue};
 ghost use Rattle.pg_style.specs.Ranges.{AreClasses};
-ghost use Rattle.pg_style.specs.Classes.{is_float_class, float_numbers_of};
-ghost use Rattle.pg_list.specs.Places.{items_around as items_around_of};
 ghost use Rattle.pg_flat.specs.Flat.{items_before};
-ghost use Rattle.pg_rules.specs.Floats.{called, entry, floats, insert_size, sizes_of};
-ghost use Rattle.pg_list.specs.declared.item.Item.{Item as AnItem};
+ghost use Rattle.pg_rules.specs.Floats.{called, entry, floats, sizes_of};
 ghost use Rattle.pg_floats.specs.declared.callouts.Callout.{Callout as ACallout};
 ghost use Rattle.pg_floats.specs.Areas.{has_dealt, IsDealt};
 ghost use Rattle.pg_floats.specs.FloatsValue.{callout_at, IsInRange, total_of};
-ghost use Rattle.pg_floats.specs.Callouts.{callouts_from, lists_from, strange_among, strange_blocks};
-ghost use Rattle.pg_floats.specs.AreFloats.{AreFloats, HasFloats, IsWithinLimit, MakesList, strange_class, float_size, height_of};
+ghost use Rattle.pg_floats.specs.Callouts.{class_floats, lists_from, strange_among, strange_blocks};
+ghost use Rattle.pg_floats.specs.AreFloats.{AreFloats, HasFloats, IsWithinLimit, MakesList, strange_class};
+ghost use Rattle.pg_floats.specs.AreFloats.{float_size, height_of};
 
 use crate::area::{Dealt, area_size, deal};
 use crate::callouts::{Callout, Callouts, callouts_of, first_items_of};
 use crate::fault::FloatFault;
-use pg_list::{Block, Galley, Item, Place, items_around};
+use crate::inserts::{inserts_before, places_of};
+use pg_list::{Block, Galley, Item, Place};
 use pg_plan::Counts;
 use pg_style::{AreaRule, Class, Kind, Style};
 use std::alloc::{AllocError, Global};
 use std::marker::Model;
 
-/// The floats of a class, in order.
+/// The floats of a class, in order, and the places of their inserts in every variant.
 #[derive(Debug, Drop)]
 pub struct ClassFloats {
     pub number: u8,
     pub callouts: Callouts,
+    pub places: Vec<Place>,
 }
 
 impl Model for ClassFloats {
-    ghost use Rattle.pg_floats.specs.FloatsValue.{ClassFloatsValue};
+    ghost use Rattle.pg_floats.specs.FloatsValue.{ClassFloatsValue, AreFewPlaces};
 
     ghost Value = { ClassFloatsValue };
 
-    ghost view = { λ a. record { number = a.number; callouts = a.callouts } };
+    ghost view = { λ a. record { number = a.number; callouts = a.callouts; places = a.places.items } };
+
+    ghost invariant = { λ a. AreFewPlaces a.places.items };
 }
 
 /// The floats of a galley by class, the float classes of the style in increasing number.
@@ -100,14 +104,16 @@ fn push_class(
     class: &Class,
 ) -> Result<(), AllocError>
     requires shape { AllByRecursion IsBlock blocks.now }
-    requires few { length blocks.now ≤ 2 ^ 20 }
+    requires few { item_count blocks.now ≤ 2 ^ 20 }
     ensures { OnOk result (out.new.items ≡ out.old.items ++ lists_from blocks.now (class.now ∷ [])) }
 {
     if let Kind::Float { .. } = &class.kind {
         let callouts = callouts_of(alloc, blocks, class.number)?;
+        let places = places_of(alloc, blocks, class.number)?;
         out.push(ClassFloats {
             number: class.number,
             callouts,
+            places,
         })?;
     }
     Ok(())
@@ -119,7 +125,7 @@ fn lists_of(
     classes: &[Class],
 ) -> Result<Vec<ClassFloats>, AllocError>
     requires shape { AllByRecursion IsBlock blocks.now }
-    requires few { length blocks.now ≤ 2 ^ 20 }
+    requires few { item_count blocks.now ≤ 2 ^ 20 }
     ensures { IfOk result (λ lists. lists.items ≡ lists_from blocks.now classes.now) }
 {
     let mut lists = Vec::new(alloc);
@@ -214,51 +220,14 @@ fn called_above(callouts: &[Callout], block: u32) -> usize
     callouts.partition_point(|callout| callout.block < block)
 }
 
-fn is_insert_of(item: &Item, number: u8) -> bool
-    ensures { result ≡ is_some (insert_size number item.now) }
-{
-    match item {
-        Item::Insert { class, .. } => *class == number,
-        _ => false,
-    }
-}
-
-// How many inserts of a class stand among the first items.
-fn inserts_among(items: &[Item], index: usize, number: u8) -> usize
-    ensures value { result ≡ count_by (λ (item : AnItem). is_some (insert_size number item)) (take index items.now) }
-    ensures within { result ≤ length items.now }
-{
-    let front = match items.get(..index) {
-        Some(front) => front,
-        None => items,
-    };
-    front
-        .iter()
-        .filter(|item| is_insert_of(item, number))
-        .count()
-}
-
-// How many inserts of a class stand before a place in its variant.
-fn inserts_before(galley: &Galley, place: Place, number: u8) -> usize
-    ensures value { result ≡ length (sizes_of number (take place.index (items_around_of galley.now.blocks place))) }
-    ensures few { result ≤ 2 ^ 20 }
-{
-    inserts_among(
-        items_around(blocks_of(galley), place),
-        place.index as usize,
-        number,
-    )
-}
-
 // How many floats of a class are called before a place.
-fn called_in(floats: &ClassFloats, galley: &Galley, place: Place) -> u32
+fn called_in(floats: &ClassFloats, place: Place) -> u32
     requires { length floats.now.callouts ≤ 2 ^ 12 }
-    ensures { AllByRecursion IsBlock galley.now.blocks →
-        floats.now.callouts ≡ callouts_from floats.now.number 0 galley.now.blocks →
-        result ≡ length (sizes_of floats.now.number (items_before galley.now.blocks place)) }
+    ensures { (blocks : List ABlock) (number : ℕ) → AllByRecursion IsBlock blocks →
+        floats.now ≡ class_floats blocks number → result ≡ length (sizes_of number (items_before blocks place)) }
 {
     let above = called_above(floats.callouts.as_slice(), place.block);
-    let within = inserts_before(galley, place, floats.number);
+    let within = inserts_before(floats.places.as_slice(), place);
     (above + within) as u32
 }
 
@@ -313,14 +282,15 @@ impl FloatList {
         self.classes.get(slot)
     }
 
-    /// How many floats of a slot are called before a place of the galley.
-    pub fn called(&self, galley: &Galley, place: Place, slot: usize) -> u32
-        ensures { (style : StyleValue) → AreFloats galley.now.blocks style self.now →
-            result ≡ entry (called galley.now.blocks style place) slot }
+    /// How many floats of a slot are called before a place of the galley. The list keeps what it needs of the galley,
+    /// which the contract alone reads; the time is logarithmic in the number of the class's inserts in all variants.
+    pub fn called(&self, _galley: &Galley, place: Place, slot: usize) -> u32
+        ensures { (style : StyleValue) → AreFloats _galley.now.blocks style self.now →
+            result ≡ entry (called _galley.now.blocks style place) slot }
     {
         match self.floats_at(slot) {
             None => 0,
-            Some(floats) => called_in(floats, galley, place),
+            Some(floats) => called_in(floats, place),
         }
     }
 
@@ -332,9 +302,9 @@ impl FloatList {
         deal(self.classes.as_slice(), placed, counts)
     }
 
-    /// The height of an area that takes the next floats of each class by counts, behind those that are placed, in scaled
-    /// points: 0 without floats, else their sizes, a separator between two, and a gap. None exactly where a class has
-    /// not so many.
+    /// The height of an area that takes the next floats of each class by counts, behind those that are placed, in
+    /// scaled points: 0 without floats, else their sizes, a separator between two, and a gap. None exactly where a
+    /// class has not so many.
     pub fn area(&self, rule: &AreaRule, placed: &Counts, counts: &Counts) -> Option<i64>
         ensures { (blocks : List ABlock) (style : StyleValue) → AreFloats blocks style self.now →
             result ≡ height_of (floats blocks style) rule.now placed.now counts.now }

@@ -1,11 +1,13 @@
 //! The floats that wait to be placed.
-ghost use Rattle.std.specs.Prelude.{◌≡◌, ◌↔◌, ◌<◌, ◌≤◌, ◌+◌, ◌^◌, [], None, Some, OnOk, OnErr, IfOk, IfSome, IsNone, MatchResult, length, sum, take, slice_get, slice_index, drop};
+ghost use Rattle.std.specs.Prelude.{◌≡◌, ◌↔◌, ◌<◌, ◌≤◌, ◌+◌, ◌^◌, [], None, Some, OnOk, OnErr, IfOk, IfSome, IsNone};
+ghost use Rattle.std.specs.Prelude.{MatchResult, length, sum, take, slice_get, slice_index, drop};
 ghost use Rattle.std.specs.List.{AllByRecursion};
 ghost use Rattle.pg_style.specs.Classes.{is_float_class};
 ghost use Rattle.pg_style.specs.Ranges.{AreClasses};
 ghost use Rattle.pg_rules.specs.Floats.{float_numbers};
 ghost use Rattle.pg_rules.specs.Legal.{distance_table};
-ghost use Rattle.pg_floats.specs.QueueValue.{IsOf, IsQueue, none, ages_before, with_callout, with_placed, turned, late_by, late_of, late_in, table_in, float_count_in};
+ghost use Rattle.pg_floats.specs.QueueValue.{IsOf, IsQueue, none, ages_before, with_callout, with_placed, turned};
+ghost use Rattle.pg_floats.specs.QueueValue.{late_by, late_of, late_in, table_in, float_count_in};
 
 use pg_plan::{Ages, Counts};
 use pg_style::{Class, Kind, Style};
@@ -261,7 +263,8 @@ impl Queue {
     ) -> Result<Queue, AllocError>
         requires queue { IsQueue (record { placed = placed.now; waiting = waiting.now; ages = ages.now }) }
         requires of { IsOf style.now (record { placed = placed.now; waiting = waiting.now; ages = ages.now }) }
-        ensures { IfOk result (λ queue. queue ≡ record { placed = placed.now; waiting = waiting.now; ages = ages.now }) }
+        ensures { IfOk result
+            (λ queue. queue ≡ record { placed = placed.now; waiting = waiting.now; ages = ages.now }) }
     {
         let _ = style;
         Ok(Queue {
@@ -285,7 +288,8 @@ impl Queue {
     /// class and number, with that length as its age; the queue is then unchanged.
     pub fn turn_page(&mut self, style: &Style) -> Result<(), Late>
         ensures ok { OnOk result (self.new ≡ turned self.old) }
-        ensures late { MatchResult result (λ done. late_of style.now self.old ≡ None) (λ late. late_of style.now self.old ≡ Some late) }
+        ensures late { MatchResult result (λ done. late_of style.now self.old ≡ None)
+            (λ late. late_of style.now self.old ≡ Some late) }
         ensures err { OnErr result (self.new ≡ self.old) }
         ensures of { IsOf style.now self.old → IsOf style.now self.new }
     {
@@ -302,7 +306,8 @@ impl Queue {
         requires slot { slot < length self.old.waiting }
         requires of { IsOf style.now self.old }
         ensures none { IsNone result ↔ (slice_index self.old.waiting slot ≡ 0) }
-        ensures entry { IfSome result (λ demerits. demerits ≡ slice_index (distance_table style.now slot) (slice_index self.old.ages (ages_before self.old slot))) }
+        ensures entry { IfSome result (λ demerits. demerits
+            ≡ slice_index (distance_table style.now slot) (slice_index self.old.ages (ages_before self.old slot))) }
         ensures placed { IfSome result (λ demerits. self.new ≡ with_placed self.old slot) }
         ensures same { IsNone result → self.new ≡ self.old }
     {

@@ -1,11 +1,8 @@
 use Rattle.std.proofs.Common.{ap, arith, length}
 use Rattle.std.proofs.Math.Nat.{mul-le-mul}
 use Rattle.pg_floats.specs.FloatsValue.{total_of}
-use Rattle.pg_floats.proofs.Lists.{blocks-few, lists-few, total-few}
+use Rattle.pg_floats.proofs.Lists.{lists-few, total-few}
 use Rattle.pg_floats.proofs.list.listed.Goals as goal
-
-pub lists_of-requires-clause-few : goal.lists_of-requires-clause-few
-lists_of-requires-clause-few c = omega (arith, blocks-few c.args.blocks.now c.requires.shape, c.requires.few)
 
 pub limited-requires-clause-few : goal.limited-requires-clause-few
 limited-requires-clause-few c =
