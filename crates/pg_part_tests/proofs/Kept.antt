@@ -1,8 +1,7 @@
 -- A queue stays well kept behind each event.
-use Rattle.std.proofs.Common.{◌≡◌, ◌∙◌, ◌+◌, ◌-◌, ◌*◌, ◌<◌, ◌≤◌, ◌^◌, ℕ, zero, suc, List, [], ◌∷◌, length, map, get_or, refl}
+use Rattle.std.proofs.Common.{◌≡◌, ◌∙◌, ◌+◌, ◌-◌, ◌<◌, ◌≤◌, ◌^◌, ℕ, zero, suc, List, [], ◌∷◌, length, get_or, refl}
 use Rattle.std.proofs.Common.{subst, take, sym, arith, length-set}
-use Rattle.std.specs.Prelude.{◌↔◌, IfSome, IsNone, None, Option, Some, sum, slice_set, slice_index, replicate}
-use Rattle.std.specs.List.{insert, remove}
+use Rattle.std.specs.Prelude.{◌↔◌, IfSome, IsNone, None, Option, Some, sum, slice_index, replicate}
 use Rattle.std.proofs.lemmas.List.{length-map}
 use Rattle.std.proofs.lemmas.List.Sums.{sum_by-set, sum_by-cons, sum_by-take-le}
 use Rattle.std.proofs.lemmas.List.Edits.{length-insert, length-remove}

@@ -1,5 +1,5 @@
 //! Breaks, forced breaks and spent places, at each place of small galleys.
-use crate::tables::{cut, galley};
+use crate::tables::{cut, galley, place_of};
 use pg_breaks::{break_cost, is_forced, is_spent};
 use pg_list::{Galley, Place};
 use std::process::Abort;
@@ -53,16 +53,6 @@ const IN_PARAGRAPH: &str = r"0 0 0|-|
 1 0 0|0|
 2 0 0|-|
 3 0 0|0|forced spent";
-
-fn place_of(words: &str) -> Option<Place> {
-    let (block, rest) = cut(words, ' ');
-    let (variant, index) = cut(rest, ' ');
-    Some(Place {
-        block: block.parse().ok()?,
-        variant: variant.parse().ok()?,
-        index: index.parse().ok()?,
-    })
-}
 
 // Whether a break is forced, spent, both or neither, in words.
 fn end_at(galley: &Galley, place: Place) -> &'static str {

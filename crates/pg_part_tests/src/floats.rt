@@ -2,10 +2,9 @@
 ghost use Rattle.std.specs.Prelude.{◌≡◌, ◌≤◌, ◌+◌, ◌^◌, sum};
 ghost use Rattle.pg_floats.specs.QueueValue.{IsOf, IsQueue};
 
-use crate::tables::{cut, galley, points, style_with};
+use crate::tables::{cut, galley, place_of, points, style_with};
 use itoa::Buffer;
 use pg_floats::{FloatFault, FloatList, Queue, queues_stay_young};
-use pg_list::Place;
 use pg_plan::Counts;
 use pg_style::{Area, AreaRule, Class, Classes, Distance, Kind, Style};
 use std::alloc::{AllocError, Global};
@@ -108,16 +107,6 @@ fn float_style(alloc: Global, first: &str, second: &str) -> Result<Style, Fail> 
         },
     });
     Ok(style_with(alloc, classes))
-}
-
-fn place_of(words: &str) -> Option<Place> {
-    let (block, rest) = cut(words, ' ');
-    let (variant, index) = cut(rest, ' ');
-    Some(Place {
-        block: block.parse().ok()?,
-        variant: variant.parse().ok()?,
-        index: index.parse().ok()?,
-    })
 }
 
 #[test]

@@ -10,6 +10,7 @@ use std::test::Fail;
 //
 // Notes of class 200 have 4 points above the first and take 100 at most together; those of class 201 have 2 and take
 // 5 at most. Inserts of class 100 are floats.
+// So the note of 9 points leaves 45 of a column of 58.
 const NOTES: &str = r"b g b|0.0|-
 b g b i:200:9.0|13.0|-
 b i:200:9.0 g b i:200:1.0|14.0|-

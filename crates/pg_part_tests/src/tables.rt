@@ -3,7 +3,7 @@ ghost use Rattle.std.specs.Prelude.{◌≤◌, ◌≡◌, length, IfSome};
 ghost use Rattle.pg_list.specs.Ranges.{IsItemInRange, IsScaled};
 ghost use Rattle.pg_list.specs.Shapes.{IsBlock};
 
-use pg_list::{Block, Galley, Item};
+use pg_list::{Block, Galley, Item, Place};
 use pg_scaled::{Front, read_scaled};
 use pg_showbox::read_galley;
 use pg_style::{Classes, Style, plain_style};
@@ -29,6 +29,17 @@ pub fn points(word: &str) -> Option<i32>
         Front::Value { value, len } if len == word.len() => Some(value),
         _ => None,
     }
+}
+
+/// A place: its block, its variant and its index, with blanks between. None where these are no numbers.
+pub fn place_of(words: &str) -> Option<Place> {
+    let (block, rest) = cut(words, ' ');
+    let (variant, index) = cut(rest, ' ');
+    Some(Place {
+        block: block.parse().ok()?,
+        variant: variant.parse().ok()?,
+        index: index.parse().ok()?,
+    })
 }
 
 /// The galley of a text. None where it is none, or very long.

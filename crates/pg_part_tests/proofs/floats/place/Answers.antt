@@ -1,4 +1,4 @@
-use Rattle.std.proofs.Common.{◌≡◌, ◌<◌, ap, length, arith, ℕ, List}
+use Rattle.std.proofs.Common.{◌<◌, ap, length, arith, ℕ, List}
 use Rattle.pg_floats.specs.QueueValue.{IsOf, IsQueue}
 use Rattle.pg_part_tests.proofs.Kept.{behind-placing, kept-placed}
 use Rattle.pg_part_tests.proofs.floats.place.Goals as goal
@@ -25,6 +25,7 @@ returns-then-slot-as_slice-clause-of c =
       ap (λ (xs : List ℕ). length xs) c.placed.ensures,
       c.requires.kept.slots,
     ) in
+    let young = c.queues_stay_young.ensures.placed c.args.style.now c.args.queue.now c.args.slot in
     behind-placing (IsOf c.args.style.now) c.place.result c.args.queue.now c.place.new.self c.args.slot c.requires.of
-    (c.queues_stay_young.ensures.placed c.args.style.now c.args.queue.now c.args.slot c.requires.kept c.requires.of there)
+    (young c.requires.kept c.requires.of there)
     c.place.ensures.none c.place.ensures.placed c.place.ensures.same
