@@ -282,12 +282,14 @@ impl FloatList {
         self.classes.get(slot)
     }
 
-    /// How many floats of a slot are called before a place of the galley. The list keeps what it needs of the galley,
-    /// which the contract alone reads; the time is logarithmic in the number of the class's inserts in all variants.
-    pub fn called(&self, _galley: &Galley, place: Place, slot: usize) -> u32
-        ensures { (style : StyleValue) → AreFloats _galley.now.blocks style self.now →
-            result ≡ entry (called _galley.now.blocks style place) slot }
+    /// How many floats of a slot are called before a place of the galley.
+    ///
+    /// The list holds where the inserts of each class stand in all variants, and only these places are searched.
+    pub fn called(&self, galley: &Galley, place: Place, slot: usize) -> u32
+        ensures { (style : StyleValue) → AreFloats galley.now.blocks style self.now →
+            result ≡ entry (called galley.now.blocks style place) slot }
     {
+        let _ = galley;
         match self.floats_at(slot) {
             None => 0,
             Some(floats) => called_in(floats, place),
