@@ -1,0 +1,23 @@
+//! Tests of the parts that a column is judged by: breaks, sums, badness, glue, notes and floats.
+//!
+//! What they show and no clause does: that the definitions mean what TeX means, in two documents of which TeX's own
+//! page builder told all that it looked at; and that cases worked out by hand from the rules have the answers that
+//! they should.
+#![tactic(auto)]
+
+#[cfg(test)]
+mod breaks;
+#[cfg(test)]
+mod floats;
+#[cfg(test)]
+mod glue;
+#[cfg(test)]
+mod notes;
+#[cfg(test)]
+mod page_builder;
+#[cfg(test)]
+mod sample;
+#[cfg(test)]
+mod story;
+#[cfg(test)]
+mod tables;
