@@ -228,7 +228,7 @@ impl Queue {
         ensures age { IfSome result (λ age. age ≡ slice_index self.old.ages (ages_before self.old slot)) }
         ensures placed { IfSome result (λ age. self.new ≡ with_placed self.old slot) }
         ensures same { IsNone result → self.new ≡ self.old }
-        ensures waits { sum self.old.waiting ≡ length self.old.ages }
+        ensures kept { IsQueue self.old }
     {
         let count = self.waiting.as_slice()[slot];
         if count == 0 {
@@ -312,6 +312,7 @@ impl Queue {
             ≡ slice_index (distance_table style.now slot) (slice_index self.old.ages (ages_before self.old slot))) }
         ensures placed { IfSome result (λ demerits. self.new ≡ with_placed self.old slot) }
         ensures same { IsNone result → self.new ≡ self.old }
+        ensures of { IsOf style.now self.new }
     {
         match self.take_first(slot) {
             None => None,
