@@ -1,6 +1,6 @@
 //! The floats of small galleys, the heights of areas that take them, and queues in which they wait.
 ghost use Rattle.std.specs.Prelude.{◌≡◌, ◌≤◌, ◌+◌, ◌^◌, sum};
-ghost use Rattle.pg_floats.specs.QueueValue.{IsOf, IsQueue};
+ghost use Rattle.pg_floats.specs.QueueValue.{IsOf};
 
 use crate::tables::{cut, galley, place_of, points, style_with};
 use itoa::Buffer;
@@ -207,19 +207,15 @@ fn sum_of(counts: &[u16]) -> usize
 
 // How many floats are placed or wait.
 fn count_of(queue: &Queue) -> usize
-    requires { IsQueue queue.now }
     ensures { result ≡ sum queue.now.placed + sum queue.now.waiting }
 {
     sum_of(queue.placed().as_slice()) + queue.ages().as_slice().len()
 }
 
 // A float of a class is called, if the queue has such a class and room.
-#[tactic(auto, using(crate::proofs::Kept::kept_rules))]
 fn call(queue: &mut Queue, style: &Style, slot: usize) -> Result<(), AllocError>
-    requires kept { IsQueue queue.old }
-    requires of { IsOf style.now queue.old }
-    ensures kept { IsQueue queue.new }
-    ensures of { IsOf style.now queue.new }
+    requires { IsOf style.now queue.old }
+    ensures { IsOf style.now queue.new }
 {
     style.stays_in_range();
     queues_stay_young();
@@ -230,14 +226,10 @@ fn call(queue: &mut Queue, style: &Style, slot: usize) -> Result<(), AllocError>
 }
 
 // What the first float of a class that waits costs, which is placed. None where none waits, or there is no such class.
-#[tactic(auto, using(crate::proofs::Kept::kept_rules))]
 fn place(queue: &mut Queue, style: &Style, slot: usize) -> Option<u32>
-    requires kept { IsQueue queue.old }
-    requires of { IsOf style.now queue.old }
-    ensures kept { IsQueue queue.new }
-    ensures of { IsOf style.now queue.new }
+    requires { IsOf style.now queue.old }
+    ensures { IsOf style.now queue.new }
 {
-    queues_stay_young();
     if slot < queue.placed().as_slice().len() {
         queue.place(style, slot)
     } else {
@@ -262,12 +254,9 @@ fn say_ages(queue: &Queue, out: &mut Vec<u8>) -> Result<(), AllocError> {
 }
 
 // The end of a page, with what is said of it.
-#[tactic(auto, using(crate::proofs::Kept::kept_rules))]
 fn turn(queue: &mut Queue, style: &Style, out: &mut Vec<u8>) -> Result<(), AllocError>
-    requires kept { IsQueue queue.old }
-    requires of { IsOf style.now queue.old }
-    ensures kept { IsQueue queue.new }
-    ensures of { IsOf style.now queue.new }
+    requires { IsOf style.now queue.old }
+    ensures { IsOf style.now queue.new }
 {
     match queue.turn_page(style) {
         Ok(()) => say_ages(queue, out),
@@ -287,10 +276,8 @@ fn answer(
     event: &str,
     out: &mut Vec<u8>,
 ) -> Result<(), AllocError>
-    requires kept { IsQueue queue.old }
-    requires of { IsOf style.now queue.old }
-    ensures kept { IsQueue queue.new }
-    ensures of { IsOf style.now queue.new }
+    requires { IsOf style.now queue.old }
+    ensures { IsOf style.now queue.new }
 {
     let (kind, class) = cut(event, ':');
     let slot = if class == "1" { 1 } else { 0 };
@@ -318,8 +305,7 @@ fn follow(
     style: &Style,
     course: &str,
 ) -> Result<(), Fail>
-    requires kept { IsQueue queue.old }
-    requires of { IsOf style.now queue.old }
+    requires { IsOf style.now queue.old }
 {
     for step in course.split(' ') {
         let (event, want) = cut(step, '=');
