@@ -1,8 +1,8 @@
 //! The floats of small galleys, the heights of areas that take them, and queues in which they wait.
-ghost use Rattle.std.specs.Prelude.{◌≡◌, ◌≤◌, ◌+◌, ◌^◌, sum};
-ghost use Rattle.pg_floats.specs.QueueValue.{IsOf};
+ghost use Rattle.std.specs.Prelude.{◌≡◌, ◌≤◌, ◌+◌, ◌^◌, IfOk, sum};
+ghost use Rattle.pg_floats.specs.QueueValue.{IsOf, none};
 
-use crate::tables::{cut, galley, place_of, points, style_with};
+use crate::tables::{cut, galley, place_of, points, repeated, style_with};
 use itoa::Buffer;
 use pg_floats::{FloatFault, FloatList, Queue, queues_stay_young};
 use pg_plan::Counts;
@@ -194,6 +194,20 @@ fn inserts_of_strange_classes(rt: HostRuntime) -> Result<(), Fail> {
     Ok(())
 }
 
+#[test]
+fn one_float_more_than_the_limit(rt: HostRuntime) -> Result<(), Fail> {
+    let alloc = rt.alloc();
+    let style = float_style(alloc, "0", "0")?;
+    for (count, want) in [
+        (4096, None),
+        (4097, Some(FloatFault::Limit { count: 4097 })),
+    ] {
+        let galley = repeated(alloc, "i:101:1.0", count)?;
+        assert_eq!(rt; FloatList::of(alloc, &galley, &style).err(), want);
+    }
+    Ok(())
+}
+
 fn sum_of(counts: &[u16]) -> usize
     requires { sum counts.now ≤ 2 ^ 12 }
     ensures { result ≡ sum counts.now }
@@ -316,6 +330,16 @@ fn follow(
     Ok(())
 }
 
+// A queue that goes on from one in which nothing is placed and nothing waits.
+fn begun_again(queue: &Queue, style: &Style) -> Result<Queue, AllocError>
+    requires fresh { queue.now ≡ none style.now }
+    requires of { IsOf style.now queue.now }
+    ensures { IfOk result (λ queue. IsOf style.now queue) }
+{
+    let zeros = queue.placed();
+    Queue::resume(style, zeros, zeros, queue.ages())
+}
+
 #[test]
 fn queues_and_their_courses(rt: HostRuntime) -> Result<(), Fail> {
     let alloc = rt.alloc();
@@ -324,7 +348,9 @@ fn queues_and_their_courses(rt: HostRuntime) -> Result<(), Fail> {
         let (second, course) = cut(rest, '|');
         let style = float_style(alloc, first, second)?;
         let mut queue = Queue::start(alloc, &style);
+        let mut again = begun_again(&queue, &style)?;
         follow(&rt, alloc, &mut queue, &style, course)?;
+        follow(&rt, alloc, &mut again, &style, course)?;
     }
     Ok(())
 }

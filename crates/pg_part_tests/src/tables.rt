@@ -11,7 +11,7 @@ use std::alloc::{AllocError, Global};
 use std::test::Fail;
 
 // The most bytes of a galley's text.
-const ROOM: usize = 65536;
+const ROOM: usize = 524288;
 
 /// What stands in front of a mark and what stands behind it; the whole row and nothing where it has no such mark.
 pub fn cut<'a>(row: &'a str, mark: char) -> (&'a str, &'a str) {
@@ -90,6 +90,15 @@ fn push_line(text: &mut Vec<u8>, word: &str) -> Result<(), AllocError> {
 pub fn galley(alloc: Global, words: &str) -> Result<Galley, Fail> {
     let mut text = b"\\vbox(0.0+0.0)x345.0\n".to_vec(alloc)?;
     for word in words.split(' ') {
+        push_line(&mut text, word)?;
+    }
+    Ok(read_text(alloc, &text).ok_or("no galley")?)
+}
+
+/// A galley of one word, so many times.
+pub fn repeated(alloc: Global, word: &str, count: u32) -> Result<Galley, Fail> {
+    let mut text = b"\\vbox(0.0+0.0)x345.0\n".to_vec(alloc)?;
+    for _ in 0..count {
         push_line(&mut text, word)?;
     }
     Ok(read_text(alloc, &text).ok_or("no galley")?)
