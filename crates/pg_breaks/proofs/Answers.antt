@@ -19,35 +19,38 @@ use Rattle.pg_flat.specs.Break.{has_at, break_penalty, item_break, is_glue, is_f
 use Rattle.pg_flat.specs.Flat.{FlatItem, flat, flat_items, flat_items_at, blocks_at, steps_to, is_same_place, end_of}
 use Rattle.pg_breaks.specs.Near.{begins_with_glue, glue_first, near_penalty, place_penalty, place_forced, place_spent, solid_before, glue_after, text_after, items_after, blocks_after}
 use Rattle.pg_breaks.specs.Read.{AreNamed, items_at}
-use Rattle.pg_breaks.proofs.Listed.{listed, ArePicks, are-picks, shown, blocks-shown}
-use Rattle.pg_breaks.proofs.Lists.{follows, follows-none, get-lt, same-place}
-use Rattle.pg_breaks.proofs.Walk.{Seen, inside, front, around, picked-shape, seen-from}
-use Rattle.pg_breaks.proofs.Column.{SeenAt, column-seen}
-use Rattle.pg_breaks.proofs.Kept.{any-from, le-not}
+use Rattle.pg_breaks.proofs.Listed.{listed, ArePicks, are_picks, shown, blocks_shown}
+use Rattle.pg_breaks.proofs.Lists.{follows, follows_none, get_lt}
+use Rattle.pg_breaks.proofs.Walk.{Seen, inside, front, around, picked_shape, seen_from}
+use Rattle.pg_breaks.proofs.Column.{SeenAt, column_seen}
+use Rattle.pg_breaks.proofs.Kept.{any_from, le_not}
+use Rattle.std.proofs.Math.Seq.{drop-length}
+use Rattle.pg_lemmas.proofs.Numbers.{eq_refl}
+use Rattle.pg_flat.proofs.Places.{same_place}
 
-box-plain : (items : List Item) (list : List Item) → BeginsWithBox items →
+box_plain : (items : List Item) (list : List Item) → BeginsWithBox items →
     (has_at is_glue (items ++ list) 0 ≡ false) × (list_any is_box (items ++ list) ≡ true)
     × (list_all is_discardable (items ++ list) ≡ false)
-box-plain [] list box = elim box [ ]
-box-plain (BoxItem h d body ∷ items) list box = (refl, refl, refl)
-box-plain (Rule h d body ∷ items) list box = (refl, refl, refl)
-box-plain (Glue w s o k body ∷ items) list box = absurd (cc)
-box-plain (Kern w body ∷ items) list box = absurd (cc)
-box-plain (Penalty v body ∷ items) list box = absurd (cc)
-box-plain (Insert c z body ∷ items) list box = absurd (cc)
-box-plain (Carry body ∷ items) list box = absurd (cc)
+box_plain [] list box = elim box [ ]
+box_plain (BoxItem h d body ∷ items) list box = (refl, refl, refl)
+box_plain (Rule h d body ∷ items) list box = (refl, refl, refl)
+box_plain (Glue w s o k body ∷ items) list box = absurd (cc)
+box_plain (Kern w body ∷ items) list box = absurd (cc)
+box_plain (Penalty v body ∷ items) list box = absurd (cc)
+box_plain (Insert c z body ∷ items) list box = absurd (cc)
+box_plain (Carry body ∷ items) list box = absurd (cc)
 
-first-box : (variants : List Variant) (v : ℕ) → IsChoice variants → v < length variants →
+first_box : (variants : List Variant) (v : ℕ) → IsChoice variants → v < length variants →
     BeginsWithBox (picked_items (Choice variants) v)
-first-box variants v choice h = (picked-shape variants v choice.shape.each h).0
+first_box variants v choice h = (picked_shape variants v choice.shape.each h).0
 
-some-variant : (variants : List Variant) → IsChoice variants → 0 < length variants
-some-variant variants choice = omega (arith, choice.shape.some)
+some_variant : (variants : List Variant) → IsChoice variants → 0 < length variants
+some_variant variants choice = omega (arith, choice.shape.some)
 
 -- a choice holds a box
-choice-text : (variants : List Variant) → IsChoice variants → has_box (Choice variants) ≡ true
-choice-text [] choice = absurd (omega (arith, choice.shape.some))
-choice-text (v ∷ variants) choice = begins v.items choice.shape.each.0.begins
+choice_text : (variants : List Variant) → IsChoice variants → has_box (Choice variants) ≡ true
+choice_text [] choice = absurd (omega (arith, choice.shape.some))
+choice_text (v ∷ variants) choice = begins v.items choice.shape.each.0.begins
   where
     begins : (items : List Item) → BeginsWithBox items →
         (list_any is_box items || list_any (λ (w : Variant). list_any is_box w.items) variants) ≡ true
@@ -62,156 +65,156 @@ choice-text (v ∷ variants) choice = begins v.items choice.shape.each.0.begins
 
 -- ---- the items of whole blocks, block by block
 
-blocks-glue : (blocks : List Block) (picks : List ℕ) → AllByRecursion IsBlock blocks → ArePicks blocks picks →
+blocks_glue : (blocks : List Block) (picks : List ℕ) → AllByRecursion IsBlock blocks → ArePicks blocks picks →
     has_at is_glue (listed blocks picks) 0 ≡ begins_with_glue blocks
-blocks-glue [] picks all ok = refl
-blocks-glue (One item ∷ blocks) picks all ok = refl
-blocks-glue (Choice variants ∷ blocks) [] all ok =
-    (box-plain _ (listed blocks []) (first-box variants 0 all.0 (some-variant variants all.0))).0
-blocks-glue (Choice variants ∷ blocks) (pick ∷ picks) all ok =
-    (box-plain _ (listed blocks picks) (first-box variants pick all.0 ok.0)).0
+blocks_glue [] picks all ok = refl
+blocks_glue (One item ∷ blocks) picks all ok = refl
+blocks_glue (Choice variants ∷ blocks) [] all ok =
+    (box_plain _ (listed blocks []) (first_box variants 0 all.0 (some_variant variants all.0))).0
+blocks_glue (Choice variants ∷ blocks) (pick ∷ picks) all ok =
+    (box_plain _ (listed blocks picks) (first_box variants pick all.0 ok.0)).0
 
-blocks-text : (blocks : List Block) (picks : List ℕ) → AllByRecursion IsBlock blocks → ArePicks blocks picks →
+blocks_text : (blocks : List Block) (picks : List ℕ) → AllByRecursion IsBlock blocks → ArePicks blocks picks →
     list_any is_box (listed blocks picks) ≡ list_any has_box blocks
-blocks-text [] picks all ok = refl
-blocks-text (One item ∷ blocks) picks all ok = ap (λ b. is_box item || b) (blocks-text blocks picks all.1 ok)
-blocks-text (Choice variants ∷ blocks) [] all ok =
-    (box-plain _ (listed blocks []) (first-box variants 0 all.0 (some-variant variants all.0))).1
-    ∙ sym (ap (λ b. b || list_any has_box blocks) (choice-text variants all.0))
-blocks-text (Choice variants ∷ blocks) (pick ∷ picks) all ok =
-    (box-plain _ (listed blocks picks) (first-box variants pick all.0 ok.0)).1
-    ∙ sym (ap (λ b. b || list_any has_box blocks) (choice-text variants all.0))
+blocks_text [] picks all ok = refl
+blocks_text (One item ∷ blocks) picks all ok = ap (λ b. is_box item || b) (blocks_text blocks picks all.1 ok)
+blocks_text (Choice variants ∷ blocks) [] all ok =
+    (box_plain _ (listed blocks []) (first_box variants 0 all.0 (some_variant variants all.0))).1
+    ∙ sym (ap (λ b. b || list_any has_box blocks) (choice_text variants all.0))
+blocks_text (Choice variants ∷ blocks) (pick ∷ picks) all ok =
+    (box_plain _ (listed blocks picks) (first_box variants pick all.0 ok.0)).1
+    ∙ sym (ap (λ b. b || list_any has_box blocks) (choice_text variants all.0))
 
-not-or : (a b : Bool) → not (a || b) ≡ (not a && not b)
-not-or true b = refl
-not-or false b = refl
+not_or : (a b : Bool) → not (a || b) ≡ (not a && not b)
+not_or true b = refl
+not_or false b = refl
 
-not-not : (a : Bool) → not (not a) ≡ a
-not-not true = refl
-not-not false = refl
+not_not : (a : Bool) → not (not a) ≡ a
+not_not true = refl
+not_not false = refl
 
-blocks-weak : (blocks : List Block) (picks : List ℕ) → AllByRecursion IsBlock blocks → ArePicks blocks picks →
+blocks_weak : (blocks : List Block) (picks : List ℕ) → AllByRecursion IsBlock blocks → ArePicks blocks picks →
     list_all is_discardable (listed blocks picks) ≡ not (list_any is_solid_block blocks)
-blocks-weak [] picks all ok = refl
-blocks-weak (One item ∷ blocks) picks all ok =
-    ap (λ b. is_discardable item && b) (blocks-weak blocks picks all.1 ok)
-    ∙ (ap (λ a. a && not (list_any is_solid_block blocks)) (sym (not-not (is_discardable item)))
-    ∙ sym (not-or (not (is_discardable item)) (list_any is_solid_block blocks)))
-blocks-weak (Choice variants ∷ blocks) [] all ok =
-    (box-plain _ (listed blocks []) (first-box variants 0 all.0 (some-variant variants all.0))).2
-blocks-weak (Choice variants ∷ blocks) (pick ∷ picks) all ok =
-    (box-plain _ (listed blocks picks) (first-box variants pick all.0 ok.0)).2
+blocks_weak [] picks all ok = refl
+blocks_weak (One item ∷ blocks) picks all ok =
+    ap (λ b. is_discardable item && b) (blocks_weak blocks picks all.1 ok)
+    ∙ (ap (λ a. a && not (list_any is_solid_block blocks)) (sym (not_not (is_discardable item)))
+    ∙ sym (not_or (not (is_discardable item)) (list_any is_solid_block blocks)))
+blocks_weak (Choice variants ∷ blocks) [] all ok =
+    (box_plain _ (listed blocks []) (first_box variants 0 all.0 (some_variant variants all.0))).2
+blocks_weak (Choice variants ∷ blocks) (pick ∷ picks) all ok =
+    (box_plain _ (listed blocks picks) (first_box variants pick all.0 ok.0)).2
 
-glue-listed : (items : List Item) (blocks : List Block) (picks : List ℕ) → AllByRecursion IsBlock blocks →
+glue_listed : (items : List Item) (blocks : List Block) (picks : List ℕ) → AllByRecursion IsBlock blocks →
     ArePicks blocks picks → has_at is_glue (items ++ listed blocks picks) 0 ≡ glue_first items blocks
-glue-listed [] blocks picks all ok = blocks-glue blocks picks all ok
-glue-listed (item ∷ items) blocks picks all ok = refl
+glue_listed [] blocks picks all ok = blocks_glue blocks picks all ok
+glue_listed (item ∷ items) blocks picks all ok = refl
 
-has-drop : (p : Item → Bool) (list : List Item) (k : ℕ) → has_at p list k ≡ has_at p (drop k list) 0
-has-drop p list zero = refl
-has-drop p [] (suc k) = refl
-has-drop p (x ∷ list) (suc k) = has-drop p list k
+has_drop : (p : Item → Bool) (list : List Item) (k : ℕ) → has_at p list k ≡ has_at p (drop k list) 0
+has_drop p list zero = refl
+has_drop p [] (suc k) = refl
+has_drop p (x ∷ list) (suc k) = has_drop p list k
 
-not-end : (list : List Item) (k : ℕ) → k < length list → (k == length list) ≡ false
-not-end list k h = grind (arith, nat_tests)
+not_end : (list : List Item) (k : ℕ) → k < length list → (k == length list) ≡ false
+not_end list k h = grind (arith, nat_tests)
 
 -- ---- the three answers
 
-item-near : (list : List Item) (k : ℕ) (item : Item) (solid glue : Bool) → follows_solid list k ≡ solid →
+item_near : (list : List Item) (k : ℕ) (item : Item) (solid glue : Bool) → follows_solid list k ≡ solid →
     has_at is_glue list (k + 1) ≡ glue → item_break list k item ≡ near_penalty (Some item) solid glue
-item-near list k (BoxItem h d body) solid glue a b = refl
-item-near list k (Rule h d body) solid glue a b = refl
-item-near list k (Glue w s o sh body) solid glue a b = rw a refl
-item-near list k (Kern w body) solid glue a b = rw b refl
-item-near list k (Penalty v body) solid glue a b = refl
-item-near list k (Insert c z body) solid glue a b = refl
-item-near list k (Carry body) solid glue a b = refl
+item_near list k (BoxItem h d body) solid glue a b = refl
+item_near list k (Rule h d body) solid glue a b = refl
+item_near list k (Glue w s o sh body) solid glue a b = rw a refl
+item_near list k (Kern w body) solid glue a b = rw b refl
+item_near list k (Penalty v body) solid glue a b = refl
+item_near list k (Insert c z body) solid glue a b = refl
+item_near list k (Carry body) solid glue a b = refl
 
-box-near : (item : Item) (list : List Item) (k : ℕ) (solid glue : Bool) → is_box item ≡ true →
+box_near : (item : Item) (list : List Item) (k : ℕ) (solid glue : Bool) → is_box item ≡ true →
     (item_break list k item ≡ None) × (near_penalty (Some item) solid glue ≡ None) × (is_forcing item ≡ false)
     × (is_discardable item ≡ false)
-box-near (BoxItem h d body) list k solid glue e = (refl, refl, refl, refl)
-box-near (Rule h d body) list k solid glue e = (refl, refl, refl, refl)
-box-near (Glue w s o sh body) list k solid glue e = absurd (cc)
-box-near (Kern w body) list k solid glue e = absurd (cc)
-box-near (Penalty v body) list k solid glue e = absurd (cc)
-box-near (Insert c z body) list k solid glue e = absurd (cc)
-box-near (Carry body) list k solid glue e = absurd (cc)
+box_near (BoxItem h d body) list k solid glue e = (refl, refl, refl, refl)
+box_near (Rule h d body) list k solid glue e = (refl, refl, refl, refl)
+box_near (Glue w s o sh body) list k solid glue e = absurd (cc)
+box_near (Kern w body) list k solid glue e = absurd (cc)
+box_near (Penalty v body) list k solid glue e = absurd (cc)
+box_near (Insert c z body) list k solid glue e = absurd (cc)
+box_near (Carry body) list k solid glue e = absurd (cc)
 
-penalty-item : (list : List Item) (k : ℕ) (item : Item) → slice_get list k ≡ Some item →
+penalty_item : (list : List Item) (k : ℕ) (item : Item) → slice_get list k ≡ Some item →
     break_penalty list k ≡ item_break list k item
-penalty-item list k item e = rw (not-end list k (get-lt list k item e), e) refl
+penalty_item list k item e = rw (not_end list k (get_lt list k item e), e) refl
 
 -- what stands behind the offset stands behind the place
-after-is : (list : List Item) (k : ℕ) (blocks : List Block) (at : Place) (picks : List ℕ) →
+after_is : (list : List Item) (k : ℕ) (blocks : List Block) (at : Place) (picks : List ℕ) →
     drop (suc k) list ≡ drop (suc at.index) (around blocks at.block at.variant)
     ++ listed (drop (suc at.block) blocks) picks →
     drop (k + 1) list ≡ items_after blocks at ++ listed (blocks_after blocks at) picks
-after-is list k blocks at picks d = rw (add-one k, add-one at.index, add-one at.block) d
+after_is list k blocks at picks d = rw (add-one k, add-one at.index, add-one at.block) d
 
-blocks-all : (blocks : List Block) (b : ℕ) → AllByRecursion IsBlock (drop (suc b) blocks) →
+blocks_all : (blocks : List Block) (b : ℕ) → AllByRecursion IsBlock (drop (suc b) blocks) →
     AllByRecursion IsBlock (drop (b + 1) blocks)
-blocks-all blocks b all = rw (add-one b) all
+blocks_all blocks b all = rw (add-one b) all
 
-blocks-ok : (blocks : List Block) (b : ℕ) (picks : List ℕ) → ArePicks (drop (suc b) blocks) picks →
+blocks_ok : (blocks : List Block) (b : ℕ) (picks : List ℕ) → ArePicks (drop (suc b) blocks) picks →
     ArePicks (drop (b + 1) blocks) picks
-blocks-ok blocks b picks ok = rw (add-one b) ok
+blocks_ok blocks b picks ok = rw (add-one b) ok
 
-pub penalty-seen : (s : Bool) (list : List Item) (k : ℕ) (blocks : List Block) (at : Place) →
+pub penalty_seen : (s : Bool) (list : List Item) (k : ℕ) (blocks : List Block) (at : Place) →
     follows s list k ≡ follows_solid list k → Seen s false list k blocks at.block at.variant at.index →
     break_penalty list k ≡ place_penalty blocks at
-penalty-seen s list k blocks at same seen = elim seen [
+penalty_seen s list k blocks at same seen = elim seen [
   | inside item picks a b c d all ok ↦
       let glue : has_at is_glue list (k + 1) ≡ glue_after blocks at =
-      has-drop is_glue list (k + 1)
-      ∙ ap (λ (xs : List Item). has_at is_glue xs 0) (after-is list k blocks at picks d)
-      ∙ glue-listed (items_after blocks at) (blocks_after blocks at) picks (blocks-all blocks at.block all)
-      (blocks-ok blocks at.block picks ok) in
-      penalty-item list k item a
-      ∙ item-near list k item (solid_before blocks at) (glue_after blocks at) (sym same ∙ c) glue
+      has_drop is_glue list (k + 1)
+      ∙ ap (λ (xs : List Item). has_at is_glue xs 0) (after_is list k blocks at picks d)
+      ∙ glue_listed (items_after blocks at) (blocks_after blocks at) picks (blocks_all blocks at.block all)
+      (blocks_ok blocks at.block picks ok) in
+      penalty_item list k item a
+      ∙ item_near list k item (solid_before blocks at) (glue_after blocks at) (sym same ∙ c) glue
       ∙ ap (λ (o : Option Item). near_penalty o (solid_before blocks at) (glue_after blocks at)) (sym b)
   | front item other a box b box' ↦
-      penalty-item list k item a ∙ (box-near item list k true true box).0
-      ∙ sym (box-near other list k (solid_before blocks at) (glue_after blocks at) box').1
+      penalty_item list k item a ∙ (box_near item list k true true box).0
+      ∙ sym (box_near other list k (solid_before blocks at) (glue_after blocks at) box').1
       ∙ ap (λ (o : Option Item). near_penalty o (solid_before blocks at) (glue_after blocks at)) (sym b)
 ]
 
-forced-item : (list : List Item) (k : ℕ) (item : Item) → slice_get list k ≡ Some item →
+forced_item : (list : List Item) (k : ℕ) (item : Item) → slice_get list k ≡ Some item →
     is_forced list k ≡ (is_forcing item && list_any is_box (drop (k + 1) list))
-forced-item list k item e = rw (not-end list k (get-lt list k item e), e) refl
+forced_item list k item e = rw (not_end list k (get_lt list k item e), e) refl
 
-or-turned : (a b : Bool) → (a || b) ≡ (b || a)
-or-turned true true = refl
-or-turned true false = refl
-or-turned false true = refl
-or-turned false false = refl
+or_turned : (a b : Bool) → (a || b) ≡ (b || a)
+or_turned true true = refl
+or_turned true false = refl
+or_turned false true = refl
+or_turned false false = refl
 
-pub forced-seen : (s : Bool) (list : List Item) (k : ℕ) (blocks : List Block) (at : Place) →
+pub forced_seen : (s : Bool) (list : List Item) (k : ℕ) (blocks : List Block) (at : Place) →
     Seen s false list k blocks at.block at.variant at.index → is_forced list k ≡ place_forced blocks at
-forced-seen s list k blocks at seen = elim seen [
+forced_seen s list k blocks at seen = elim seen [
   | inside item picks a b c d all ok ↦
       let text : list_any is_box (drop (k + 1) list) ≡ text_after blocks at =
-      ap (list_any is_box) (after-is list k blocks at picks d)
+      ap (list_any is_box) (after_is list k blocks at picks d)
       ∙ (list_any-append is_box (items_after blocks at) (listed (blocks_after blocks at) picks)
-      ∙ (or-turned (list_any is_box (items_after blocks at))
+      ∙ (or_turned (list_any is_box (items_after blocks at))
       (list_any is_box (listed (blocks_after blocks at) picks))
       ∙ ap (λ b. b || list_any is_box (items_after blocks at))
-      (blocks-text (blocks_after blocks at) picks (blocks-all blocks at.block all)
-      (blocks-ok blocks at.block picks ok) ∙ any-from has_box blocks (at.block + 1)))) in
-      forced-item list k item a ∙ ap (λ b. is_forcing item && b) text
+      (blocks_text (blocks_after blocks at) picks (blocks_all blocks at.block all)
+      (blocks_ok blocks at.block picks ok) ∙ any_from has_box blocks (at.block + 1)))) in
+      forced_item list k item a ∙ ap (λ b. is_forcing item && b) text
       ∙ ap (λ (o : Option Item). option_map_or (λ item. is_forcing item && text_after blocks at) o true) (sym b)
   | front item other a box b box' ↦
-      forced-item list k item a
-      ∙ ap (λ f. f && list_any is_box (drop (k + 1) list)) (box-near item list k true true box).2
-      ∙ sym (ap (λ f. f && text_after blocks at) (box-near other list k true true box').2)
+      forced_item list k item a
+      ∙ ap (λ f. f && list_any is_box (drop (k + 1) list)) (box_near item list k true true box).2
+      ∙ sym (ap (λ f. f && text_after blocks at) (box_near other list k true true box').2)
       ∙ ap (λ (o : Option Item). option_map_or (λ item. is_forcing item && text_after blocks at) o true) (sym b)
 ]
 
-drop-item : {X : Type 0} (list : List X) (k : ℕ) (item : X) → slice_get list k ≡ Some item →
+drop_item : {X : Type 0} (list : List X) (k : ℕ) (item : X) → slice_get list k ≡ Some item →
     drop k list ≡ item ∷ drop (suc k) list
-drop-item [] k item e = absurd (cc)
-drop-item {X} (x ∷ list) zero item e = let same : x ≡ item = cc in ap (λ (y : X). y ∷ list) same
-drop-item (x ∷ list) (suc k) item e = drop-item list k item e
+drop_item [] k item e = absurd (cc)
+drop_item {X} (x ∷ list) zero item e = let same : x ≡ item = cc in ap (λ (y : X). y ∷ list) same
+drop_item (x ∷ list) (suc k) item e = drop_item list k item e
 
 -- ---- spent: the rest of a solid block is not
 
@@ -221,18 +224,18 @@ record IsAt (blocks : List Block) (j v i : ℕ) (item : Item) : Type 0 where
   within : slice_get (picked_items block v) i ≡ Some item
   shape : IsBlock block
 
-block-at : (blocks : List Block) (j v i : ℕ) (item : Item) → AllByRecursion IsBlock blocks →
+block_at : (blocks : List Block) (j v i : ℕ) (item : Item) → AllByRecursion IsBlock blocks →
     slice_get (around blocks j v) i ≡ Some item → IsAt blocks j v i item
-block-at [] j v i item all e = absurd (cc)
-block-at (block ∷ blocks) zero v i item all e = record { block = block; there = refl; within = e; shape = all.0 }
-block-at (block ∷ blocks) (suc j) v i item all e =
-    let r = block-at blocks j v i item all.1 e in
+block_at [] j v i item all e = absurd (cc)
+block_at (block ∷ blocks) zero v i item all e = record { block = block; there = refl; within = e; shape = all.0 }
+block_at (block ∷ blocks) (suc j) v i item all e =
+    let r = block_at blocks j v i item all.1 e in
     record { block = r.block; there = r.there; within = r.within; shape = r.shape }
 
-weak-rest : (items : List Item) (i : ℕ) → i < length items → EndsSolid items →
+weak_rest : (items : List Item) (i : ℕ) → i < length items → EndsSolid items →
     list_all is_discardable (drop i items) ≡ false
-weak-rest [] i h solid = absurd (omega arith)
-weak-rest (x ∷ []) zero h solid = last x solid
+weak_rest [] i h solid = absurd (omega arith)
+weak_rest (x ∷ []) zero h solid = last x solid
   where
     last : (x : Item) → IsTrue (not (is_discardable x)) → (is_discardable x && true) ≡ false
     last (BoxItem h d body) s = refl
@@ -242,10 +245,10 @@ weak-rest (x ∷ []) zero h solid = last x solid
     last (Penalty v body) s = absurd (cc)
     last (Insert c z body) s = refl
     last (Carry body) s = refl
-weak-rest (x ∷ []) (suc i) h solid = absurd (omega arith)
-weak-rest (x ∷ y ∷ ys) zero h solid =
+weak_rest (x ∷ []) (suc i) h solid = absurd (omega arith)
+weak_rest (x ∷ y ∷ ys) zero h solid =
     let rest : list_all is_discardable (y ∷ ys) ≡ false =
-    weak-rest (y ∷ ys) 0 (omega arith) (behind x y ys solid) in
+    weak_rest (y ∷ ys) 0 (omega arith) (behind x y ys solid) in
     ap (λ b. is_discardable x && b) rest ∙ and-false (is_discardable x)
   where
     and-false : (a : Bool) → (a && false) ≡ false
@@ -257,7 +260,7 @@ weak-rest (x ∷ y ∷ ys) zero h solid =
         let P : Option Item → Type 0 = λ o. IsSomeAnd o (λ item. IsTrue (not (is_discardable item))) in
         let e : length (x ∷ y ∷ ys) - 1 ≡ suc (length (y ∷ ys) - 1) = omega arith in
         subst P (ap (slice_get (x ∷ y ∷ ys)) e) solid
-weak-rest (x ∷ y ∷ ys) (suc i) h solid = weak-rest (y ∷ ys) i (omega (arith, h)) (behind x y ys solid)
+weak_rest (x ∷ y ∷ ys) (suc i) h solid = weak_rest (y ∷ ys) i (omega (arith, h)) (behind x y ys solid)
   where
     behind : (x y : Item) (ys : List Item) → EndsSolid (x ∷ y ∷ ys) → EndsSolid (y ∷ ys)
     behind x y ys solid =
@@ -265,88 +268,88 @@ weak-rest (x ∷ y ∷ ys) (suc i) h solid = weak-rest (y ∷ ys) i (omega (arit
         let e : length (x ∷ y ∷ ys) - 1 ≡ suc (length (y ∷ ys) - 1) = omega arith in
         subst P (ap (slice_get (x ∷ y ∷ ys)) e) solid
 
-named-variant : (variants : List Variant) (v i : ℕ) (item : Item) →
+named_variant : (variants : List Variant) (v i : ℕ) (item : Item) →
     slice_get (picked_items (Choice variants) v) i ≡ Some item → v < length variants
-named-variant [] v i item e = absurd (cc)
-named-variant (w ∷ ws) zero i item e = omega arith
-named-variant (w ∷ ws) (suc v) i item e = let r = named-variant ws v i item e in omega (arith, r)
+named_variant [] v i item e = absurd (cc)
+named_variant (w ∷ ws) zero i item e = omega arith
+named_variant (w ∷ ws) (suc v) i item e = let r = named_variant ws v i item e in omega (arith, r)
 
 -- the rest of a variant is all discardable just where its block is
-rest-weak : (block : Block) (v i : ℕ) (item : Item) → IsBlock block →
+rest_weak : (block : Block) (v i : ℕ) (item : Item) → IsBlock block →
     slice_get (picked_items block v) i ≡ Some item →
     list_all is_discardable (drop i (picked_items block v)) ≡ not (is_solid_block block)
-rest-weak (One x) v i item shape e = one (v == 0) i e
+rest_weak (One x) v i item shape e = one (v == 0) i e
   where
     one : (t : Bool) (i : ℕ) → slice_get (if t then x ∷ [] else []) i ≡ Some item →
         list_all is_discardable (drop i (if t then x ∷ [] else [])) ≡ not (not (is_discardable x))
-    one true zero e = and-true (is_discardable x)
+    one true zero e = and_true (is_discardable x)
       where
-        and-true : (a : Bool) → (a && true) ≡ not (not a)
-        and-true true = refl
-        and-true false = refl
+        and_true : (a : Bool) → (a && true) ≡ not (not a)
+        and_true true = refl
+        and_true false = refl
     one true (suc i) e = absurd (cc)
     one false i e = absurd (cc)
-rest-weak (Choice variants) v i item shape e =
-    weak-rest (picked_items (Choice variants) v) i (get-lt (picked_items (Choice variants) v) i item e)
-    (picked-shape variants v shape.shape.each (named-variant variants v i item e)).1
+rest_weak (Choice variants) v i item shape e =
+    weak_rest (picked_items (Choice variants) v) i (get_lt (picked_items (Choice variants) v) i item e)
+    (picked_shape variants v shape.shape.each (named_variant variants v i item e)).1
 
-box-solid : (block : Block) (v i : ℕ) (item : Item) → slice_get (picked_items block v) i ≡ Some item →
+box_solid : (block : Block) (v i : ℕ) (item : Item) → slice_get (picked_items block v) i ≡ Some item →
     is_box item ≡ true → is_solid_block block ≡ true
-box-solid (One x) v i item e box = one (v == 0) i e
+box_solid (One x) v i item e box = one (v == 0) i e
   where
     one : (t : Bool) (i : ℕ) → slice_get (if t then x ∷ [] else []) i ≡ Some item → not (is_discardable x) ≡ true
     one true zero e = let same : x ≡ item = cc in
-        ap (λ (y : Item). not (is_discardable y)) same ∙ ap not (box-near item [] 0 true true box).3
+        ap (λ (y : Item). not (is_discardable y)) same ∙ ap not (box_near item [] 0 true true box).3
     one true (suc i) e = absurd (cc)
     one false i e = absurd (cc)
-box-solid (Choice variants) v i item e box = refl
+box_solid (Choice variants) v i item e box = refl
 
-around-drop : (blocks : List Block) (j v i : ℕ) (block : Block) → slice_get blocks j ≡ Some block →
+around_drop : (blocks : List Block) (j v i : ℕ) (block : Block) → slice_get blocks j ≡ Some block →
     drop i (around blocks j v) ≡ drop i (picked_items block v)
-around-drop [] j v i block e = absurd (cc)
-around-drop (b ∷ blocks) zero v i block e = let same : b ≡ block = cc in
+around_drop [] j v i block e = absurd (cc)
+around_drop (b ∷ blocks) zero v i block e = let same : b ≡ block = cc in
     ap (λ (x : Block). drop i (picked_items x v)) same
-around-drop (b ∷ blocks) (suc j) v i block e = around-drop blocks j v i block e
+around_drop (b ∷ blocks) (suc j) v i block e = around_drop blocks j v i block e
 
 -- what the galley's number says at a block
-spent-block : (blocks : List Block) (j : ℕ) (block : Block) → slice_get blocks j ≡ Some block →
+spent_block : (blocks : List Block) (j : ℕ) (block : Block) → slice_get blocks j ≡ Some block →
     nat_le (solid blocks) j ≡ not (is_solid_block block || list_any is_solid_block (drop (suc j) blocks))
-spent-block blocks j block e =
-    le-not (solid blocks) j
-    ∙ ap not (sym (any-from is_solid_block blocks j) ∙ ap (list_any is_solid_block) (drop-item blocks j block e))
+spent_block blocks j block e =
+    le_not (solid blocks) j
+    ∙ ap not (sym (any_from is_solid_block blocks j) ∙ ap (list_any is_solid_block) (drop_item blocks j block e))
 
-pub spent-seen : (s : Bool) (list : List Item) (k : ℕ) (blocks : List Block) (at : Place) →
+pub spent_seen : (s : Bool) (list : List Item) (k : ℕ) (blocks : List Block) (at : Place) →
     AllByRecursion IsBlock blocks → Seen s false list k blocks at.block at.variant at.index →
     is_spent list k ≡ place_spent blocks at
-spent-seen s list k blocks at each seen = elim seen [
+spent_seen s list k blocks at each seen = elim seen [
   | inside item picks a b c d all ok ↦
-      let is = block-at blocks at.block at.variant at.index item each b in
+      let is = block_at blocks at.block at.variant at.index item each b in
       let tail : list_all is_discardable (listed (drop (suc at.block) blocks) picks)
       ≡ not (list_any is_solid_block (drop (suc at.block) blocks)) =
-      blocks-weak (drop (suc at.block) blocks) picks all ok in
+      blocks_weak (drop (suc at.block) blocks) picks all ok in
       let own : drop at.index (around blocks at.block at.variant)
       ≡ item ∷ drop (suc at.index) (around blocks at.block at.variant) =
-      drop-item (around blocks at.block at.variant) at.index item b in
+      drop_item (around blocks at.block at.variant) at.index item b in
       let head : list_all is_discardable (item ∷ drop (suc at.index) (around blocks at.block at.variant))
       ≡ not (is_solid_block is.block) =
-      ap (list_all is_discardable) (sym own ∙ around-drop blocks at.block at.variant at.index is.block is.there)
-      ∙ rest-weak is.block at.variant at.index item is.shape is.within in
+      ap (list_all is_discardable) (sym own ∙ around_drop blocks at.block at.variant at.index is.block is.there)
+      ∙ rest_weak is.block at.variant at.index item is.shape is.within in
       let whole : drop k list ≡ (item ∷ drop (suc at.index) (around blocks at.block at.variant))
       ++ listed (drop (suc at.block) blocks) picks =
-      drop-item list k item a ∙ ap (λ (xs : List Item). item ∷ xs) d in
+      drop_item list k item a ∙ ap (λ (xs : List Item). item ∷ xs) d in
       ap (list_all is_discardable) whole
       ∙ (list_all-append is_discardable (item ∷ drop (suc at.index) (around blocks at.block at.variant))
       (listed (drop (suc at.block) blocks) picks)
       ∙ (ap (λ b. b && list_all is_discardable (listed (drop (suc at.block) blocks) picks)) head
       ∙ (ap (λ b. not (is_solid_block is.block) && b) tail
-      ∙ (sym (not-or (is_solid_block is.block) (list_any is_solid_block (drop (suc at.block) blocks)))
-      ∙ sym (spent-block blocks at.block is.block is.there)))))
+      ∙ (sym (not_or (is_solid_block is.block) (list_any is_solid_block (drop (suc at.block) blocks)))
+      ∙ sym (spent_block blocks at.block is.block is.there)))))
   | front item other a box b box' ↦
-      let is = block-at blocks at.block at.variant at.index other each b in
-      let here : is_solid_block is.block ≡ true = box-solid is.block at.variant at.index other is.within box' in
-      ap (list_all is_discardable) (drop-item list k item a)
-      ∙ (ap (λ w. w && list_all is_discardable (drop (suc k) list)) (box-near item list k true true box).3
-      ∙ sym (spent-block blocks at.block is.block is.there
+      let is = block_at blocks at.block at.variant at.index other each b in
+      let here : is_solid_block is.block ≡ true = box_solid is.block at.variant at.index other is.within box' in
+      ap (list_all is_discardable) (drop_item list k item a)
+      ∙ (ap (λ w. w && list_all is_discardable (drop (suc k) list)) (box_near item list k true true box).3
+      ∙ sym (spent_block blocks at.block is.block is.there
       ∙ ap (λ w. not (w || list_any is_solid_block (drop (suc at.block) blocks))) here))
 ]
 
@@ -357,66 +360,59 @@ data At (list : List Item) (k : ℕ) (blocks : List Block) (at : Place) (Here : 
   at_end : at ≡ end_of blocks → k ≡ length list → At list k blocks at Here
   at_item : Here at → At list k blocks at Here
 
-end-or : (same : Bool) (n k : ℕ) (o : Option ℕ) → (if same then Some n else o) ≡ Some k →
+end_or : (same : Bool) (n k : ℕ) (o : Option ℕ) → (if same then Some n else o) ≡ Some k →
     ((same ≡ true) × (k ≡ n)) ⊎ (o ≡ Some k)
-end-or true n k o e = let same : n ≡ k = cc in inl (refl, sym same)
-end-or false n k o e = inr e
+end_or true n k o e = let same : n ≡ k = cc in inl (refl, sym same)
+end_or false n k o e = inr e
 
-shown-length : (flat_items : List FlatItem) → length flat_items ≡ length (map shown flat_items)
-shown-length [] = refl
-shown-length (x ∷ xs) = ap suc (shown-length xs)
+shown_length : (flat_items : List FlatItem) → length flat_items ≡ length (map shown flat_items)
+shown_length [] = refl
+shown_length (x ∷ xs) = ap suc (shown_length xs)
 
-at-steps : (flat_items : List FlatItem) (blocks : List Block) (at : Place) (k : ℕ) (Here : Place → Type 0) →
+at_steps : (flat_items : List FlatItem) (blocks : List Block) (at : Place) (k : ℕ) (Here : Place → Type 0) →
     ((flat_item : FlatItem) → slice_get flat_items k ≡ Some flat_item → Here flat_item.place) →
     steps_to blocks flat_items at ≡ Some k → At (map shown flat_items) k blocks at Here
-at-steps flat_items blocks at k Here look e =
-    elim (end-or (is_same_place at (end_of blocks)) (length flat_items) k
+at_steps flat_items blocks at k Here look e =
+    elim (end_or (is_same_place at (end_of blocks)) (length flat_items) k
     (position (λ (flat_item : FlatItem). is_same_place flat_item.place at) flat_items) e) [
-      | inl (same, k-is) ↦ at_end (same-place at (end_of blocks) same) (k-is ∙ shown-length flat_items)
+      | inl (same, k-is) ↦ at_end (same_place at (end_of blocks) same) (k-is ∙ shown_length flat_items)
       | inr found ↦
           let none : FlatItem = record { place = place 0 0 0; item = Carry []; is_front = false } in
           let is = position-Some (λ (flat_item : FlatItem). is_same_place flat_item.place at) flat_items k none found in
           let flat_item : FlatItem = get_or flat_items k none in
           let got : slice_get flat_items k ≡ Some flat_item = slice_get-get_or flat_items k none is.0 in
-          at_item (subst Here (same-place flat_item.place at is.1) (look flat_item got))
+          at_item (subst Here (same_place flat_item.place at is.1) (look flat_item got))
     ]
 
-get-past : {X : Type 0} (xs : List X) → slice_get xs (length xs) ≡ None
-get-past [] = refl
-get-past (x ∷ xs) = get-past xs
+get_past : {X : Type 0} (xs : List X) → slice_get xs (length xs) ≡ None
+get_past [] = refl
+get_past (x ∷ xs) = get_past xs
 
-item-end : (blocks : List Block) → item_at blocks (end_of blocks) ≡ None
-item-end blocks = rw (get-past blocks) refl
+item_end : (blocks : List Block) → item_at blocks (end_of blocks) ≡ None
+item_end blocks = rw (get_past blocks) refl
 
-self-same : (n : ℕ) → (n == n) ≡ true
-self-same n = grind (arith, nat_tests)
+spent_end : (blocks : List Block) → place_spent blocks (end_of blocks) ≡ true
+spent_end blocks = le_not (solid blocks) (length blocks)
+    ∙ ap not (sym (any_from is_solid_block blocks (length blocks))
+    ∙ ap (list_any is_solid_block) (drop-length blocks))
 
-drop-past : {X : Type 0} (xs : List X) → drop (length xs) xs ≡ []
-drop-past [] = refl
-drop-past (x ∷ xs) = drop-past xs
-
-spent-end : (blocks : List Block) → place_spent blocks (end_of blocks) ≡ true
-spent-end blocks = le-not (solid blocks) (length blocks)
-    ∙ ap not (sym (any-from is_solid_block blocks (length blocks))
-    ∙ ap (list_any is_solid_block) (drop-past blocks))
-
-penalty-end : (list : List Item) (k : ℕ) (blocks : List Block) (at : Place) → at ≡ end_of blocks → k ≡ length list →
+penalty_end : (list : List Item) (k : ℕ) (blocks : List Block) (at : Place) → at ≡ end_of blocks → k ≡ length list →
     place_penalty blocks at ≡ break_penalty list k
-penalty-end list k blocks at is k-is = rw (is, k-is, item-end blocks, self-same) refl
+penalty_end list k blocks at is k-is = rw (is, k-is, item_end blocks, eq_refl) refl
 
-forced-end : (list : List Item) (k : ℕ) (blocks : List Block) (at : Place) → at ≡ end_of blocks → k ≡ length list →
+forced_end : (list : List Item) (k : ℕ) (blocks : List Block) (at : Place) → at ≡ end_of blocks → k ≡ length list →
     place_forced blocks at ≡ is_forced list k
-forced-end list k blocks at is k-is = rw (is, k-is, item-end blocks, self-same) refl
+forced_end list k blocks at is k-is = rw (is, k-is, item_end blocks, eq_refl) refl
 
-spent-at-end : (list : List Item) (k : ℕ) (blocks : List Block) (at : Place) → at ≡ end_of blocks →
+spent_at_end : (list : List Item) (k : ℕ) (blocks : List Block) (at : Place) → at ≡ end_of blocks →
     k ≡ length list → place_spent blocks at ≡ is_spent list k
-spent-at-end list k blocks at is k-is =
+spent_at_end list k blocks at is k-is =
     ap (place_spent blocks) is
-    ∙ (spent-end blocks ∙ sym (ap (is_spent list) k-is ∙ ap (list_all is_discardable) (drop-past list)))
+    ∙ (spent_end blocks ∙ sym (ap (is_spent list) k-is ∙ ap (list_all is_discardable) (drop-length list)))
 
-follows-more : (s : Bool) (list : List Item) (k : ℕ) → 1 ≤ k → follows s list k ≡ follows_solid list k
-follows-more s list zero h = absurd (omega arith)
-follows-more s list (suc k) h = refl
+follows_more : (s : Bool) (list : List Item) (k : ℕ) → 1 ≤ k → follows s list k ≡ follows_solid list k
+follows_more s list zero h = absurd (omega arith)
+follows_more s list (suc k) h = refl
 
 module _ (blocks : List Block) (all : AllByRecursion IsBlock blocks) (at : Place) where
   abbrev SeenWhole : List ℕ → ℕ → Place → Type 0
@@ -424,73 +420,73 @@ module _ (blocks : List Block) (all : AllByRecursion IsBlock blocks) (at : Place
 
   at-whole : (picks : List ℕ) (k : ℕ) → AreNamed blocks picks →
       steps_to blocks (flat_items blocks picks) at ≡ Some k → At (flat blocks picks) k blocks at (SeenWhole picks k)
-  at-whole picks k named e = at-steps (flat_items blocks picks) blocks at k (SeenWhole picks k) look e
+  at-whole picks k named e = at_steps (flat_items blocks picks) blocks at k (SeenWhole picks k) look e
     where
       look : (flat_item : FlatItem) → slice_get (flat_items blocks picks) k ≡ Some flat_item →
           SeenWhole picks k flat_item.place
       look flat_item got =
-          let there = seen-from false 0 k blocks picks flat_item all (are-picks blocks picks named) got in
+          let there = seen_from false 0 k blocks picks flat_item all (are_picks blocks picks named) got in
           let j-is : there.j ≡ flat_item.place.block = omega (arith, there.block) in
           let P : List Item → Type 0 =
           λ list. Seen false false list k blocks flat_item.place.block flat_item.place.variant
           flat_item.place.index in
           let Q : ℕ → Type 0 = λ j. Seen false false
           (listed blocks picks) k blocks j flat_item.place.variant flat_item.place.index in
-          subst P (sym (blocks-shown 0 blocks picks)) (subst Q j-is there.seen)
+          subst P (sym (blocks_shown 0 blocks picks)) (subst Q j-is there.seen)
 
   pub penalty-whole : (picks : List ℕ) (k : ℕ) → AreNamed blocks picks →
       steps_to blocks (flat_items blocks picks) at ≡ Some k →
       place_penalty blocks at ≡ break_penalty (flat blocks picks) k
   penalty-whole picks k named e = elim (at-whole picks k named e) [
-    | at_end is k-is ↦ penalty-end (flat blocks picks) k blocks at is k-is
-    | at_item seen ↦ sym (penalty-seen false (flat blocks picks) k blocks at
-        (follows-none (flat blocks picks) k) seen)
+    | at_end is k-is ↦ penalty_end (flat blocks picks) k blocks at is k-is
+    | at_item seen ↦ sym (penalty_seen false (flat blocks picks) k blocks at
+        (follows_none (flat blocks picks) k) seen)
   ]
 
   pub forced-whole : (picks : List ℕ) (k : ℕ) → AreNamed blocks picks →
       steps_to blocks (flat_items blocks picks) at ≡ Some k →
       place_forced blocks at ≡ is_forced (flat blocks picks) k
   forced-whole picks k named e = elim (at-whole picks k named e) [
-    | at_end is k-is ↦ forced-end (flat blocks picks) k blocks at is k-is
-    | at_item seen ↦ sym (forced-seen false (flat blocks picks) k blocks at seen)
+    | at_end is k-is ↦ forced_end (flat blocks picks) k blocks at is k-is
+    | at_item seen ↦ sym (forced_seen false (flat blocks picks) k blocks at seen)
   ]
 
   pub spent-whole : (picks : List ℕ) (k : ℕ) → AreNamed blocks picks →
       steps_to blocks (flat_items blocks picks) at ≡ Some k → place_spent blocks at ≡ is_spent (flat blocks picks) k
   spent-whole picks k named e = elim (at-whole picks k named e) [
-    | at_end is k-is ↦ spent-at-end (flat blocks picks) k blocks at is k-is
-    | at_item seen ↦ sym (spent-seen false (flat blocks picks) k blocks at all seen)
+    | at_end is k-is ↦ spent_at_end (flat blocks picks) k blocks at is k-is
+    | at_item seen ↦ sym (spent_seen false (flat blocks picks) k blocks at all seen)
   ]
 
   at-column : (start : Place) (picks : List ℕ) (n : ℕ) → AreNamed (blocks_at blocks start) picks →
       steps_to blocks (flat_items_at blocks start picks) at ≡ Some n →
       At (items_at blocks start picks) n blocks at (SeenAt (items_at blocks start picks) n blocks)
   at-column start picks n named e =
-      at-steps (flat_items_at blocks start picks) blocks at n (SeenAt (items_at blocks start picks) n blocks)
-      (λ flat_item got. column-seen blocks start picks n flat_item all
-      (are-picks (blocks_at blocks start) picks named) got) e
+      at_steps (flat_items_at blocks start picks) blocks at n (SeenAt (items_at blocks start picks) n blocks)
+      (λ flat_item got. column_seen blocks start picks n flat_item all
+      (are_picks (blocks_at blocks start) picks named) got) e
 
   pub penalty-column : (start : Place) (picks : List ℕ) (n : ℕ) → AreNamed (blocks_at blocks start) picks →
       steps_to blocks (flat_items_at blocks start picks) at ≡ Some n → 1 ≤ n →
       place_penalty blocks at ≡ break_penalty (items_at blocks start picks) n
   penalty-column start picks n named e h = elim (at-column start picks n named e) [
-    | at_end is n-is ↦ penalty-end (items_at blocks start picks) n blocks at is n-is
-    | at_item it ↦ sym (penalty-seen it.s (items_at blocks start picks) n blocks at
-        (follows-more it.s (items_at blocks start picks) n h) it.seen)
+    | at_end is n-is ↦ penalty_end (items_at blocks start picks) n blocks at is n-is
+    | at_item it ↦ sym (penalty_seen it.s (items_at blocks start picks) n blocks at
+        (follows_more it.s (items_at blocks start picks) n h) it.seen)
   ]
 
   pub forced-column : (start : Place) (picks : List ℕ) (n : ℕ) → AreNamed (blocks_at blocks start) picks →
       steps_to blocks (flat_items_at blocks start picks) at ≡ Some n →
       place_forced blocks at ≡ is_forced (items_at blocks start picks) n
   forced-column start picks n named e = elim (at-column start picks n named e) [
-    | at_end is n-is ↦ forced-end (items_at blocks start picks) n blocks at is n-is
-    | at_item it ↦ sym (forced-seen it.s (items_at blocks start picks) n blocks at it.seen)
+    | at_end is n-is ↦ forced_end (items_at blocks start picks) n blocks at is n-is
+    | at_item it ↦ sym (forced_seen it.s (items_at blocks start picks) n blocks at it.seen)
   ]
 
   pub spent-column : (start : Place) (picks : List ℕ) (n : ℕ) → AreNamed (blocks_at blocks start) picks →
       steps_to blocks (flat_items_at blocks start picks) at ≡ Some n →
       place_spent blocks at ≡ is_spent (items_at blocks start picks) n
   spent-column start picks n named e = elim (at-column start picks n named e) [
-    | at_end is n-is ↦ spent-at-end (items_at blocks start picks) n blocks at is n-is
-    | at_item it ↦ sym (spent-seen it.s (items_at blocks start picks) n blocks at all it.seen)
+    | at_end is n-is ↦ spent_at_end (items_at blocks start picks) n blocks at is n-is
+    | at_item it ↦ sym (spent_seen it.s (items_at blocks start picks) n blocks at all it.seen)
   ]

@@ -16,55 +16,56 @@ use Rattle.pg_flat.specs.Break.{has_at}
 use Rattle.pg_flat.specs.Flat.{FlatItem, flat_items_from, variant_flat_items, flat_items_at, blocks_at}
 use Rattle.pg_breaks.specs.Near.{index_follows, front_follows}
 use Rattle.pg_breaks.specs.Read.{items_at}
-use Rattle.pg_breaks.proofs.Listed.{listed, ArePicks, shown, variant-shown, blocks-shown}
-use Rattle.pg_breaks.proofs.Lists.{is_solid, follows, get-left, get-right, get-split, get-lt, drop-left, drop-right}
-use Rattle.pg_breaks.proofs.Walk.{Seen, inside, front, around, picked-shape, seen-from, later-place, follows-right}
+use Rattle.pg_breaks.proofs.Listed.{listed, ArePicks, shown, variant_shown, blocks_shown}
+use Rattle.pg_breaks.proofs.Lists.{is_solid, follows, get_left, get_right, get_split, get_lt, drop_left, drop_right}
+use Rattle.pg_breaks.proofs.Walk.{Seen, inside, front, around, picked_shape, seen_from, later_place, follows_right, index_follows_cons}
+use Rattle.pg_lemmas.proofs.Numbers.{suc_not}
 
 -- ---- lists
 
-get-drop : {X : Type 0} (n : ℕ) (xs : List X) (k : ℕ) → slice_get (drop n xs) k ≡ slice_get xs (n + k)
-get-drop zero xs k = ap (slice_get xs) (omega arith)
-get-drop (suc n) [] k = refl
-get-drop (suc n) (x ∷ xs) k = get-drop n xs k ∙ sym (ap (slice_get (x ∷ xs)) (more n k))
+get_drop : {X : Type 0} (n : ℕ) (xs : List X) (k : ℕ) → slice_get (drop n xs) k ≡ slice_get xs (n + k)
+get_drop zero xs k = ap (slice_get xs) (omega arith)
+get_drop (suc n) [] k = refl
+get_drop (suc n) (x ∷ xs) k = get_drop n xs k ∙ sym (ap (slice_get (x ∷ xs)) (more n k))
   where
     more : (n k : ℕ) → suc n + k ≡ suc (n + k)
     more n k = omega arith
 
-drop-twice : {X : Type 0} (n m : ℕ) (xs : List X) → drop m (drop n xs) ≡ drop (n + m) xs
-drop-twice zero m xs = ap (λ k. drop k xs) (omega arith)
-drop-twice (suc n) m [] = drop-nil m ∙ sym (drop-nil (suc n + m))
+drop_twice : {X : Type 0} (n m : ℕ) (xs : List X) → drop m (drop n xs) ≡ drop (n + m) xs
+drop_twice zero m xs = ap (λ k. drop k xs) (omega arith)
+drop_twice (suc n) m [] = drop-nil m ∙ sym (drop-nil (suc n + m))
   where
     drop-nil : {X : Type 0} (i : ℕ) → ◌≡◌ {A = List X} (drop i []) []
     drop-nil zero = refl
     drop-nil (suc i) = refl
-drop-twice (suc n) m (x ∷ xs) = drop-twice n m xs ∙ sym (ap (λ k. drop k (x ∷ xs)) (more n m))
+drop_twice (suc n) m (x ∷ xs) = drop_twice n m xs ∙ sym (ap (λ k. drop k (x ∷ xs)) (more n m))
   where
     more : (n k : ℕ) → suc n + k ≡ suc (n + k)
     more n k = omega arith
 
-map-drop : {X Y : Type 0} (f : X → Y) (n : ℕ) (xs : List X) → map f (drop n xs) ≡ drop n (map f xs)
-map-drop f zero xs = refl
-map-drop f (suc n) [] = refl
-map-drop f (suc n) (x ∷ xs) = map-drop f n xs
+map_drop : {X Y : Type 0} (f : X → Y) (n : ℕ) (xs : List X) → map f (drop n xs) ≡ drop n (map f xs)
+map_drop f zero xs = refl
+map_drop f (suc n) [] = refl
+map_drop f (suc n) (x ∷ xs) = map_drop f n xs
 
-pub all-drop : (P : Block → Type 0) (n : ℕ) (blocks : List Block) → AllByRecursion P blocks →
+pub all_drop : (P : Block → Type 0) (n : ℕ) (blocks : List Block) → AllByRecursion P blocks →
     AllByRecursion P (drop n blocks)
-all-drop P zero blocks a = a
-all-drop P (suc n) [] a = tt
-all-drop P (suc n) (x ∷ xs) a = all-drop P n xs a.1
+all_drop P zero blocks a = a
+all_drop P (suc n) [] a = tt
+all_drop P (suc n) (x ∷ xs) a = all_drop P n xs a.1
 
-drop-none : {X : Type 0} (n : ℕ) (xs : List X) → length xs ≤ n → drop n xs ≡ []
-drop-none zero [] h = refl
-drop-none zero (x ∷ xs) h = absurd (omega arith)
-drop-none (suc n) [] h = refl
-drop-none (suc n) (x ∷ xs) h = drop-none n xs (omega arith)
+drop_none : {X : Type 0} (n : ℕ) (xs : List X) → length xs ≤ n → drop n xs ≡ []
+drop_none zero [] h = refl
+drop_none zero (x ∷ xs) h = absurd (omega arith)
+drop_none (suc n) [] h = refl
+drop_none (suc n) (x ∷ xs) h = drop_none n xs (omega arith)
 
-solid-drop : (items : List Item) (n : ℕ) → n < length items → EndsSolid items → EndsSolid (drop n items)
-solid-drop items n h solid =
+solid_drop : (items : List Item) (n : ℕ) → n < length items → EndsSolid items → EndsSolid (drop n items)
+solid_drop items n h solid =
     let P : Option Item → Type 0 = λ o. IsSomeAnd o (λ item. IsTrue (not (is_discardable item))) in
     let long : length (drop n items) ≡ length items - n = length-dropped n items in
     let at : n + (length (drop n items) - 1) ≡ length items - 1 = omega (arith, long, h) in
-    subst P (sym (get-drop n items (length (drop n items) - 1) ∙ ap (slice_get items) at)) solid
+    subst P (sym (get_drop n items (length (drop n items) - 1) ∙ ap (slice_get items) at)) solid
   where
     length-dropped : (n : ℕ) (xs : List Item) → length (drop n xs) ≡ length xs - n
     length-dropped zero xs = omega arith
@@ -73,44 +74,38 @@ solid-drop items n h solid =
 
 -- ---- blocks in front
 
-index_follows-front : (t : Bool) (b : Block) (blocks : List Block) (items : List Item) (j i : ℕ) →
-    index_follows t (b ∷ blocks) items (suc j) i ≡ index_follows (is_solid_block b) blocks items j i
-index_follows-front t b blocks items zero zero = refl
-index_follows-front t b blocks items (suc j) zero = refl
-index_follows-front t b blocks items j (suc i) = refl
-
-seen-behind : (s t : Bool) (b : Block) (list : List Item) (k : ℕ) (blocks : List Block) (j v i : ℕ) →
+seen_behind : (s t : Bool) (b : Block) (list : List Item) (k : ℕ) (blocks : List Block) (j v i : ℕ) →
     Seen s (is_solid_block b) list k blocks j v i → Seen s t list k (b ∷ blocks) (suc j) v i
-seen-behind s t b list k blocks j v i seen = elim seen [
+seen_behind s t b list k blocks j v i seen = elim seen [
   | inside it picks a got c d e f ↦
-      inside it picks a got (c ∙ sym (index_follows-front t b blocks (around blocks j v) j i)) d e f
+      inside it picks a got (c ∙ sym (index_follows_cons t b blocks (around blocks j v) j i)) d e f
   | front it other a box c d ↦ front it other a box c d
 ]
 
-front_follows-front : (t : Bool) (b : Block) (blocks : List Block) (n : ℕ) →
+front_follows_front : (t : Bool) (b : Block) (blocks : List Block) (n : ℕ) →
     front_follows t (b ∷ blocks) (suc n) ≡ front_follows (is_solid_block b) blocks n
-front_follows-front t b blocks zero = refl
-front_follows-front t b blocks (suc n) = refl
+front_follows_front t b blocks zero = refl
+front_follows_front t b blocks (suc n) = refl
 
-nothing-seen : (s t : Bool) (list : List Item) (k j v i : ℕ) → Seen s t list k [] j v i → ⊥
-nothing-seen s t list k j v i seen = elim seen [
+nothing_seen : (s t : Bool) (list : List Item) (k j v i : ℕ) → Seen s t list k [] j v i → ⊥
+nothing_seen s t list k j v i seen = elim seen [
   | inside it picks a got c d e f ↦ cc
   | front it other a box c d ↦ cc
 ]
 
-pub seen-all : (s t : Bool) (n : ℕ) (list : List Item) (k : ℕ) (blocks : List Block) (j v i : ℕ) →
+pub seen_all : (s t : Bool) (n : ℕ) (list : List Item) (k : ℕ) (blocks : List Block) (j v i : ℕ) →
     Seen s (front_follows t blocks n) list k (drop n blocks) j v i → Seen s t list k blocks (n + j) v i
-seen-all s t zero list k blocks j v i seen =
+seen_all s t zero list k blocks j v i seen =
     let P : ℕ → Type 0 = λ m. Seen s t list k blocks m v i in
     let e : j ≡ 0 + j = omega arith in
     subst P e seen
-seen-all s t (suc n) list k [] j v i seen = absurd (nothing-seen s _ list k j v i seen)
-seen-all s t (suc n) list k (b ∷ blocks) j v i seen =
+seen_all s t (suc n) list k [] j v i seen = absurd (nothing_seen s _ list k j v i seen)
+seen_all s t (suc n) list k (b ∷ blocks) j v i seen =
     let P : ℕ → Type 0 = λ m. Seen s t list k (b ∷ blocks) m v i in
     let Q : Bool → Type 0 = λ u. Seen s u list k (drop n blocks) j v i in
     let e : suc (n + j) ≡ suc n + j = omega arith in
-    subst P e (seen-behind s t b list k blocks (n + j) v i
-    (seen-all s (is_solid_block b) n list k blocks j v i (subst Q (front_follows-front t b blocks n) seen)))
+    subst P e (seen_behind s t b list k blocks (n + j) v i
+    (seen_all s (is_solid_block b) n list k blocks j v i (subst Q (front_follows_front t b blocks n) seen)))
 
 -- ---- from a place on
 
@@ -119,34 +114,34 @@ pub record SeenAt (list : List Item) (k : ℕ) (blocks : List Block) (at : Place
   pub s : Bool
   pub seen : Seen s false list k blocks at.block at.variant at.index
 
-seen-from-block : (n : ℕ) (blocks : List Block) (picks : List ℕ) (k : ℕ) (flat_item : FlatItem) →
+seen_from_block : (n : ℕ) (blocks : List Block) (picks : List ℕ) (k : ℕ) (flat_item : FlatItem) →
     AllByRecursion IsBlock (drop n blocks) → ArePicks (drop n blocks) picks →
     slice_get (flat_items_from n (drop n blocks) picks) k ≡ Some flat_item →
     Seen (front_follows false blocks n) false
     (listed (drop n blocks) picks) k blocks flat_item.place.block flat_item.place.variant flat_item.place.index
-seen-from-block n blocks picks k flat_item all ok e =
+seen_from_block n blocks picks k flat_item all ok e =
     let first = front_follows false blocks n in
-    let there = seen-from first n k (drop n blocks) picks flat_item all ok e in
+    let there = seen_from first n k (drop n blocks) picks flat_item all ok e in
     let P : ℕ → Type 0 = λ b. Seen first false
     (listed (drop n blocks) picks) k blocks b flat_item.place.variant flat_item.place.index in
     subst P (sym there.block)
-    (seen-all first false n
+    (seen_all first false n
     (listed (drop n blocks) picks) k blocks there.j flat_item.place.variant flat_item.place.index there.seen)
 
-variant-later : (b v : ℕ) (items : List Item) (m : ℕ) (flat_item : FlatItem) →
+variant_later : (b v : ℕ) (items : List Item) (m : ℕ) (flat_item : FlatItem) →
     slice_get (variant_flat_items b v items) (suc m) ≡ Some flat_item →
     (flat_item.place ≡ place b v (suc m)) × (slice_get items (suc m) ≡ Some flat_item.item)
-variant-later b v [] m flat_item e = absurd (cc)
-variant-later b v (item ∷ items) m flat_item e =
-    let h = later-place b v 1 items m flat_item e in
+variant_later b v [] m flat_item e = absurd (cc)
+variant_later b v (item ∷ items) m flat_item e =
+    let h = later_place b v 1 items m flat_item e in
     (h.0 ∙ ap (λ x. place b v x) (omega arith), h.1)
 
 -- the rest of the variant at a place is empty, or ends solid as its block does
-rest-ends : (blocks : List Block) (b v i : ℕ) → AllByRecursion IsBlock blocks →
+rest_ends : (blocks : List Block) (b v i : ℕ) → AllByRecursion IsBlock blocks →
     (drop (suc i) (around blocks b v) ≡ []) ⊎ (EndsSolid (drop (suc i) (around blocks b v))
     × (front_follows false blocks (suc b) ≡ true))
-rest-ends [] b v i all = inl refl
-rest-ends (One item ∷ blocks) zero v i all = inl (one-rest (v == 0))
+rest_ends [] b v i all = inl refl
+rest_ends (One item ∷ blocks) zero v i all = inl (one-rest (v == 0))
   where
     one-rest : (t : Bool) → drop (suc i) (if t then item ∷ [] else []) ≡ []
     one-rest true = drop-nil i
@@ -155,7 +150,7 @@ rest-ends (One item ∷ blocks) zero v i all = inl (one-rest (v == 0))
         drop-nil zero = refl
         drop-nil (suc i) = refl
     one-rest false = refl
-rest-ends (Choice variants ∷ blocks) zero v i all =
+rest_ends (Choice variants ∷ blocks) zero v i all =
     by (nat_lt (suc i) (length (picked_items (Choice variants) v))) refl
   where
     named : (variants : List Variant) (v : ℕ) → 0 < length (picked_items (Choice variants) v) → v < length variants
@@ -176,34 +171,34 @@ rest-ends (Choice variants ∷ blocks) zero v i all =
         let h : suc i < length (picked_items (Choice variants) v) = less _ _ e in
         let some : v < length variants = named variants v (omega (arith, h)) in
         inr (
-          solid-drop (picked_items (Choice variants) v) (suc i) h
-              (picked-shape variants v all.0.shape.each some).1,
+          solid_drop (picked_items (Choice variants) v) (suc i) h
+              (picked_shape variants v all.0.shape.each some).1,
           refl,
         )
-    by false e = inl (drop-none (suc i) (picked_items (Choice variants) v) (more _ _ e))
-rest-ends (block ∷ blocks) (suc b) v i all = rest-ends blocks b v i all.1
+    by false e = inl (drop_none (suc i) (picked_items (Choice variants) v) (more _ _ e))
+rest_ends (block ∷ blocks) (suc b) v i all = rest_ends blocks b v i all.1
 
 -- items in front that are none, or end solid
-seen-prefixed : (t : Bool) (xs list : List Item) (m k : ℕ) (blocks : List Block) (at : Place) →
+seen_prefixed : (t : Bool) (xs list : List Item) (m k : ℕ) (blocks : List Block) (at : Place) →
     (xs ≡ []) ⊎ (EndsSolid xs × (t ≡ true)) → k ≡ length xs + m →
     Seen t false list m blocks at.block at.variant at.index → SeenAt (xs ++ list) k blocks at
-seen-prefixed t xs list m k blocks at (inl none) e seen =
+seen_prefixed t xs list m k blocks at (inl none) e seen =
     let here : length xs ≡ 0 = ap length none in
     let same : m ≡ k = omega (arith, e, here) in
     let P : ℕ → Type 0 = λ n. Seen t false list n blocks at.block at.variant at.index in
     let Q : List Item → Type 0 = λ ys. Seen t false (ys ++ list) k blocks at.block at.variant at.index in
     record { s = t; seen = subst Q (sym none) (subst P same seen) }
-seen-prefixed t xs list m k blocks at (inr (solid, is)) e seen =
+seen_prefixed t xs list m k blocks at (inr (solid, is)) e seen =
     let more : suc k ≡ length xs + suc m = omega (arith, e) in
     elim seen [
       | inside it picks a got c d f g ↦
           record {
             s = true;
             seen =
-                inside it picks (get-right xs list k m e ∙ a) got (follows-right true xs list k m solid e
-                ∙ (ap (λ u. follows u list m) (sym is) ∙ c)) (drop-right xs list (suc k) (suc m) more ∙ d) f g;
+                inside it picks (get_right xs list k m e ∙ a) got (follows_right true xs list k m solid e
+                ∙ (ap (λ u. follows u list m) (sym is) ∙ c)) (drop_right xs list (suc k) (suc m) more ∙ d) f g;
           }
-      | front it other a box c d ↦ record { s = true; seen = front it other (get-right xs list k m e ∙ a) box c d }
+      | front it other a box c d ↦ record { s = true; seen = front it other (get_right xs list k m e ∙ a) box c d }
     ]
 
 module _ (blocks : List Block) (b v i : ℕ) (picks : List ℕ) (all : AllByRecursion IsBlock blocks) where
@@ -214,10 +209,10 @@ module _ (blocks : List Block) (b v i : ℕ) (picks : List ℕ) (all : AllByRecu
   rest = listed (drop (b + 1) blocks) picks
 
   -- within the variant
-  seen-within : (k : ℕ) (item : Item) → slice_get items (suc i + k) ≡ Some item → k < length (drop (suc i) items) →
+  seen_within : (k : ℕ) (item : Item) → slice_get items (suc i + k) ≡ Some item → k < length (drop (suc i) items) →
       AllByRecursion IsBlock (drop (b + 1) blocks) → ArePicks (drop (b + 1) blocks) picks →
       SeenAt (drop (suc i) items ++ rest) k blocks (place b v (suc (i + k)))
-  seen-within k item e h each ok =
+  seen_within k item e h each ok =
       let xs : List Item = drop (suc i) items in
       let at : suc i + k ≡ suc (i + k) = omega arith in
       let got : slice_get items (suc (i + k)) ≡ Some item = ap (slice_get items) (sym at) ∙ e in
@@ -226,11 +221,11 @@ module _ (blocks : List Block) (b v i : ℕ) (picks : List ℕ) (all : AllByRecu
       record {
         s = has_at is_solid items i;
         seen = inside item picks
-            (get-left xs rest k h ∙ (get-drop (suc i) items k ∙ e))
+            (get_left xs rest k h ∙ (get_drop (suc i) items k ∙ e))
             got
             (follows-here k h)
-            (drop-left xs rest (suc k) upto
-            ∙ (ap (λ ys. ys ++ rest) (drop-twice (suc i) (suc k) items ∙ ap (λ n. drop n items) next)
+            (drop_left xs rest (suc k) upto
+            ∙ (ap (λ ys. ys ++ rest) (drop_twice (suc i) (suc k) items ∙ ap (λ n. drop n items) next)
             ∙ ap (λ n. drop (suc (suc (i + k))) items ++ listed (drop n blocks) picks) (add-one b)))
             (subst (λ n. AllByRecursion IsBlock (drop n blocks)) (add-one b) each)
             (subst (λ n. ArePicks (drop n blocks) picks) (add-one b) ok);
@@ -242,8 +237,8 @@ module _ (blocks : List Block) (b v i : ℕ) (picks : List ℕ) (all : AllByRecu
       follows-here (suc k) h =
           let less : k < length (drop (suc i) items) = omega (arith, h) in
           let at : suc i + k ≡ i + suc k = omega arith in
-          ap (λ o. option_map_or is_solid o false) (get-left (drop (suc i) items) rest k less
-          ∙ (get-drop (suc i) items k ∙ ap (slice_get items) at))
+          ap (λ o. option_map_or is_solid o false) (get_left (drop (suc i) items) rest k less
+          ∙ (get_drop (suc i) items k ∙ ap (slice_get items) at))
 
   shown-inside : map shown (drop (suc i) (variant_flat_items b v items)
       ++ flat_items_from (b + 1) (drop (b + 1) blocks) picks) ≡ drop (suc i) items ++ rest
@@ -251,14 +246,14 @@ module _ (blocks : List Block) (b v i : ℕ) (picks : List ℕ) (all : AllByRecu
       map-append shown (drop (suc i) (variant_flat_items b v items))
       (flat_items_from (b + 1) (drop (b + 1) blocks) picks)
       ∙ (ap (λ xs. xs ++ map shown (flat_items_from (b + 1) (drop (b + 1) blocks) picks))
-      (map-drop shown (suc i) (variant_flat_items b v items) ∙ ap (drop (suc i)) (variant-shown b v items))
-      ∙ ap (λ xs. drop (suc i) items ++ xs) (blocks-shown (b + 1) (drop (b + 1) blocks) picks))
+      (map_drop shown (suc i) (variant_flat_items b v items) ∙ ap (drop (suc i)) (variant_shown b v items))
+      ∙ ap (λ xs. drop (suc i) items ++ xs) (blocks_shown (b + 1) (drop (b + 1) blocks) picks))
 
   variant-long : (n : ℕ) (items : List Item) →
       length (drop n (variant_flat_items b v items)) ≡ length (drop n items)
   variant-long n items =
       sym (length-mapped shown (drop n (variant_flat_items b v items)))
-      ∙ ap length (map-drop shown n (variant_flat_items b v items) ∙ ap (drop n) (variant-shown b v items))
+      ∙ ap length (map_drop shown n (variant_flat_items b v items) ∙ ap (drop n) (variant_shown b v items))
     where
       length-mapped : {X Y : Type 0} (f : X → Y) (xs : List X) → length (map f xs) ≡ length xs
       length-mapped f [] = refl
@@ -269,62 +264,59 @@ module _ (blocks : List Block) (b v i : ℕ) (picks : List ℕ) (all : AllByRecu
       ++ flat_items_from (b + 1) (drop (b + 1) blocks) picks) k ≡ Some flat_item →
       SeenAt (drop (suc i) items ++ rest) k blocks flat_item.place
   seen-inside k flat_item ok e =
-      let each : AllByRecursion IsBlock (drop (b + 1) blocks) = all-drop IsBlock (b + 1) blocks all in
-      elim (get-split (drop (suc i) (variant_flat_items b v items))
+      let each : AllByRecursion IsBlock (drop (b + 1) blocks) = all_drop IsBlock (b + 1) blocks all in
+      elim (get_split (drop (suc i) (variant_flat_items b v items))
       (flat_items_from (b + 1) (drop (b + 1) blocks) picks) k flat_item e) [
         | inl here ↦
             let at : suc i + k ≡ suc (i + k) = omega arith in
-            let h = variant-later b v items (i + k) flat_item
+            let h = variant_later b v items (i + k) flat_item
             (ap (slice_get (variant_flat_items b v items)) (sym at)
-            ∙ (sym (get-drop (suc i) (variant_flat_items b v items) k) ∙ here)) in
+            ∙ (sym (get_drop (suc i) (variant_flat_items b v items) k) ∙ here)) in
             let less : k < length (drop (suc i) items) =
             omega (
               arith,
-              get-lt (drop (suc i) (variant_flat_items b v items)) k flat_item here,
+              get_lt (drop (suc i) (variant_flat_items b v items)) k flat_item here,
               variant-long (suc i) items,
             ) in
             subst (SeenAt (drop (suc i) items ++ rest) k blocks) (sym h.0)
-            (seen-within k flat_item.item (ap (slice_get items) at ∙ h.1) less each ok)
+            (seen_within k flat_item.item (ap (slice_get items) at ∙ h.1) less each ok)
         | inr (m, at, there) ↦
             let long : k ≡ length (drop (suc i) items) + m = at ∙ ap (λ n. n + m) (variant-long (suc i) items) in
             let t = front_follows false blocks (b + 1) in
             let t-is : front_follows false blocks (suc b) ≡ t = ap (front_follows false blocks) (sym (add-one b)) in
             let Q : Bool → Type 0 =
             λ u. (drop (suc i) items ≡ []) ⊎ (EndsSolid (drop (suc i) items) × (u ≡ true)) in
-            seen-prefixed t (drop (suc i) items) rest m k blocks flat_item.place
-            (subst Q t-is (rest-ends blocks b v i all)) long
-            (seen-from-block (b + 1) blocks picks m flat_item each ok there)
+            seen_prefixed t (drop (suc i) items) rest m k blocks flat_item.place
+            (subst Q t-is (rest_ends blocks b v i all)) long
+            (seen_from_block (b + 1) blocks picks m flat_item each ok there)
       ]
 
-suc-not : (i : ℕ) → (suc i == 0) ≡ false
-suc-not i = grind (arith, nat_tests)
-
-column-index : (blocks : List Block) (b v i : ℕ) (picks : List ℕ) (k : ℕ) (flat_item : FlatItem) →
+column_index : (blocks : List Block) (b v i : ℕ) (picks : List ℕ) (k : ℕ) (flat_item : FlatItem) →
     AllByRecursion IsBlock blocks →
     ArePicks (blocks_at blocks (place b v i)) picks →
     slice_get (flat_items_at blocks (place b v i) picks) k ≡ Some flat_item →
     SeenAt (items_at blocks (place b v i) picks) k blocks flat_item.place
-column-index blocks b v zero picks k flat_item all ok e =
+column_index blocks b v zero picks k flat_item all ok e =
     let P : List Item → Type 0 = λ list. SeenAt list k blocks flat_item.place in
-    subst P (sym (blocks-shown b (drop b blocks) picks)) (record {
+    subst P (sym (blocks_shown b (drop b blocks) picks)) (record {
       s = front_follows false blocks b;
-      seen = seen-from-block b blocks picks k flat_item (all-drop IsBlock b blocks all) ok e;
+      seen = seen_from_block b blocks picks k flat_item (all_drop IsBlock b blocks all) ok e;
     })
-column-index blocks b v (suc i) picks k flat_item all ok e =
+column_index blocks b v (suc i) picks k flat_item all ok e =
     let inner : List FlatItem =
     drop (suc i) (variant_flat_items b v (around blocks b v))
     ++ flat_items_from (b + 1) (drop (b + 1) blocks) picks in
     let T : Bool → List FlatItem = λ t. if t then flat_items_from b (drop b blocks) picks else inner in
-    let is : flat_items_at blocks (place b v (suc i)) picks ≡ inner = ap T (suc-not i) in
+    let is : flat_items_at blocks (place b v (suc i)) picks ≡ inner = ap T (suc_not i) in
     let U : Bool → List Block = λ t. drop (if t then b else b + 1) blocks in
-    let named : ArePicks (drop (b + 1) blocks) picks = subst (λ t. ArePicks (U t) picks) (suc-not i) ok in
+    let named : ArePicks (drop (b + 1) blocks) picks = subst (λ t. ArePicks (U t) picks) (suc_not i) ok in
     let P : List Item → Type 0 = λ list. SeenAt list k blocks flat_item.place in
     subst P (sym (ap (map shown) is ∙ shown-inside blocks b v i picks all))
     (seen-inside blocks b v i picks all k flat_item named (ap (λ xs. slice_get xs k) (sym is) ∙ e))
 
-pub column-seen : (blocks : List Block) (from : Place) (picks : List ℕ) (k : ℕ) (flat_item : FlatItem) →
+pub column_seen : (blocks : List Block) (from : Place) (picks : List ℕ) (k : ℕ) (flat_item : FlatItem) →
     AllByRecursion IsBlock blocks →
     ArePicks (blocks_at blocks from) picks → slice_get (flat_items_at blocks from picks) k ≡ Some flat_item →
     SeenAt (items_at blocks from picks) k blocks flat_item.place
-column-seen blocks from picks k flat_item all ok e =
-    column-index blocks from.block from.variant from.index picks k flat_item all ok e
+column_seen blocks from picks k flat_item all ok e =
+    column_index blocks from.block from.variant from.index picks k flat_item all ok e

@@ -15,21 +15,23 @@ use Rattle.pg_list.specs.Shapes.{IsBlock}
 use Rattle.pg_flat.specs.Flat.{flat, items_before}
 use Rattle.pg_style.specs.Values.{StyleValue}
 use Rattle.pg_rules.specs.Floats.{sizes_of, insert_size, float_numbers, called, entry}
-use Rattle.pg_places.proofs.Measures.{inserted_append}
+use Rattle.pg_place_laws.proofs.Measures.{inserted_append}
 use Rattle.pg_floats.specs.declared.callouts.Callout.{Callout}
 use Rattle.pg_floats.specs.AreFloats.{AreFloats, float_size}
 use Rattle.pg_floats.specs.Callouts.{callouts_in, callouts_from, class_floats}
 use Rattle.pg_floats.specs.FloatsValue.{ClassFloatsValue, callout_at}
-use Rattle.pg_floats.proofs.Parts.{all-both, found, take-short}
-use Rattle.pg_floats.proofs.Lists.{length-from, sizes-from, size_of, flat-first}
+use Rattle.pg_floats.proofs.Parts.{found, take_short}
+use Rattle.pg_floats.proofs.Lists.{length_from, sizes_from, size_of, flat_first}
+use Rattle.pg_lemmas.proofs.Lists.{all_append}
+use Rattle.pg_lemmas.proofs.Numbers.{less_of}
 
 -- ---- the callouts of a class stand by block
 
-in-block : (P : ℕ → Type 0) (number b : ℕ) (items : List Item) → P b →
+in_block : (P : ℕ → Type 0) (number b : ℕ) (items : List Item) → P b →
     AllByRecursion (λ (c : Callout). P c.block) (callouts_in number b items)
-in-block P number b [] h = tt
-in-block P number b (item ∷ items) h =
-    by (insert_size number item) (callouts_in number b items) (in-block P number b items h)
+in_block P number b [] h = tt
+in_block P number b (item ∷ items) h =
+    by (insert_size number item) (callouts_in number b items) (in_block P number b items h)
   where
     by : (o : Option ℤ) (xs : List Callout) → AllByRecursion (λ (c : Callout). P c.block) xs →
         AllByRecursion (λ (c : Callout). P c.block)
@@ -37,27 +39,24 @@ in-block P number b (item ∷ items) h =
     by None xs a = a
     by (Some z) xs a = (h, a)
 
-lt-yes : (m n : ℕ) → m < n → nat_lt m n ≡ true
-lt-yes m n h = grind (arith, nat_tests)
+lt_no : (m n : ℕ) → n ≤ m → nat_lt m n ≡ false
+lt_no m n h = grind (arith, nat_tests)
 
-lt-no : (m n : ℕ) → n ≤ m → nat_lt m n ≡ false
-lt-no m n h = grind (arith, nat_tests)
-
-all-below : (number b n : ℕ) (blocks : List Block) → n + length blocks ≤ b →
+all_below : (number b n : ℕ) (blocks : List Block) → n + length blocks ≤ b →
     AllByRecursion (λ (c : Callout). nat_lt c.block b ≡ true) (callouts_from number n blocks)
-all-below number b n [] h = tt
-all-below number b n (block ∷ blocks) h =
-    all-both _ (callouts_in number n (picked_items block 0)) (callouts_from number (n + 1) blocks)
-    (in-block (λ m. nat_lt m b ≡ true) number n (picked_items block 0) (lt-yes n b (omega (arith, h))))
-    (all-below number b (n + 1) blocks (omega (arith, h)))
+all_below number b n [] h = tt
+all_below number b n (block ∷ blocks) h =
+    all_append _ (callouts_in number n (picked_items block 0)) (callouts_from number (n + 1) blocks)
+    (in_block (λ m. nat_lt m b ≡ true) number n (picked_items block 0) (less_of n b (omega (arith, h))))
+    (all_below number b (n + 1) blocks (omega (arith, h)))
 
-all-above : (number b n : ℕ) (blocks : List Block) → b ≤ n →
+all_above : (number b n : ℕ) (blocks : List Block) → b ≤ n →
     AllByRecursion (λ (c : Callout). nat_lt c.block b ≡ false) (callouts_from number n blocks)
-all-above number b n [] h = tt
-all-above number b n (block ∷ blocks) h =
-    all-both _ (callouts_in number n (picked_items block 0)) (callouts_from number (n + 1) blocks)
-    (in-block (λ m. nat_lt m b ≡ false) number n (picked_items block 0) (lt-no n b h))
-    (all-above number b (n + 1) blocks (omega (arith, h)))
+all_above number b n [] h = tt
+all_above number b n (block ∷ blocks) h =
+    all_append _ (callouts_in number n (picked_items block 0)) (callouts_from number (n + 1) blocks)
+    (in_block (λ m. nat_lt m b ≡ false) number n (picked_items block 0) (lt_no n b h))
+    (all_above number b (n + 1) blocks (omega (arith, h)))
 
 cut : (number b n : ℕ) (blocks : List Block) →
     callouts_from number n blocks ≡ callouts_from number n (take b blocks)
@@ -72,60 +71,60 @@ cut number (suc b) n (block ∷ blocks) =
     ∙ sym (append_assoc (callouts_in number n (picked_items block 0)) (callouts_from number (n + 1) (take b blocks))
     (callouts_from number (n + suc (length (take b blocks))) (drop b blocks)))
 
-cut-long : (b : ℕ) (blocks : List Block) → (drop b blocks ≡ []) ⊎ (length (take b blocks) ≡ b)
-cut-long zero blocks = inr refl
-cut-long (suc b) [] = inl refl
-cut-long (suc b) (block ∷ blocks) = elim (cut-long b blocks) [ inl e ↦ inl e | inr e ↦ inr (ap suc e) ]
+cut_long : (b : ℕ) (blocks : List Block) → (drop b blocks ≡ []) ⊎ (length (take b blocks) ≡ b)
+cut_long zero blocks = inr refl
+cut_long (suc b) [] = inl refl
+cut_long (suc b) (block ∷ blocks) = elim (cut_long b blocks) [ inl e ↦ inl e | inr e ↦ inr (ap suc e) ]
 
-all-take : (b : ℕ) (blocks : List Block) → AllByRecursion IsBlock blocks → AllByRecursion IsBlock (take b blocks)
-all-take zero blocks all = tt
-all-take (suc b) [] all = tt
-all-take (suc b) (block ∷ blocks) all = (all.0, all-take b blocks all.1)
+all_take : (b : ℕ) (blocks : List Block) → AllByRecursion IsBlock blocks → AllByRecursion IsBlock (take b blocks)
+all_take zero blocks all = tt
+all_take (suc b) [] all = tt
+all_take (suc b) (block ∷ blocks) all = (all.0, all_take b blocks all.1)
 
-rest-above : (number b : ℕ) (blocks : List Block) →
+rest_above : (number b : ℕ) (blocks : List Block) →
     AllByRecursion (λ (c : Callout). nat_lt c.block b ≡ false)
     (callouts_from number (0 + length (take b blocks)) (drop b blocks))
-rest-above number b blocks = elim (cut-long b blocks) [
+rest_above number b blocks = elim (cut_long b blocks) [
   | inl none ↦ subst (λ (rest : List Block). AllByRecursion (λ (c : Callout). nat_lt c.block b ≡ false)
       (callouts_from number (0 + length (take b blocks)) rest)) (sym none) tt
-  | inr long ↦ all-above number b (0 + length (take b blocks)) (drop b blocks) (omega (arith, long))
+  | inr long ↦ all_above number b (0 + length (take b blocks)) (drop b blocks) (omega (arith, long))
 ]
 
-pub above-is : (number b n : ℕ) (blocks : List Block) → AllByRecursion IsBlock blocks →
+pub above_is : (number b n : ℕ) (blocks : List Block) → AllByRecursion IsBlock blocks →
     n ≤ length (callouts_from number 0 blocks) →
     (IsPartitionedBy (λ (c : Callout). nat_lt c.block b) (callouts_from number 0 blocks) →
     IsPartitionPoint (λ (c : Callout). nat_lt c.block b ≡ true) (λ (c : Callout). nat_lt c.block b ≡ false)
     (callouts_from number 0 blocks) n) →
     n ≡ length (sizes_of number (flat (take b blocks) []))
-above-is number b n blocks all le point =
+above_is number b n blocks all le point =
     let p : Callout → Bool = λ c. nat_lt c.block b in
     let xs : List Callout = callouts_from number 0 (take b blocks) in
     let ys : List Callout = callouts_from number (0 + length (take b blocks)) (drop b blocks) in
     let e : callouts_from number 0 blocks ≡ xs ++ ys = cut number b 0 blocks in
-    let a = all-below number b 0 (take b blocks) (omega (arith, take-short b blocks)) in
-    found p (record { block = 0; size = 0 }) xs ys (callouts_from number 0 blocks) n e a (rest-above number b blocks)
+    let a = all_below number b 0 (take b blocks) (omega (arith, take_short b blocks)) in
+    found p (record { block = 0; size = 0 }) xs ys (callouts_from number 0 blocks) n e a (rest_above number b blocks)
     le point
-    ∙ length-from number 0 (take b blocks) (all-take b blocks all)
+    ∙ length_from number 0 (take b blocks) (all_take b blocks all)
 
 -- ---- with the items of the variant
 
-within-is : (number i : ℕ) (items : List Item) →
+within_is : (number i : ℕ) (items : List Item) →
     length (sizes_of number (take i items)) ≡ length (sizes_of number (if i == 0 then [] else take i items))
-within-is number zero items = refl
-within-is number (suc i) items =
-    ap (λ (t : Bool). length (sizes_of number (if t then [] else take (suc i) items))) (sym (suc-not i))
+within_is number zero items = refl
+within_is number (suc i) items =
+    ap (λ (t : Bool). length (sizes_of number (if t then [] else take (suc i) items))) (sym (suc_not i))
   where
-    suc-not : (i : ℕ) → (suc i == 0) ≡ false
-    suc-not i = grind (arith, nat_tests)
+    suc_not : (i : ℕ) → (suc i == 0) ≡ false
+    suc_not i = grind (arith, nat_tests)
 
-pub before-is : (number above within : ℕ) (blocks : List Block) (at : Place) →
+pub before_is : (number above within : ℕ) (blocks : List Block) (at : Place) →
     above ≡ length (sizes_of number (flat (take at.block blocks) [])) →
     within ≡ length (sizes_of number (take at.index (items_around blocks at))) →
     above + within ≡ length (sizes_of number (items_before blocks at))
-before-is number above within blocks at a w =
+before_is number above within blocks at a w =
     let s = inserted_append number (flat (take at.block blocks) [])
     (if at.index == 0 then [] else take at.index (items_around blocks at)) in
-    let t = w ∙ within-is number at.index (items_around blocks at) in
+    let t = w ∙ within_is number at.index (items_around blocks at) in
     omega (arith, a, t, s)
 
 -- ---- what is kept for a slot
@@ -135,59 +134,59 @@ record IsSlot (blocks : List Block) (numbers : List ℕ) (slot : ℕ) (kept : Cl
   there : slice_get numbers slot ≡ Some number
   same : kept ≡ class_floats blocks number
 
-slot-is : (blocks : List Block) (numbers : List ℕ) (slot : ℕ) (kept : ClassFloatsValue) →
+slot_is : (blocks : List Block) (numbers : List ℕ) (slot : ℕ) (kept : ClassFloatsValue) →
     slice_get (map (class_floats blocks) numbers) slot ≡ Some kept → IsSlot blocks numbers slot kept
-slot-is blocks [] slot kept e = absurd (cc)
-slot-is blocks (number ∷ numbers) zero kept e =
+slot_is blocks [] slot kept e = absurd (cc)
+slot_is blocks (number ∷ numbers) zero kept e =
     record { number = number; there = refl; same = let s : class_floats blocks number ≡ kept = cc in sym s }
-slot-is blocks (number ∷ numbers) (suc slot) kept e =
-    let r = slot-is blocks numbers slot kept e in
+slot_is blocks (number ∷ numbers) (suc slot) kept e =
+    let r = slot_is blocks numbers slot kept e in
     record { number = r.number; there = r.there; same = r.same }
 
-entry-at : (f : ℕ → ℕ) (numbers : List ℕ) (slot number : ℕ) → slice_get numbers slot ≡ Some number →
+entry_at : (f : ℕ → ℕ) (numbers : List ℕ) (slot number : ℕ) → slice_get numbers slot ≡ Some number →
     entry (map f numbers) slot ≡ f number
-entry-at f [] slot number e = absurd (cc)
-entry-at f (n ∷ numbers) zero number e = let same : n ≡ number = cc in ap f same
-entry-at f (n ∷ numbers) (suc slot) number e = entry-at f numbers slot number e
+entry_at f [] slot number e = absurd (cc)
+entry_at f (n ∷ numbers) zero number e = let same : n ≡ number = cc in ap f same
+entry_at f (n ∷ numbers) (suc slot) number e = entry_at f numbers slot number e
 
-entry-none : (blocks : List Block) (f : ℕ → ℕ) (numbers : List ℕ) (slot : ℕ) →
+entry_none : (blocks : List Block) (f : ℕ → ℕ) (numbers : List ℕ) (slot : ℕ) →
     slice_get (map (class_floats blocks) numbers) slot ≡ None → entry (map f numbers) slot ≡ 0
-entry-none blocks f [] slot e = refl
-entry-none blocks f (n ∷ numbers) zero e = absurd (cc)
-entry-none blocks f (n ∷ numbers) (suc slot) e = entry-none blocks f numbers slot e
+entry_none blocks f [] slot e = refl
+entry_none blocks f (n ∷ numbers) zero e = absurd (cc)
+entry_none blocks f (n ∷ numbers) (suc slot) e = entry_none blocks f numbers slot e
 
-pub called-none : (blocks : List Block) (style : StyleValue) (at : Place) (list : List ClassFloatsValue)
+pub called_none : (blocks : List Block) (style : StyleValue) (at : Place) (list : List ClassFloatsValue)
     (slot : ℕ) → AreFloats blocks style list →
     slice_get list slot ≡ None → 0 ≡ entry (called blocks style at) slot
-called-none blocks style at list slot are e =
-    sym (entry-none blocks (λ number. length (sizes_of number (items_before blocks at))) (float_numbers style) slot
+called_none blocks style at list slot are e =
+    sym (entry_none blocks (λ number. length (sizes_of number (items_before blocks at))) (float_numbers style) slot
     (ap (λ xs. slice_get xs slot) (sym are.floats_are) ∙ e))
 
-pub called-some : (blocks : List Block) (style : StyleValue) (at : Place) (list : List ClassFloatsValue)
+pub called_some : (blocks : List Block) (style : StyleValue) (at : Place) (list : List ClassFloatsValue)
     (slot n : ℕ) (kept : ClassFloatsValue) → AreFloats blocks style list →
     slice_get list slot ≡ Some kept →
     ((blocks : List Block) (number : ℕ) → AllByRecursion IsBlock blocks → kept ≡ class_floats blocks number →
     n ≡ length (sizes_of number (items_before blocks at))) →
     n ≡ entry (called blocks style at) slot
-called-some blocks style at list slot n kept are e count =
-    let is = slot-is blocks (float_numbers style) slot kept (ap (λ xs. slice_get xs slot) (sym are.floats_are)
+called_some blocks style at list slot n kept are e count =
+    let is = slot_is blocks (float_numbers style) slot kept (ap (λ xs. slice_get xs slot) (sym are.floats_are)
     ∙ e) in
     count blocks is.number are.shape is.same
-    ∙ sym (entry-at (λ number. length (sizes_of number (items_before blocks at)))
+    ∙ sym (entry_at (λ number. length (sizes_of number (items_before blocks at)))
     (float_numbers style) slot is.number is.there)
 
 -- ---- sizes
 
-mapped-at : {X Y : Type 0} (f : X → Y) (xs : List X) (k : ℕ) →
+mapped_at : {X Y : Type 0} (f : X → Y) (xs : List X) (k : ℕ) →
     slice_get (map f xs) k ≡ option_map f (slice_get xs k)
-mapped-at f [] k = refl
-mapped-at f (x ∷ xs) zero = refl
-mapped-at f (x ∷ xs) (suc k) = mapped-at f xs k
+mapped_at f [] k = refl
+mapped_at f (x ∷ xs) zero = refl
+mapped_at f (x ∷ xs) (suc k) = mapped_at f xs k
 
-pub size-is : (blocks : List Block) (style : StyleValue) (list : List ClassFloatsValue) (slot number : ℕ) →
+pub size_is : (blocks : List Block) (style : StyleValue) (list : List ClassFloatsValue) (slot number : ℕ) →
     AreFloats blocks style list →
     option_map size_of (callout_at list slot number) ≡ float_size blocks style slot number
-size-is blocks style list slot number are =
+size_is blocks style list slot number are =
     ap (λ (xs : List ClassFloatsValue). option_map size_of (callout_at xs slot number)) are.floats_are
     ∙ by (float_numbers style) slot
   where
@@ -197,7 +196,7 @@ size-is blocks style list slot number are =
         (slice_get (map (λ number. sizes_of number (flat blocks [])) numbers) slot) None
     by [] slot = refl
     by (n ∷ numbers) zero =
-        sym (mapped-at size_of (callouts_from n 0 blocks) number)
-        ∙ (ap (λ (xs : List ℤ). slice_get xs number) (sizes-from n 0 blocks are.shape)
-        ∙ ap (λ (xs : List Item). slice_get (sizes_of n xs) number) (sym (flat-first blocks)))
+        sym (mapped_at size_of (callouts_from n 0 blocks) number)
+        ∙ (ap (λ (xs : List ℤ). slice_get xs number) (sizes_from n 0 blocks are.shape)
+        ∙ ap (λ (xs : List Item). slice_get (sizes_of n xs) number) (sym (flat_first blocks)))
     by (n ∷ numbers) (suc slot) = by numbers slot

@@ -4,7 +4,7 @@ use Rattle.std.proofs.Common.{length-append, map, arith, Bool, true, false, Opti
 use Rattle.std.specs.Prelude.{◌==◌, if◌then◌else◌, option_map, is_none, unsigned_abs, Result, Ok, Err}
 use Rattle.std.specs.List.{AllByRecursion, filter, filter_map, find, cons_option, sum_by}
 use Rattle.std.proofs.lemmas.Int.{ints}
-use Rattle.std.proofs.lemmas.List.{map-append}
+use Rattle.std.proofs.lemmas.List.{map-append, length-map}
 use Rattle.std.proofs.lemmas.List.Elements.{filter_map-append}
 use Rattle.std.proofs.lemmas.List.Sums.{sum_by-cons}
 use Rattle.pg_list.specs.declared.item.Item.{Item}
@@ -22,54 +22,56 @@ use Rattle.pg_style.specs.Values.{StyleValue}
 use Rattle.pg_style.specs.declared.style.Class.{Class}
 use Rattle.pg_rules.specs.Floats.{sizes_of, insert_size, float_numbers}
 use Rattle.pg_rules.specs.Legal.{or_else}
-use Rattle.pg_places.proofs.Measures.{variant_items, picked_size}
-use Rattle.pg_places.proofs.Places.{begins}
-use Rattle.pg_floats.proofs.Numbers.{numbers-are}
+use Rattle.pg_place_laws.proofs.Measures.{variant_items}
+use Rattle.pg_place_laws.proofs.Places.{begins}
+use Rattle.pg_floats.proofs.Numbers.{numbers_are}
 use Rattle.pg_floats.specs.declared.callouts.Callout.{Callout}
 use Rattle.pg_floats.specs.declared.fault.FloatFault.{FloatFault}
 use Rattle.pg_floats.specs.declared.fault.FloatFault.TheVariants.{Class as FaultClass, Limit, Memory}
 use Rattle.pg_floats.specs.AreFloats.{HasFloats, IsWithinLimit}
 use Rattle.pg_floats.specs.FloatsValue.{ClassFloatsValue, total_of}
-use Rattle.pg_floats.specs.Callouts.{callouts_in, callouts_from, class_floats, first_items, insert_class, strange_among}
-use Rattle.pg_floats.specs.Callouts.{strange_blocks, lists_from}
+use Rattle.pg_floats.specs.Callouts.{callouts_in, callouts_from, class_floats, first_items, insert_class, unknown_among}
+use Rattle.pg_floats.specs.Callouts.{unknown_blocks, lists_from}
+use Rattle.pg_list.proofs.Sizes.{picked_le}
+use Rattle.pg_place_laws.proofs.Sizes.{sizes_few}
 
 -- ---- the flat list, block by block
 
-first-from : (n : ℕ) (blocks : List Block) →
+first_from : (n : ℕ) (blocks : List Block) →
     map (λ (flat_item : FlatItem). flat_item.item) (flat_items_from n blocks []) ≡ first_items blocks
-first-from n [] = refl
-first-from n (One item ∷ blocks) = ap (λ (xs : List Item). item ∷ xs) (first-from (n + 1) blocks)
-first-from n (Choice variants ∷ blocks) =
+first_from n [] = refl
+first_from n (One item ∷ blocks) = ap (λ (xs : List Item). item ∷ xs) (first_from (n + 1) blocks)
+first_from n (Choice variants ∷ blocks) =
     map-append (λ (flat_item : FlatItem). flat_item.item)
     (variant_flat_items n 0 (picked_items (Choice variants) 0)) (flat_items_from (n + 1) blocks [])
     ∙ (ap (λ (xs : List Item). xs
     ++ map (λ (flat_item : FlatItem). flat_item.item) (flat_items_from (n + 1) blocks []))
     (variant_items 0 n 0 (picked_items (Choice variants) 0))
-    ∙ ap (λ (xs : List Item). picked_items (Choice variants) 0 ++ xs) (first-from (n + 1) blocks))
+    ∙ ap (λ (xs : List Item). picked_items (Choice variants) 0 ++ xs) (first_from (n + 1) blocks))
 
-pub flat-first : (blocks : List Block) → flat blocks [] ≡ first_items blocks
-flat-first blocks = first-from 0 blocks
+pub flat_first : (blocks : List Block) → flat blocks [] ≡ first_items blocks
+flat_first blocks = first_from 0 blocks
 
-picked-range : (block : Block) → IsBlock block → AllByRecursion IsItemInRange (picked_items block 0)
-picked-range (One item) is = (is, tt)
-picked-range (Choice []) is = tt
-picked-range (Choice (variant ∷ variants)) is = is.ranges.0
+picked_range : (block : Block) → IsBlock block → AllByRecursion IsItemInRange (picked_items block 0)
+picked_range (One item) is = (is, tt)
+picked_range (Choice []) is = tt
+picked_range (Choice (variant ∷ variants)) is = is.ranges.0
 
 -- ---- sizes
 
 abbrev pub size_of : Callout → ℤ
 size_of callout = pos callout.size
 
-sizes-in : (number b : ℕ) (items : List Item) → AllByRecursion IsItemInRange items →
+sizes_in : (number b : ℕ) (items : List Item) → AllByRecursion IsItemInRange items →
     map size_of (callouts_in number b items) ≡ sizes_of number items
-sizes-in number b [] all = refl
-sizes-in number b (BoxItem h d body ∷ items) all = sizes-in number b items all.1
-sizes-in number b (Rule h d body ∷ items) all = sizes-in number b items all.1
-sizes-in number b (Glue w s o k body ∷ items) all = sizes-in number b items all.1
-sizes-in number b (Kern w body ∷ items) all = sizes-in number b items all.1
-sizes-in number b (Penalty v body ∷ items) all = sizes-in number b items all.1
-sizes-in number b (Insert c z body ∷ items) all =
-    by (c == number) (callouts_in number b items) (sizes_of number items) (sizes-in number b items all.1)
+sizes_in number b [] all = refl
+sizes_in number b (BoxItem h d body ∷ items) all = sizes_in number b items all.1
+sizes_in number b (Rule h d body ∷ items) all = sizes_in number b items all.1
+sizes_in number b (Glue w s o k body ∷ items) all = sizes_in number b items all.1
+sizes_in number b (Kern w body ∷ items) all = sizes_in number b items all.1
+sizes_in number b (Penalty v body ∷ items) all = sizes_in number b items all.1
+sizes_in number b (Insert c z body ∷ items) all =
+    by (c == number) (callouts_in number b items) (sizes_of number items) (sizes_in number b items all.1)
   where
     by : (t : Bool) (xs : List Callout) (ys : List ℤ) → map size_of xs ≡ ys →
         map size_of (cons_option
@@ -77,47 +79,35 @@ sizes-in number b (Insert c z body ∷ items) all =
         (if t then Some z else None)) xs) ≡ cons_option (if t then Some z else None) ys
     by true xs ys e = let from = all.0.1 in let same : pos (unsigned_abs z) ≡ z = omega (arith, ints, from) in cc
     by false xs ys e = e
-sizes-in number b (Carry body ∷ items) all = sizes-in number b items all.1
+sizes_in number b (Carry body ∷ items) all = sizes_in number b items all.1
 
-pub sizes-from : (number n : ℕ) (blocks : List Block) → AllByRecursion IsBlock blocks →
+pub sizes_from : (number n : ℕ) (blocks : List Block) → AllByRecursion IsBlock blocks →
     map size_of (callouts_from number n blocks) ≡ sizes_of number (first_items blocks)
-sizes-from number n [] all = refl
-sizes-from number n (block ∷ blocks) all =
+sizes_from number n [] all = refl
+sizes_from number n (block ∷ blocks) all =
     map-append size_of (callouts_in number n (picked_items block 0)) (callouts_from number (n + 1) blocks)
     ∙ (ap (λ (xs : List ℤ). xs ++ map size_of (callouts_from number (n + 1) blocks))
-    (sizes-in number n (picked_items block 0) (picked-range block all.0))
-    ∙ (ap (λ (xs : List ℤ). sizes_of number (picked_items block 0) ++ xs) (sizes-from number (n + 1) blocks all.1)
+    (sizes_in number n (picked_items block 0) (picked_range block all.0))
+    ∙ (ap (λ (xs : List ℤ). sizes_of number (picked_items block 0) ++ xs) (sizes_from number (n + 1) blocks all.1)
     ∙ sym (filter_map-append (insert_size number) (picked_items block 0) (first_items blocks))))
 
-mapped : {X Y : Type 0} (f : X → Y) (xs : List X) → length (map f xs) ≡ length xs
-mapped f [] = refl
-mapped f (x ∷ xs) = ap suc (mapped f xs)
-
-pub length-from : (number n : ℕ) (blocks : List Block) → AllByRecursion IsBlock blocks →
+pub length_from : (number n : ℕ) (blocks : List Block) → AllByRecursion IsBlock blocks →
     length (callouts_from number n blocks) ≡ length (sizes_of number (flat blocks []))
-length-from number n blocks all =
-    sym (mapped size_of (callouts_from number n blocks))
-    ∙ (ap length (sizes-from number n blocks all)
-    ∙ ap (λ (xs : List Item). length (sizes_of number xs)) (sym (flat-first blocks)))
+length_from number n blocks all =
+    sym (length-map (callouts_from number n blocks) size_of)
+    ∙ (ap length (sizes_from number n blocks all)
+    ∙ ap (λ (xs : List Item). length (sizes_of number xs)) (sym (flat_first blocks)))
 
 -- ---- how many
 
 abbrev class_list : List Block → Class → ClassFloatsValue
 class_list blocks class = class_floats blocks class.number
 
-pub sizes-few : (number : ℕ) (items : List Item) → length (sizes_of number items) ≤ length items
-sizes-few number [] = omega arith
-sizes-few number (item ∷ items) = by (insert_size number item) (sizes_of number items) (sizes-few number items)
-  where
-    by : (o : Option ℤ) (xs : List ℤ) → length xs ≤ length items → length (cons_option o xs) ≤ suc (length items)
-    by None xs h = omega arith
-    by (Some z) xs h = omega arith
-
-first-few : (blocks : List Block) → length (first_items blocks) ≤ item_count blocks
-first-few [] = omega arith
-first-few (block ∷ blocks) =
-    let one = picked_size block 0 in
-    let rest = first-few blocks in
+first_few : (blocks : List Block) → length (first_items blocks) ≤ item_count blocks
+first_few [] = omega arith
+first_few (block ∷ blocks) =
+    let one = picked_le block 0 in
+    let rest = first_few blocks in
     omega (
       arith,
       one,
@@ -126,33 +116,33 @@ first-few (block ∷ blocks) =
       sum_by-cons block_size block blocks,
     )
 
-pub class-few : (number n : ℕ) (blocks : List Block) → AllByRecursion IsBlock blocks →
+pub class_few : (number n : ℕ) (blocks : List Block) → AllByRecursion IsBlock blocks →
     length (callouts_from number n blocks) ≤ item_count blocks
-class-few number n blocks all =
-    let e = length-from number n blocks all in
-    let f = ap (λ (xs : List Item). length (sizes_of number xs)) (flat-first blocks) in
-    omega (arith, e, f, sizes-few number (first_items blocks), first-few blocks)
+class_few number n blocks all =
+    let e = length_from number n blocks all in
+    let f = ap (λ (xs : List Item). length (sizes_of number xs)) (flat_first blocks) in
+    omega (arith, e, f, sizes_few number (first_items blocks), first_few blocks)
 
-pub lists-few : (blocks : List Block) (classes : List Class) → length (lists_from blocks classes) ≤ length classes
-lists-few blocks [] = omega arith
-lists-few blocks (class ∷ classes) =
-    by (is_float_class class) (filter is_float_class classes) (lists-few blocks classes)
+pub lists_few : (blocks : List Block) (classes : List Class) → length (lists_from blocks classes) ≤ length classes
+lists_few blocks [] = omega arith
+lists_few blocks (class ∷ classes) =
+    by (is_float_class class) (filter is_float_class classes) (lists_few blocks classes)
   where
     by : (t : Bool) (xs : List Class) → length (map (class_list blocks) xs) ≤ length classes →
         length (map (class_list blocks) (if t then class ∷ xs else xs)) ≤ suc (length classes)
     by true xs h = omega arith
     by false xs h = omega arith
 
-pub total-few : (blocks : List Block) (classes : List Class) → AllByRecursion IsBlock blocks →
+pub total_few : (blocks : List Block) (classes : List Class) → AllByRecursion IsBlock blocks →
     total_of (lists_from blocks classes) ≤ item_count blocks * length classes
-total-few blocks [] all = omega arith
-total-few blocks (class ∷ classes) all =
-    by (is_float_class class) (filter is_float_class classes) (total-few blocks classes all)
+total_few blocks [] all = omega arith
+total_few blocks (class ∷ classes) all =
+    by (is_float_class class) (filter is_float_class classes) (total_few blocks classes all)
   where
     by : (t : Bool) (xs : List Class) → total_of (map (class_list blocks) xs) ≤ item_count blocks * length classes →
         total_of (map (class_list blocks) (if t then class ∷ xs else xs)) ≤ item_count blocks * suc (length classes)
     by true xs h =
-        let one = class-few class.number 0 blocks all in
+        let one = class_few class.number 0 blocks all in
         let s = sum_by-cons (λ (floats : ClassFloatsValue). length floats.callouts) (class_list blocks class)
         (map (class_list blocks) xs) in
         omega (arith, one, s, h)
@@ -160,72 +150,59 @@ total-few blocks (class ∷ classes) all =
 
 -- ---- the first strange insert
 
-find-append : (p : ℕ → Bool) (xs ys : List ℕ) → find p (xs ++ ys) ≡ or_else (find p xs) (find p ys)
-find-append p [] ys = refl
-find-append p (x ∷ xs) ys = by (p x) (find-append p xs ys)
+find_append : (p : ℕ → Bool) (xs ys : List ℕ) → find p (xs ++ ys) ≡ or_else (find p xs) (find p ys)
+find_append p [] ys = refl
+find_append p (x ∷ xs) ys = by (p x) (find_append p xs ys)
   where
     by : (t : Bool) → find p (xs ++ ys) ≡ or_else (find p xs) (find p ys) →
         (if t then Some x else find p (xs ++ ys)) ≡ or_else (if t then Some x else find p xs) (find p ys)
     by true e = refl
     by false e = e
 
-pub strange-is : (classes : List Class) (blocks : List Block) →
-    strange_blocks classes blocks ≡ strange_among classes (first_items blocks)
-strange-is classes [] = refl
-strange-is classes (block ∷ blocks) =
-    ap (or_else (strange_among classes (picked_items block 0))) (strange-is classes blocks)
+pub strange_is : (classes : List Class) (blocks : List Block) →
+    unknown_blocks classes blocks ≡ unknown_among classes (first_items blocks)
+strange_is classes [] = refl
+strange_is classes (block ∷ blocks) =
+    ap (or_else (unknown_among classes (picked_items block 0))) (strange_is classes blocks)
     ∙ sym (ap (find (λ number. is_none (class_in classes number)))
     (filter_map-append insert_class (picked_items block 0) (first_items blocks))
-    ∙ find-append (λ number. is_none (class_in classes number)) (filter_map insert_class (picked_items block 0))
+    ∙ find_append (λ number. is_none (class_in classes number)) (filter_map insert_class (picked_items block 0))
     (filter_map insert_class (first_items blocks)))
-
-pub blocks-few : (blocks : List Block) → AllByRecursion IsBlock blocks → length blocks ≤ item_count blocks
-blocks-few [] all = omega arith
-blocks-few (block ∷ blocks) all =
-    let one = block-some block all.0 in
-    let rest = blocks-few blocks all.1 in
-    omega (arith, one, rest, sum_by-cons block_size block blocks)
-  where
-    block-some : (block : Block) → IsBlock block → 1 ≤ block_size block
-    block-some (One item) is = omega arith
-    block-some (Choice variants) is =
-        let some : 0 < length (picked_items (Choice variants) 0) = begins variants is in
-        omega (arith, some, picked_size (Choice variants) 0)
 
 -- ---- the lists of the definition
 
-mapped-twice : {X Y Z : Type 0} (f : Y → Z) (g : X → Y) (xs : List X) → map f (map g xs) ≡ map (λ x. f (g x)) xs
-mapped-twice f g [] = refl
-mapped-twice f g (x ∷ xs) = ap (λ ys. f (g x) ∷ ys) (mapped-twice f g xs)
+mapped_twice : {X Y Z : Type 0} (f : Y → Z) (g : X → Y) (xs : List X) → map f (map g xs) ≡ map (λ x. f (g x)) xs
+mapped_twice f g [] = refl
+mapped_twice f g (x ∷ xs) = ap (λ ys. f (g x) ∷ ys) (mapped_twice f g xs)
 
-pub lists-are : (blocks : List Block) (style : StyleValue) → AreClasses style.classes →
+pub lists_are : (blocks : List Block) (style : StyleValue) → AreClasses style.classes →
     lists_from blocks style.classes ≡ map (class_floats blocks) (float_numbers style)
-lists-are blocks style are =
-    sym (mapped-twice (class_floats blocks) (λ (class : Class). class.number) (filter is_float_class style.classes))
-    ∙ ap (map (class_floats blocks)) (sym (numbers-are style are))
+lists_are blocks style are =
+    sym (mapped_twice (class_floats blocks) (λ (class : Class). class.number) (filter is_float_class style.classes))
+    ∙ ap (map (class_floats blocks)) (sym (numbers_are style are))
 
-pub total-is : (blocks : List Block) (numbers : List ℕ) → AllByRecursion IsBlock blocks →
+pub the_total_is : (blocks : List Block) (numbers : List ℕ) → AllByRecursion IsBlock blocks →
     total_of (map (class_floats blocks) numbers)
     ≡ sum_by (λ (sizes : List ℤ). length sizes) (map (λ number. sizes_of number (flat blocks [])) numbers)
-total-is blocks [] all = refl
-total-is blocks (number ∷ numbers) all =
+the_total_is blocks [] all = refl
+the_total_is blocks (number ∷ numbers) all =
     sum_by-cons (λ (floats : ClassFloatsValue). length floats.callouts) (class_floats blocks number)
     (map (class_floats blocks) numbers)
-    ∙ (ap (λ n. n + total_of (map (class_floats blocks) numbers)) (length-from number 0 blocks all)
-    ∙ (ap (λ n. length (sizes_of number (flat blocks [])) + n) (total-is blocks numbers all)
+    ∙ (ap (λ n. n + total_of (map (class_floats blocks) numbers)) (length_from number 0 blocks all)
+    ∙ (ap (λ n. length (sizes_of number (flat blocks [])) + n) (the_total_is blocks numbers all)
     ∙ sym (sum_by-cons (λ (sizes : List ℤ). length sizes) (sizes_of number (flat blocks []))
     (map (λ number. sizes_of number (flat blocks [])) numbers))))
 
-pub has-floats : (r : Result (List ClassFloatsValue) FloatFault) (blocks : List Block) (style : StyleValue) →
+pub has_floats : (r : Result (List ClassFloatsValue) FloatFault) (blocks : List Block) (style : StyleValue) →
     AllByRecursion IsBlock blocks →
     AreClasses style.classes → IsWithinLimit r (lists_from blocks style.classes) → HasFloats r blocks style
-has-floats (Ok list) blocks style all are h =
-    let e = lists-are blocks style are in
-    let t = ap total_of e ∙ total-is blocks (float_numbers style) all in
+has_floats (Ok list) blocks style all are h =
+    let e = lists_are blocks style are in
+    let t = ap total_of e ∙ the_total_is blocks (float_numbers style) all in
     (record { shape = all; floats_are = h.0 ∙ e }, omega (arith, t, h.1))
-has-floats (Err (FaultClass number)) blocks style all are h = h
-has-floats (Err (Limit count)) blocks style all are h =
-    let e = lists-are blocks style are in
-    let t = ap total_of e ∙ total-is blocks (float_numbers style) all in
+has_floats (Err (FaultClass number)) blocks style all are h = h
+has_floats (Err (Limit count)) blocks style all are h =
+    let e = lists_are blocks style are in
+    let t = ap total_of e ∙ the_total_is blocks (float_numbers style) all in
     (omega (arith, t, h.0), h.1)
-has-floats (Err Memory) blocks style all are h = tt
+has_floats (Err Memory) blocks style all are h = tt

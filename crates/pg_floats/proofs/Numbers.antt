@@ -20,14 +20,14 @@ is_float_number classes number =
     option_map_or (λ (kind : Area × List ℕ). true)
     (option_map_or (λ (class : Class). float_kind class.kind) (class_in classes number) None) false
 
-kind-is : (kind : Kind) →
+kind_is : (kind : Kind) →
     option_map_or (λ (kind : Area × List ℕ). true) (float_kind kind) false ≡ is_float_kind kind
-kind-is (Note skip limit) = refl
-kind-is (Float area distance) = refl
+kind_is (Note skip limit) = refl
+kind_is (Float area distance) = refl
 
-own-number : (class : Class) (classes : List Class) (n : ℕ) → class.number ≡ n →
+own_number : (class : Class) (classes : List Class) (n : ℕ) → class.number ≡ n →
     is_float_number (class ∷ classes) n ≡ is_float_class class
-own-number class classes n e = by (class.number == n) (same class.number n e)
+own_number class classes n e = by (class.number == n) (same class.number n e)
   where
     same : (a b : ℕ) → a ≡ b → (a == b) ≡ true
     same a b e = grind (arith, nat_tests)
@@ -36,12 +36,12 @@ own-number class classes n e = by (class.number == n) (same class.number n e)
         option_map_or (λ (kind : Area × List ℕ). true)
         (option_map_or (λ (class : Class). float_kind class.kind)
         (if t then Some class else class_in classes n) None) false ≡ is_float_class class
-    by true e = kind-is class.kind
+    by true e = kind_is class.kind
     by false e = absurd (cc)
 
-other-number : (class : Class) (classes : List Class) (n : ℕ) → class.number ≢ n →
+other_number : (class : Class) (classes : List Class) (n : ℕ) → class.number ≢ n →
     is_float_number (class ∷ classes) n ≡ is_float_number classes n
-other-number class classes n e = by (class.number == n) (differ class.number n e)
+other_number class classes n e = by (class.number == n) (differ class.number n e)
   where
     differ : (a b : ℕ) → a ≢ b → (a == b) ≡ false
     differ a b e = grind (arith, nat_tests)
@@ -54,11 +54,11 @@ other-number class classes n e = by (class.number == n) (differ class.number n e
     by false e = refl
 
 -- a test from one number on
-alike-from : (p q : ℕ → Bool) (a k : ℕ) → ((n : ℕ) → a ≤ n → p n ≡ q n) →
+alike_from : (p q : ℕ → Bool) (a k : ℕ) → ((n : ℕ) → a ≤ n → p n ≡ q n) →
     filter p (range_with_len a k) ≡ filter q (range_with_len a k)
-alike-from p q a zero same = refl
-alike-from p q a (suc k) same =
-    let rest = alike-from p q (a + 1) k (λ n h. same n (omega (arith, h))) in
+alike_from p q a zero same = refl
+alike_from p q a (suc k) same =
+    let rest = alike_from p q (a + 1) k (λ n h. same n (omega (arith, h))) in
     by (p a) (q a) (same a (omega arith)) rest
   where
     by : (s t : Bool) → s ≡ t → filter p (range_with_len (a + 1) k) ≡ filter q (range_with_len (a + 1) k) →
@@ -69,15 +69,15 @@ alike-from p q a (suc k) same =
     by false true e r = absurd (cc)
     by false false e r = r
 
-none-from : (a k : ℕ) → filter (is_float_number []) (range_with_len a k) ≡ []
-none-from a zero = refl
-none-from a (suc k) = none-from (a + 1) k
+none_from : (a k : ℕ) → filter (is_float_number []) (range_with_len a k) ≡ []
+none_from a zero = refl
+none_from a (suc k) = none_from (a + 1) k
 
 below : (a : ℕ) (classes : List Class) (n : ℕ) → AllByRecursion (λ (class : Class). n < class.number) classes →
     is_float_number classes n ≡ false
 below a [] n all = refl
 below a (class ∷ classes) n all =
-    other-number class classes n (λ e. omega (arith, all.0, e)) ∙ below a classes n all.1
+    other_number class classes n (λ e. omega (arith, all.0, e)) ∙ below a classes n all.1
 
 -- numbers from a on, k of them
 record Within (a k : ℕ) (class : Class) : Type 0 where
@@ -90,40 +90,40 @@ above a k [] all more = tt
 above a k (class ∷ classes) all more =
     (record { from = omega (arith, more.0); to = omega (arith, all.0.to) }, above a k classes all.1 more.1)
 
-more-than : (m n : ℕ) (classes : List Class) → m ≤ n →
+more_than : (m n : ℕ) (classes : List Class) → m ≤ n →
     AllByRecursion (λ (class : Class). n < class.number) classes →
     AllByRecursion (λ (class : Class). m < class.number) classes
-more-than m n [] h all = tt
-more-than m n (class ∷ classes) h all = (omega (arith, all.0), more-than m n classes h all.1)
+more_than m n [] h all = tt
+more_than m n (class ∷ classes) h all = (omega (arith, all.0), more_than m n classes h all.1)
 
-at-or-above : (a n : ℕ) → a ≤ n → (n ≡ a) ⊎ (a < n)
-at-or-above zero zero h = inl refl
-at-or-above zero (suc n) h = inr (omega arith)
-at-or-above (suc a) zero h = absurd (omega arith)
-at-or-above (suc a) (suc n) h =
-    elim (at-or-above a n (omega arith)) [ inl e ↦ inl (ap suc e) | inr l ↦ inr (omega (arith, l)) ]
+at_or_above : (a n : ℕ) → a ≤ n → (n ≡ a) ⊎ (a < n)
+at_or_above zero zero h = inl refl
+at_or_above zero (suc n) h = inr (omega arith)
+at_or_above (suc a) zero h = absurd (omega arith)
+at_or_above (suc a) (suc n) h =
+    elim (at_or_above a n (omega arith)) [ inl e ↦ inl (ap suc e) | inr l ↦ inr (omega (arith, l)) ]
 
-numbers-from : (k a : ℕ) (classes : List Class) → AreInOrder classes → AllByRecursion (Within a k) classes →
+numbers_from : (k a : ℕ) (classes : List Class) → AreInOrder classes → AllByRecursion (Within a k) classes →
     filter (is_float_number classes) (range_with_len a k) ≡ float_numbers_of classes
-numbers-from k a [] order all = none-from a k
-numbers-from zero a (class ∷ classes) order all = absurd (omega (arith, all.0.from, all.0.to))
-numbers-from (suc k) a (class ∷ classes) order all =
+numbers_from k a [] order all = none_from a k
+numbers_from zero a (class ∷ classes) order all = absurd (omega (arith, all.0.from, all.0.to))
+numbers_from (suc k) a (class ∷ classes) order all =
     let here : (class.number ≡ a) →
     filter (is_float_number (class ∷ classes)) (range_with_len a (suc k)) ≡ float_numbers_of (class ∷ classes) =
     λ e.
-    let later = more-than a class.number classes (omega (arith, e)) order.0 in
-    first (is_float_number (class ∷ classes) a) (is_float_class class) (own-number class classes a e) e
-    (alike-from (is_float_number (class ∷ classes)) (is_float_number classes) (a + 1) k
-    (λ n h. other-number class classes n (λ f. omega (arith, e, f, h)))
-    ∙ numbers-from k (a + 1) classes order.1 (above a k classes all.1 later)) in
+    let later = more_than a class.number classes (omega (arith, e)) order.0 in
+    first (is_float_number (class ∷ classes) a) (is_float_class class) (own_number class classes a e) e
+    (alike_from (is_float_number (class ∷ classes)) (is_float_number classes) (a + 1) k
+    (λ n h. other_number class classes n (λ f. omega (arith, e, f, h)))
+    ∙ numbers_from k (a + 1) classes order.1 (above a k classes all.1 later)) in
     let there : (a < class.number) →
     filter (is_float_number (class ∷ classes)) (range_with_len a (suc k)) ≡ float_numbers_of (class ∷ classes) =
     λ l.
     let later : AllByRecursion (λ (it : Class). a < it.number) (class ∷ classes) =
-    (l, more-than a class.number classes (omega (arith, l)) order.0) in
+    (l, more_than a class.number classes (omega (arith, l)) order.0) in
     skip (is_float_number (class ∷ classes) a) (below a (class ∷ classes) a later)
-    (numbers-from k (a + 1) (class ∷ classes) order (above a k (class ∷ classes) all later)) in
-    elim (at-or-above a class.number all.0.from) [ inl e ↦ here e | inr l ↦ there l ]
+    (numbers_from k (a + 1) (class ∷ classes) order (above a k (class ∷ classes) all later)) in
+    elim (at_or_above a class.number all.0.from) [ inl e ↦ here e | inr l ↦ there l ]
   where
     first : (s t : Bool) → s ≡ t → class.number ≡ a →
         filter (is_float_number (class ∷ classes)) (range_with_len (a + 1) k) ≡ float_numbers_of classes →
@@ -145,11 +145,11 @@ numbers-from (suc k) a (class ∷ classes) order all =
     skip true e r = absurd (cc)
     skip false e r = r
 
-all-within : (classes : List Class) → AllByRecursion IsClass classes → AllByRecursion (Within 0 255) classes
-all-within [] all = tt
-all-within (class ∷ classes) all =
-    (record { from = omega arith; to = omega (arith, all.0.number_in) }, all-within classes all.1)
+all_within : (classes : List Class) → AllByRecursion IsClass classes → AllByRecursion (Within 0 255) classes
+all_within [] all = tt
+all_within (class ∷ classes) all =
+    (record { from = omega arith; to = omega (arith, all.0.number_in) }, all_within classes all.1)
 
-pub numbers-are : (style : StyleValue) → AreClasses style.classes →
+pub numbers_are : (style : StyleValue) → AreClasses style.classes →
     float_numbers style ≡ float_numbers_of style.classes
-numbers-are style are = numbers-from 255 0 style.classes are.in_order (all-within style.classes are.each)
+numbers_are style are = numbers_from 255 0 style.classes are.in_order (all_within style.classes are.each)

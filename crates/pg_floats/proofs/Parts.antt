@@ -75,11 +75,6 @@ module _ {X : Type 0} (p : X → Bool) where
           let f = get-false xs ys (length xs) d b (omega arith) (omega (arith, h, le)) in
           absurd (cc)
 
-pub all-both : {X : Type 0} (P : X → Type 0) (xs ys : List X) → AllByRecursion P xs → AllByRecursion P ys →
-    AllByRecursion P (xs ++ ys)
-all-both P [] ys a b = b
-all-both P (x ∷ xs) ys a b = (a.0, all-both P xs ys a.1 b)
-
 -- where a search by halves ends in a list of two parts
 pub found : {X : Type 0} (p : X → Bool) (d : X) (xs ys zs : List X) (n : ℕ) → zs ≡ xs ++ ys →
     AllByRecursion (λ (x : X). p x ≡ true) xs → AllByRecursion (λ (x : X). p x ≡ false) ys → n ≤ length zs →
@@ -91,11 +86,11 @@ found {X} p d xs ys zs n e a b le point =
     let there = subst P e point in
     point-is p d xs ys n a b (subst (λ (zs : List X). n ≤ length zs) e le) (there (parted p xs ys a b))
 
-pub drop-front : {X : Type 0} (xs ys : List X) → drop (length xs) (xs ++ ys) ≡ ys
-drop-front [] ys = refl
-drop-front (x ∷ xs) ys = drop-front xs ys
+pub drop_front : {X : Type 0} (xs ys : List X) → drop (length xs) (xs ++ ys) ≡ ys
+drop_front [] ys = refl
+drop_front (x ∷ xs) ys = drop_front xs ys
 
-pub take-short : {X : Type 0} (n : ℕ) (xs : List X) → length (take n xs) ≤ n
-take-short zero xs = omega arith
-take-short (suc n) [] = omega arith
-take-short (suc n) (x ∷ xs) = let r = take-short n xs in omega (arith, r)
+pub take_short : {X : Type 0} (n : ℕ) (xs : List X) → length (take n xs) ≤ n
+take_short zero xs = omega arith
+take_short (suc n) [] = omega arith
+take_short (suc n) (x ∷ xs) = let r = take_short n xs in omega (arith, r)

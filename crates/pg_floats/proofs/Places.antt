@@ -16,27 +16,28 @@ use Rattle.pg_list.specs.Counts.{item_count, block_size}
 use Rattle.pg_list.specs.Places.{place, picked_items, items_around}
 use Rattle.pg_rules.specs.Floats.{sizes_of, insert_size}
 use Rattle.pg_floats.specs.Places.{is_before, places_in, places_among, places_of_block, places_from}
-use Rattle.pg_floats.proofs.Parts.{all-both, found, drop-front, take-short}
+use Rattle.pg_floats.proofs.Parts.{found, drop_front, take_short}
+use Rattle.pg_lemmas.proofs.Lists.{all_append}
 
 -- ---- the order of places
 
-less-block : (b v i : ℕ) (to : Place) → b < to.block → is_before (place b v i) to ≡ true
-less-block b v i to h = grind (arith, nat_tests)
+less_block : (b v i : ℕ) (to : Place) → b < to.block → is_before (place b v i) to ≡ true
+less_block b v i to h = grind (arith, nat_tests)
 
-more-block : (b v i : ℕ) (to : Place) → to.block < b → is_before (place b v i) to ≡ false
-more-block b v i to h = grind (arith, nat_tests)
+more_block : (b v i : ℕ) (to : Place) → to.block < b → is_before (place b v i) to ≡ false
+more_block b v i to h = grind (arith, nat_tests)
 
-less-variant : (b v w i j : ℕ) → v < w → is_before (place b v i) (place b w j) ≡ true
-less-variant b v w i j h = grind (arith, nat_tests)
+less_variant : (b v w i j : ℕ) → v < w → is_before (place b v i) (place b w j) ≡ true
+less_variant b v w i j h = grind (arith, nat_tests)
 
-more-variant : (b v w i j : ℕ) → w < v → is_before (place b v i) (place b w j) ≡ false
-more-variant b v w i j h = grind (arith, nat_tests)
+more_variant : (b v w i j : ℕ) → w < v → is_before (place b v i) (place b w j) ≡ false
+more_variant b v w i j h = grind (arith, nat_tests)
 
-less-index : (b v i j : ℕ) → i < j → is_before (place b v i) (place b v j) ≡ true
-less-index b v i j h = grind (arith, nat_tests)
+less_index : (b v i j : ℕ) → i < j → is_before (place b v i) (place b v j) ≡ true
+less_index b v i j h = grind (arith, nat_tests)
 
-more-index : (b v i j : ℕ) → j ≤ i → is_before (place b v i) (place b v j) ≡ false
-more-index b v i j h = grind (arith, nat_tests)
+more_index : (b v i j : ℕ) → j ≤ i → is_before (place b v i) (place b v j) ≡ false
+more_index b v i j h = grind (arith, nat_tests)
 
 -- ---- what holds of all places of a part
 
@@ -57,7 +58,7 @@ module _ (P : Place → Type 0) (number : ℕ) where
       AllByRecursion P (places_among number b w variants)
   all-among b w [] h = tt
   all-among b w (variant ∷ variants) h =
-      all-both P (places_in number b w 0 variant.items) (places_among number b (w + 1) variants)
+      all_append P (places_in number b w 0 variant.items) (places_among number b (w + 1) variants)
       (all-in b w 0 variant.items (λ j le lt. h w j (omega arith)))
       (all-among b (w + 1) variants (λ v j le. h v j (omega (arith, le))))
 
@@ -70,7 +71,7 @@ module _ (P : Place → Type 0) (number : ℕ) where
       AllByRecursion P (places_from number n blocks)
   all-from n [] h = tt
   all-from n (block ∷ blocks) h =
-      all-both P (places_of_block number n block) (places_from number (n + 1) blocks)
+      all_append P (places_of_block number n block) (places_from number (n + 1) blocks)
       (all-of-block n block (λ v j. h n v j (omega arith)))
       (all-from (n + 1) blocks (λ b v j le. h b v j (omega (arith, le))))
 
@@ -111,7 +112,7 @@ module _ (number b v : ℕ) where
     pre = xs ++ r.pre;
     post = r.post;
     is = ap (λ zs. xs ++ zs) r.is ∙ sym (append_assoc xs r.pre (places_in number b v 0 items ++ r.post));
-    below = all-both _ xs r.pre a r.below;
+    below = all_append _ xs r.pre a r.below;
     above = r.above;
   }
 
@@ -125,7 +126,7 @@ module _ (number b v : ℕ) where
         ∙ (append_assoc r.pre (places_in number b v 0 items ++ r.post) ys
         ∙ ap (λ zs. r.pre ++ zs) (append_assoc (places_in number b v 0 items) r.post ys));
     below = r.below;
-    above = λ i. all-both _ r.post ys (r.above i) (a i);
+    above = λ i. all_append _ r.post ys (r.above i) (a i);
   }
 
   around-among : (w k : ℕ) (variants : List Variant) → v ≡ w + k →
@@ -135,11 +136,11 @@ module _ (number b v : ℕ) where
   around-among w zero (variant ∷ variants) e =
       ahead (places_in number b w 0 variant.items) (places_among number b (w + 1) variants) variant.items
       (itself b w variant.items refl (omega (arith, e)))
-      (λ i. all-among _ number b (w + 1) variants (λ u j le. more-variant b u v j i (omega (arith, e, le))))
+      (λ i. all-among _ number b (w + 1) variants (λ u j le. more_variant b u v j i (omega (arith, e, le))))
   around-among w (suc k) (variant ∷ variants) e =
       behind (places_in number b w 0 variant.items) (places_among number b (w + 1) variants)
       (unwrap_or (option_map (λ (u : Variant). u.items) (slice_get variants k)) [])
-      (all-in _ number b w 0 variant.items (λ j le lt. less-variant b w v j 0 (omega (arith, e))))
+      (all-in _ number b w 0 variant.items (λ j le lt. less_variant b w v j 0 (omega (arith, e))))
       (around-among (w + 1) k variants (omega (arith, e)))
 
   around-block : (n : ℕ) (block : Block) → b ≡ n →
@@ -154,7 +155,7 @@ module _ (number b v : ℕ) where
           none-below (places_in number n 0 0 (item ∷ []))
           (subst (λ m. AllByRecursion (λ (at : Place). is_before at (place b v 0) ≡ true)
           (places_in number m 0 0 (item ∷ []))) e
-          (all-in _ number b 0 0 (item ∷ []) (λ j le lt. less-variant b 0 v j 0 some)))
+          (all-in _ number b 0 0 (item ∷ []) (λ j le lt. less_variant b 0 v j 0 some)))
   around-block n (Choice variants) e =
       subst (λ m. Around number b v (picked_items (Choice variants) v) (places_among number m 0 variants)) e
       (around-among 0 v variants (omega arith))
@@ -167,33 +168,33 @@ module _ (number b v : ℕ) where
       ahead (places_of_block number n block) (places_from number (n + 1) blocks) (picked_items block v)
       (around-block n block (omega (arith, e)))
       (λ i. all-from _ number (n + 1) blocks
-      (λ c u j le. more-block c u j (place b v i) (omega (arith, e, le))))
+      (λ c u j le. more_block c u j (place b v i) (omega (arith, e, le))))
   around-from n (suc k) (block ∷ blocks) e =
       behind (places_of_block number n block) (places_from number (n + 1) blocks)
       (unwrap_or (option_map (λ (block : Block). picked_items block v) (slice_get blocks k)) [])
-      (all-of-block _ number n block (λ u j. less-block n u j (place b v 0) (omega (arith, e))))
+      (all-of-block _ number n block (λ u j. less_block n u j (place b v 0) (omega (arith, e))))
       (around-from (n + 1) k blocks (omega (arith, e)))
 
 -- ---- the items of a variant before an index, and those from it on
 
-cut-in : (number b v j i : ℕ) (items : List Item) →
+cut_in : (number b v j i : ℕ) (items : List Item) →
     places_in number b v j items ≡ places_in number b v j (take i items) ++ places_in number b v (j + i) (drop i items)
-cut-in number b v j zero items = ap (λ m. places_in number b v m items) (omega arith)
-cut-in number b v j (suc i) [] = refl
-cut-in number b v j (suc i) (item ∷ items) =
+cut_in number b v j zero items = ap (λ m. places_in number b v m items) (omega arith)
+cut_in number b v j (suc i) [] = refl
+cut_in number b v j (suc i) (item ∷ items) =
     let one : List Place = if is_some (insert_size number item) then place b v j ∷ [] else [] in
     let e : j + 1 + i ≡ j + suc i = omega arith in
-    ap (λ ps. one ++ ps) (cut-in number b v (j + 1) i items
+    ap (λ ps. one ++ ps) (cut_in number b v (j + 1) i items
     ∙ ap (λ m. places_in number b v (j + 1) (take i items) ++ places_in number b v m (drop i items)) e)
     ∙ sym (append_assoc one (places_in number b v (j + 1) (take i items))
     (places_in number b v (j + suc i) (drop i items)))
 
-length-in : (number b v j : ℕ) (items : List Item) →
+length_in : (number b v j : ℕ) (items : List Item) →
     length (places_in number b v j items) ≡ length (sizes_of number items)
-length-in number b v j [] = refl
-length-in number b v j (item ∷ items) =
+length_in number b v j [] = refl
+length_in number b v j (item ∷ items) =
     by (insert_size number item) (places_in number b v (j + 1) items) (sizes_of number items)
-    (length-in number b v (j + 1) items)
+    (length_in number b v (j + 1) items)
   where
     by : (o : Option ℤ) (ps : List Place) (zs : List ℤ) → length ps ≡ length zs →
         length ((if is_some o then place b v j ∷ [] else []) ++ ps) ≡ length (cons_option o zs)
@@ -217,22 +218,22 @@ counted number b v i items places rest first n r is le point le' point' =
     let early : List Place = places_in number b v 0 (take i items) in
     let late : List Place = places_in number b v (0 + i) (drop i items) in
     let own-not = all-in (λ (at : Place). is_before at (place b v 0) ≡ false) number b v 0 items
-    (λ j ge lt. more-index b v j 0 (omega arith)) in
-    let first-is : first ≡ length r.pre = found (λ (at : Place). is_before at (place b v 0)) (place 0 0 0) r.pre
-    (own ++ r.post) places first r.is r.below (all-both _ own r.post own-not (r.above 0)) le point in
-    let left : rest ≡ own ++ r.post = is ∙ (ap (λ m. drop m places) first-is
-    ∙ (ap (λ ps. drop (length r.pre) ps) r.is ∙ drop-front r.pre (own ++ r.post))) in
+    (λ j ge lt. more_index b v j 0 (omega arith)) in
+    let first_is : first ≡ length r.pre = found (λ (at : Place). is_before at (place b v 0)) (place 0 0 0) r.pre
+    (own ++ r.post) places first r.is r.below (all_append _ own r.post own-not (r.above 0)) le point in
+    let left : rest ≡ own ++ r.post = is ∙ (ap (λ m. drop m places) first_is
+    ∙ (ap (λ ps. drop (length r.pre) ps) r.is ∙ drop_front r.pre (own ++ r.post))) in
     let parts : rest ≡ early ++ (late ++ r.post) = left
-    ∙ (ap (λ ps. ps ++ r.post) (cut-in number b v 0 i items) ∙ append_assoc early late r.post) in
+    ∙ (ap (λ ps. ps ++ r.post) (cut_in number b v 0 i items) ∙ append_assoc early late r.post) in
     let early-before = all-in (λ (at : Place). is_before at (place b v i) ≡ true) number b v 0 (take i items)
-    (λ j ge lt. less-index b v j i (omega (arith, lt, take-short i items))) in
+    (λ j ge lt. less_index b v j i (omega (arith, lt, take_short i items))) in
     let late-not = all-in (λ (at : Place). is_before at (place b v i) ≡ false) number b v (0 + i) (drop i items)
-    (λ j ge lt. more-index b v j i (omega (arith, ge))) in
+    (λ j ge lt. more_index b v j i (omega (arith, ge))) in
     found (λ (at : Place). is_before at (place b v i)) (place 0 0 0) early (late ++ r.post) rest n
-    parts early-before (all-both _ late r.post late-not (r.above i)) le' point'
-    ∙ length-in number b v 0 (take i items)
+    parts early-before (all_append _ late r.post late-not (r.above i)) le' point'
+    ∙ length_in number b v 0 (take i items)
 
-pub within-is : (number : ℕ) (blocks : List Block) (to : Place) (places rest : List Place) (first n : ℕ) →
+pub within_is : (number : ℕ) (blocks : List Block) (to : Place) (places rest : List Place) (first n : ℕ) →
     places ≡ places_from number 0 blocks → rest ≡ drop first places →
     first ≤ length places →
     (IsPartitionedBy (λ (at : Place). is_before at (place to.block to.variant 0)) places →
@@ -242,7 +243,7 @@ pub within-is : (number : ℕ) (blocks : List Block) (to : Place) (places rest :
     (IsPartitionedBy (λ (at : Place). is_before at to) rest →
     IsPartitionPoint (λ (at : Place). is_before at to ≡ true) (λ (at : Place). is_before at to ≡ false) rest n) →
     n ≡ length (sizes_of number (take to.index (items_around blocks to)))
-within-is number blocks to places rest first n e is le point le' point' =
+within_is number blocks to places rest first n e is le point le' point' =
     counted number to.block to.variant to.index (items_around blocks to) places rest first n
     (subst (Around number to.block to.variant (items_around blocks to)) (sym e)
     (around-from number to.block to.variant 0 to.block blocks (omega arith)))
@@ -250,39 +251,39 @@ within-is number blocks to places rest first n e is le point le' point' =
 
 -- ---- how many
 
-few-in : (number b v j : ℕ) (items : List Item) → length (places_in number b v j items) ≤ length items
-few-in number b v j [] = omega arith
-few-in number b v j (item ∷ items) =
-    by (is_some (insert_size number item)) (places_in number b v (j + 1) items) (few-in number b v (j + 1) items)
+few_in : (number b v j : ℕ) (items : List Item) → length (places_in number b v j items) ≤ length items
+few_in number b v j [] = omega arith
+few_in number b v j (item ∷ items) =
+    by (is_some (insert_size number item)) (places_in number b v (j + 1) items) (few_in number b v (j + 1) items)
   where
     by : (t : Bool) (ps : List Place) → length ps ≤ length items →
         length ((if t then place b v j ∷ [] else []) ++ ps) ≤ suc (length items)
     by true ps h = omega (arith, h)
     by false ps h = omega (arith, h)
 
-few-among : (number b w : ℕ) (variants : List Variant) →
+few_among : (number b w : ℕ) (variants : List Variant) →
     length (places_among number b w variants) ≤ sum_by (λ (variant : Variant). length variant.items) variants
-few-among number b w [] = omega arith
-few-among number b w (variant ∷ variants) =
+few_among number b w [] = omega arith
+few_among number b w (variant ∷ variants) =
     omega (
       arith,
-      few-in number b w 0 variant.items,
-      few-among number b (w + 1) variants,
+      few_in number b w 0 variant.items,
+      few_among number b (w + 1) variants,
       length-append (places_in number b w 0 variant.items) (places_among number b (w + 1) variants),
       sum_by-cons (λ (variant : Variant). length variant.items) variant variants,
     )
 
-few-of-block : (number n : ℕ) (block : Block) → length (places_of_block number n block) ≤ block_size block
-few-of-block number n (One item) = few-in number n 0 0 (item ∷ [])
-few-of-block number n (Choice variants) = few-among number n 0 variants
+few_of_block : (number n : ℕ) (block : Block) → length (places_of_block number n block) ≤ block_size block
+few_of_block number n (One item) = few_in number n 0 0 (item ∷ [])
+few_of_block number n (Choice variants) = few_among number n 0 variants
 
-pub places-few : (number n : ℕ) (blocks : List Block) → length (places_from number n blocks) ≤ item_count blocks
-places-few number n [] = omega arith
-places-few number n (block ∷ blocks) =
+pub places_few : (number n : ℕ) (blocks : List Block) → length (places_from number n blocks) ≤ item_count blocks
+places_few number n [] = omega arith
+places_few number n (block ∷ blocks) =
     omega (
       arith,
-      few-of-block number n block,
-      places-few number (n + 1) blocks,
+      few_of_block number n block,
+      places_few number (n + 1) blocks,
       length-append (places_of_block number n block) (places_from number (n + 1) blocks),
       sum_by-cons block_size block blocks,
     )

@@ -9,7 +9,7 @@ use Rattle.pg_flat.specs.Flat.{flat}
 use Rattle.pg_style.specs.Values.{StyleValue, AreaRuleValue}
 use Rattle.pg_rules.specs.Floats.{float_numbers, floats, dealt, has_all, area_height}
 use Rattle.pg_floats.specs.FloatsValue.{ClassFloatsValue, total_of}
-use Rattle.pg_floats.specs.Callouts.{class_floats, strange_among}
+use Rattle.pg_floats.specs.Callouts.{class_floats, unknown_among}
 use Rattle.pg_floats.specs.declared.fault.FloatFault.{FloatFault}
 use Rattle.pg_floats.specs.declared.fault.FloatFault.TheVariants.{Class, Limit, Memory}
 
@@ -19,8 +19,8 @@ pub record AreFloats (blocks : List Block) (style : StyleValue) (list : List Cla
   pub floats_are : list ≡ map (class_floats blocks) (float_numbers style)
 
 -- the class of the first insert, in galley order, that the style does not have
-abbrev pub strange_class : List Block → StyleValue → Option ℕ
-strange_class blocks style = strange_among style.classes (flat blocks [])
+abbrev pub unknown_class : List Block → StyleValue → Option ℕ
+unknown_class blocks style = unknown_among style.classes (flat blocks [])
 
 -- how many floats there are
 abbrev pub float_total : List Block → StyleValue → ℕ
@@ -44,11 +44,11 @@ HasFloats (Err Memory) blocks style = Unit {0}
 -- is strange, and a count only where it is above the limit and no class is strange
 abbrev pub MakesList : Result (List ClassFloatsValue) FloatFault → List Block → StyleValue → Type 0
 MakesList (Ok list) blocks style =
-    AreFloats blocks style list × (strange_class blocks style ≡ None) × (float_total blocks style ≤ 2 ^ 12)
-MakesList (Err (Class number)) blocks style = strange_class blocks style ≡ Some number
+    AreFloats blocks style list × (unknown_class blocks style ≡ None) × (float_total blocks style ≤ 2 ^ 12)
+MakesList (Err (Class number)) blocks style = unknown_class blocks style ≡ Some number
 MakesList (Err (Limit count)) blocks style =
-    (strange_class blocks style ≡ None) × (count ≡ float_total blocks style) × (2 ^ 12 < count)
-MakesList (Err Memory) blocks style = strange_class blocks style ≡ None
+    (unknown_class blocks style ≡ None) × (count ≡ float_total blocks style) × (2 ^ 12 < count)
+MakesList (Err Memory) blocks style = unknown_class blocks style ≡ None
 
 -- the size of a float, by its slot and number
 abbrev pub float_size : List Block → StyleValue → ℕ → ℕ → Option ℤ

@@ -38,8 +38,8 @@ insert_class (Insert class size body) = Some class
 insert_class _ = None
 
 -- the class of the first insert whose class is not among these
-abbrev pub strange_among : List Class → List Item → Option ℕ
-strange_among classes items = find (λ number. is_none (class_in classes number)) (filter_map insert_class items)
+abbrev pub unknown_among : List Class → List Item → Option ℕ
+unknown_among classes items = find (λ number. is_none (class_in classes number)) (filter_map insert_class items)
 
 -- the floats of a class
 abbrev pub class_floats : List Block → ℕ → ClassFloatsValue
@@ -55,7 +55,7 @@ lists_from blocks classes =
     map (λ (class : Class). class_floats blocks class.number) (filter is_float_class classes)
 
 -- the same, block by block
-abbrev pub strange_blocks : List Class → List Block → Option ℕ
-strange_blocks classes [] = None
-strange_blocks classes (block ∷ blocks) =
-    or_else (strange_among classes (picked_items block 0)) (strange_blocks classes blocks)
+abbrev pub unknown_blocks : List Class → List Block → Option ℕ
+unknown_blocks classes [] = None
+unknown_blocks classes (block ∷ blocks) =
+    or_else (unknown_among classes (picked_items block 0)) (unknown_blocks classes blocks)

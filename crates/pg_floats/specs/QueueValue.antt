@@ -4,7 +4,7 @@ use Rattle.std.specs.Prelude.{map, sum, take, drop, slice_index, slice_set, repl
 use Rattle.std.specs.List.{insert, remove, AllByRecursion}
 use Rattle.pg_style.specs.Values.{StyleValue}
 use Rattle.pg_rules.specs.Floats.{float_numbers}
-use Rattle.pg_rules.specs.Legal.{distance_table}
+use Rattle.pg_rules.specs.Floats.{distance_table}
 use Rattle.pg_style.specs.Classes.{is_float_class}
 use Rattle.pg_style.specs.declared.style.Class.{Class}
 use Rattle.pg_style.specs.declared.style.Kind.{Kind}

@@ -14,8 +14,8 @@ ghost use Rattle.pg_rules.specs.Floats.{called, entry, floats, sizes_of};
 ghost use Rattle.pg_floats.specs.declared.callouts.Callout.{Callout as ACallout};
 ghost use Rattle.pg_floats.specs.Areas.{has_dealt, IsDealt};
 ghost use Rattle.pg_floats.specs.FloatsValue.{callout_at, IsInRange, total_of};
-ghost use Rattle.pg_floats.specs.Callouts.{class_floats, lists_from, strange_among, strange_blocks};
-ghost use Rattle.pg_floats.specs.AreFloats.{AreFloats, HasFloats, IsWithinLimit, MakesList, strange_class};
+ghost use Rattle.pg_floats.specs.Callouts.{class_floats, lists_from, unknown_among, unknown_blocks};
+ghost use Rattle.pg_floats.specs.AreFloats.{AreFloats, HasFloats, IsWithinLimit, MakesList, unknown_class};
 ghost use Rattle.pg_floats.specs.AreFloats.{float_size, height_of};
 
 use crate::area::{Dealt, area_size, deal};
@@ -66,8 +66,8 @@ impl Model for FloatList {
 }
 
 // The class of the first insert among the items whose class the style does not have.
-fn strange_in(items: &[Item], style: &Style) -> Option<u8>
-    ensures { result ≡ strange_among style.now.classes items.now }
+fn unknown_in(items: &[Item], style: &Style) -> Option<u8>
+    ensures { result ≡ unknown_among style.now.classes items.now }
 {
     let mut rest = items;
     'items: while let [item, after @ ..] = rest {
@@ -82,13 +82,13 @@ fn strange_in(items: &[Item], style: &Style) -> Option<u8>
 }
 
 // The class of the first insert of the blocks whose class the style does not have.
-fn strange_of(blocks: &[Block], style: &Style) -> Option<u8>
+fn unknown_of(blocks: &[Block], style: &Style) -> Option<u8>
     requires { AllByRecursion IsBlock blocks.now }
-    ensures { result ≡ strange_blocks style.now.classes blocks.now }
+    ensures { result ≡ unknown_blocks style.now.classes blocks.now }
 {
     let mut rest = blocks;
     'each: while let [block, after @ ..] = rest {
-        if let Some(number) = strange_in(first_items_of(block), style) {
+        if let Some(number) = unknown_in(first_items_of(block), style) {
             return Some(number);
         }
         rest = after;
@@ -197,10 +197,10 @@ fn classes_of(style: &Style) -> &[Class]
 }
 
 // The first insert of a galley whose class the style does not have.
-fn strange(galley: &Galley, style: &Style) -> Option<u8>
-    ensures { result ≡ strange_class galley.now.blocks style.now }
+fn unknown(galley: &Galley, style: &Style) -> Option<u8>
+    ensures { result ≡ unknown_class galley.now.blocks style.now }
 {
-    strange_of(blocks_of(galley), style)
+    unknown_of(blocks_of(galley), style)
 }
 
 // The floats of a galley, if they are not too many.
@@ -246,7 +246,7 @@ impl FloatList {
     pub fn of(alloc: Global, galley: &Galley, style: &Style) -> Result<FloatList, FloatFault>
         ensures { MakesList result galley.now.blocks style.now }
     {
-        match strange(galley, style) {
+        match unknown(galley, style) {
             Some(number) => Err(FloatFault::Class { number }),
             None => all_floats(alloc, galley, style),
         }

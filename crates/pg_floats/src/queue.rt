@@ -5,7 +5,7 @@ ghost use Rattle.std.specs.List.{AllByRecursion};
 ghost use Rattle.pg_style.specs.Classes.{is_float_class};
 ghost use Rattle.pg_style.specs.Ranges.{AreClasses};
 ghost use Rattle.pg_rules.specs.Floats.{float_numbers};
-ghost use Rattle.pg_rules.specs.Legal.{distance_table};
+ghost use Rattle.pg_rules.specs.Floats.{distance_table};
 ghost use Rattle.pg_floats.specs.QueueValue.{IsOf, IsQueue, none, ages_before, with_callout, with_placed, turned};
 ghost use Rattle.pg_floats.specs.QueueValue.{late_by, late_of, late_in, table_in, float_count_in};
 

@@ -13,20 +13,20 @@ abbrev pub one_fil : Elastic
 one_fil = record { width = pos 10; order = Fil; amount = pos 65536 }
 
 -- of three equal glues the last has the one unit
-one_unit-sets : set_widths (one_point ∷ one_point ∷ one_point ∷ []) (pos 1) Stretch ≡ pos 0 ∷ pos 0 ∷ pos 1 ∷ []
-one_unit-sets = refl
+one_unit_sets : set_widths (one_point ∷ one_point ∷ one_point ∷ []) (pos 1) Stretch ≡ pos 0 ∷ pos 0 ∷ pos 1 ∷ []
+one_unit_sets = refl
 
 -- and the last two have two units
-two_units-set : set_widths (one_point ∷ one_point ∷ one_point ∷ []) (pos 2) Stretch ≡ pos 0 ∷ pos 1 ∷ pos 1 ∷ []
-two_units-set = refl
+two_units_set : set_widths (one_point ∷ one_point ∷ one_point ∷ []) (pos 2) Stretch ≡ pos 0 ∷ pos 1 ∷ pos 1 ∷ []
+two_units_set = refl
 
-one_unit-shrinks : set_widths (one_point ∷ one_point ∷ one_point ∷ []) (pos 1) Shrink ≡ pos 0 ∷ pos 0 ∷ negsuc 0 ∷ []
-one_unit-shrinks = refl
+one_unit_shrinks : set_widths (one_point ∷ one_point ∷ one_point ∷ []) (pos 1) Shrink ≡ pos 0 ∷ pos 0 ∷ negsuc 0 ∷ []
+one_unit_shrinks = refl
 
 -- beside an infinite amount a finite one has nothing
-fil-takes_all : set_widths (one_point ∷ one_fil ∷ one_point ∷ []) (pos 5) Stretch ≡ pos 0 ∷ pos 15 ∷ pos 0 ∷ []
-fil-takes_all = refl
+fil_takes_all : set_widths (one_point ∷ one_fil ∷ one_point ∷ []) (pos 5) Stretch ≡ pos 0 ∷ pos 15 ∷ pos 0 ∷ []
+fil_takes_all = refl
 
 -- where nothing can change, nothing does
-none-sets : set_widths (record { width = pos 7; order = Finite; amount = pos 0 } ∷ []) (pos 5) Stretch ≡ pos 7 ∷ []
-none-sets = refl
+none_sets : set_widths (record { width = pos 7; order = Finite; amount = pos 0 } ∷ []) (pos 5) Stretch ≡ pos 7 ∷ []
+none_sets = refl

@@ -18,112 +18,110 @@ use Rattle.pg_style.specs.declared.style.Kind.TheVariants.{Note, Float}
 use Rattle.pg_rules.specs.Floats.{sizes_of, insert_size}
 use Rattle.pg_rules.specs.Room.{notes, class_notes, is_within_limit, are_notes_within_limits}
 use Rattle.pg_notes.specs.AreNotes.{first_over}
+use Rattle.pg_lemmas.proofs.Numbers.{eq_refl}
 
 -- ---- the front
 
-pub sizes-trimmed : (number : ℕ) (items : List Item) → sizes_of number (trimmed items) ≡ sizes_of number items
-sizes-trimmed number [] = refl
-sizes-trimmed number (BoxItem h d body ∷ items) = refl
-sizes-trimmed number (Rule h d body ∷ items) = refl
-sizes-trimmed number (Glue w s o k body ∷ items) = sizes-trimmed number items
-sizes-trimmed number (Kern w body ∷ items) = sizes-trimmed number items
-sizes-trimmed number (Penalty v body ∷ items) = sizes-trimmed number items
-sizes-trimmed number (Insert c z body ∷ items) =
-    ap (cons_option (insert_size number (Insert c z body))) (sizes-trimmed number items)
-sizes-trimmed number (Carry body ∷ items) = sizes-trimmed number items
+pub sizes_trimmed : (number : ℕ) (items : List Item) → sizes_of number (trimmed items) ≡ sizes_of number items
+sizes_trimmed number [] = refl
+sizes_trimmed number (BoxItem h d body ∷ items) = refl
+sizes_trimmed number (Rule h d body ∷ items) = refl
+sizes_trimmed number (Glue w s o k body ∷ items) = sizes_trimmed number items
+sizes_trimmed number (Kern w body ∷ items) = sizes_trimmed number items
+sizes_trimmed number (Penalty v body ∷ items) = sizes_trimmed number items
+sizes_trimmed number (Insert c z body ∷ items) =
+    ap (cons_option (insert_size number (Insert c z body))) (sizes_trimmed number items)
+sizes_trimmed number (Carry body ∷ items) = sizes_trimmed number items
 
-class-notes-trimmed : (items : List Item) (number : ℕ) (kind : Kind) →
+class_notes_trimmed : (items : List Item) (number : ℕ) (kind : Kind) →
     class_notes (trimmed items) number kind ≡ class_notes items number kind
-class-notes-trimmed items number (Note skip limit) =
+class_notes_trimmed items number (Note skip limit) =
     ap (λ (sizes : List ℤ). if length sizes == 0 then pos 0 else (skip +ℤ whole_sum sizes))
-    (sizes-trimmed number items)
-class-notes-trimmed items number (Float area distance) = refl
+    (sizes_trimmed number items)
+class_notes_trimmed items number (Float area distance) = refl
 
-within-trimmed : (items : List Item) (number : ℕ) (kind : Kind) →
+within_trimmed : (items : List Item) (number : ℕ) (kind : Kind) →
     is_within_limit (trimmed items) number kind ≡ is_within_limit items number kind
-within-trimmed items number (Note skip limit) =
-    ap (λ (sizes : List ℤ). int_le (whole_sum sizes) limit) (sizes-trimmed number items)
-within-trimmed items number (Float area distance) = refl
+within_trimmed items number (Note skip limit) =
+    ap (λ (sizes : List ℤ). int_le (whole_sum sizes) limit) (sizes_trimmed number items)
+within_trimmed items number (Float area distance) = refl
 
-sums-alike : (f g : Class → ℤ) → ((class : Class) → f class ≡ g class) → (classes : List Class) →
+sums_alike : (f g : Class → ℤ) → ((class : Class) → f class ≡ g class) → (classes : List Class) →
     whole_sum_by f classes ≡ whole_sum_by g classes
-sums-alike f g same [] = refl
-sums-alike f g same (class ∷ classes) =
-    ap (λ z. z +ℤ whole_sum_by f classes) (same class) ∙ ap (λ z. g class +ℤ z) (sums-alike f g same classes)
+sums_alike f g same [] = refl
+sums_alike f g same (class ∷ classes) =
+    ap (λ z. z +ℤ whole_sum_by f classes) (same class) ∙ ap (λ z. g class +ℤ z) (sums_alike f g same classes)
 
-all-alike : (p q : Class → Bool) → ((class : Class) → p class ≡ q class) → (classes : List Class) →
+all_alike : (p q : Class → Bool) → ((class : Class) → p class ≡ q class) → (classes : List Class) →
     list_all p classes ≡ list_all q classes
-all-alike p q same [] = refl
-all-alike p q same (class ∷ classes) =
-    ap (λ b. b && list_all p classes) (same class) ∙ ap (λ z. q class && z) (all-alike p q same classes)
+all_alike p q same [] = refl
+all_alike p q same (class ∷ classes) =
+    ap (λ b. b && list_all p classes) (same class) ∙ ap (λ z. q class && z) (all_alike p q same classes)
 
-find-alike : (p q : Class → Bool) → ((class : Class) → p class ≡ q class) → (classes : List Class) →
+find_alike : (p q : Class → Bool) → ((class : Class) → p class ≡ q class) → (classes : List Class) →
     find p classes ≡ find q classes
-find-alike p q same [] = refl
-find-alike p q same (class ∷ classes) =
+find_alike p q same [] = refl
+find_alike p q same (class ∷ classes) =
     ap (λ b. cond b (Some class) (find p classes)) (same class)
-    ∙ ap (λ (o : Option Class). cond (q class) (Some class) o) (find-alike p q same classes)
+    ∙ ap (λ (o : Option Class). cond (q class) (Some class) o) (find_alike p q same classes)
 
-pub notes-trimmed : (style : StyleValue) (items : List Item) → notes style (trimmed items) ≡ notes style items
-notes-trimmed style items =
-    sums-alike (λ (class : Class). class_notes (trimmed items) class.number class.kind)
+pub notes_trimmed : (style : StyleValue) (items : List Item) → notes style (trimmed items) ≡ notes style items
+notes_trimmed style items =
+    sums_alike (λ (class : Class). class_notes (trimmed items) class.number class.kind)
     (λ (class : Class). class_notes items class.number class.kind)
-    (λ class. class-notes-trimmed items class.number class.kind) style.classes
+    (λ class. class_notes_trimmed items class.number class.kind) style.classes
 
-pub limits-trimmed : (style : StyleValue) (items : List Item) →
+pub limits_trimmed : (style : StyleValue) (items : List Item) →
     are_notes_within_limits style (trimmed items) ≡ are_notes_within_limits style items
-limits-trimmed style items =
-    all-alike (λ (class : Class). is_within_limit (trimmed items) class.number class.kind)
+limits_trimmed style items =
+    all_alike (λ (class : Class). is_within_limit (trimmed items) class.number class.kind)
     (λ (class : Class). is_within_limit items class.number class.kind)
-    (λ class. within-trimmed items class.number class.kind) style.classes
+    (λ class. within_trimmed items class.number class.kind) style.classes
 
-pub first-trimmed : (style : StyleValue) (items : List Item) →
+pub first_trimmed : (style : StyleValue) (items : List Item) →
     first_over style (trimmed items) ≡ first_over style items
-first-trimmed style items = ap (option_map (λ (class : Class). class.number))
-    (find-alike (λ (class : Class). not (is_within_limit (trimmed items) class.number class.kind))
+first_trimmed style items = ap (option_map (λ (class : Class). class.number))
+    (find_alike (λ (class : Class). not (is_within_limit (trimmed items) class.number class.kind))
     (λ (class : Class). not (is_within_limit items class.number class.kind))
-    (λ class. ap not (within-trimmed items class.number class.kind)) style.classes)
+    (λ class. ap not (within_trimmed items class.number class.kind)) style.classes)
 
 -- ---- one more item
 
-sizes-push : (number : ℕ) (items : List Item) (x : Item) →
+sizes_push : (number : ℕ) (items : List Item) (x : Item) →
     sizes_of number (items ++ x ∷ []) ≡ sizes_of number items ++ sizes_of number (x ∷ [])
-sizes-push number items x = filter_map-append (insert_size number) items (x ∷ [])
+sizes_push number items x = filter_map-append (insert_size number) items (x ∷ [])
 
-self-same : (n : ℕ) → (n == n) ≡ true
-self-same n = grind (arith, nat_tests)
+pub not_same : (m n : ℕ) → m ≢ n → (m == n) ≡ false
+not_same m n e = grind (arith, nat_tests)
 
-pub not-same : (m n : ℕ) → m ≢ n → (m == n) ≡ false
-not-same m n e = grind (arith, nat_tests)
-
-pub sizes-own : (number : ℕ) (items : List Item) (z : ℤ) (body : List ℕ) →
+pub sizes_own : (number : ℕ) (items : List Item) (z : ℤ) (body : List ℕ) →
     sizes_of number (items ++ Insert number z body ∷ []) ≡ sizes_of number items ++ z ∷ []
-sizes-own number items z body =
-    sizes-push number items (Insert number z body)
-    ∙ ap (λ b. sizes_of number items ++ cons_option (if b then Some z else None) []) (self-same number)
+sizes_own number items z body =
+    sizes_push number items (Insert number z body)
+    ∙ ap (λ b. sizes_of number items ++ cons_option (if b then Some z else None) []) (eq_refl number)
 
-pub sizes-other : (number other : ℕ) (items : List Item) (z : ℤ) (body : List ℕ) → other ≢ number →
+pub sizes_other : (number other : ℕ) (items : List Item) (z : ℤ) (body : List ℕ) → other ≢ number →
     sizes_of number (items ++ Insert other z body ∷ []) ≡ sizes_of number items
-sizes-other number other items z body ne =
-    sizes-push number items (Insert other z body)
-    ∙ (ap (λ b. sizes_of number items ++ cons_option (if b then Some z else None) []) (not-same other number ne)
+sizes_other number other items z body ne =
+    sizes_push number items (Insert other z body)
+    ∙ (ap (λ b. sizes_of number items ++ cons_option (if b then Some z else None) []) (not_same other number ne)
     ∙ append-nil (sizes_of number items))
 
-pub sizes-plain : (number : ℕ) (items : List Item) (x : Item) → is_insert x ≡ false →
+pub sizes_plain : (number : ℕ) (items : List Item) (x : Item) → is_insert x ≡ false →
     sizes_of number (items ++ x ∷ []) ≡ sizes_of number items
-sizes-plain number items (BoxItem h d body) e =
-    sizes-push number items (BoxItem h d body) ∙ append-nil (sizes_of number items)
-sizes-plain number items (Rule h d body) e =
-    sizes-push number items (Rule h d body) ∙ append-nil (sizes_of number items)
-sizes-plain number items (Glue w s o k body) e =
-    sizes-push number items (Glue w s o k body) ∙ append-nil (sizes_of number items)
-sizes-plain number items (Kern w body) e =
-    sizes-push number items (Kern w body) ∙ append-nil (sizes_of number items)
-sizes-plain number items (Penalty v body) e =
-    sizes-push number items (Penalty v body) ∙ append-nil (sizes_of number items)
-sizes-plain number items (Insert c z body) e = absurd (cc)
-sizes-plain number items (Carry body) e = sizes-push number items (Carry body) ∙ append-nil (sizes_of number items)
+sizes_plain number items (BoxItem h d body) e =
+    sizes_push number items (BoxItem h d body) ∙ append-nil (sizes_of number items)
+sizes_plain number items (Rule h d body) e =
+    sizes_push number items (Rule h d body) ∙ append-nil (sizes_of number items)
+sizes_plain number items (Glue w s o k body) e =
+    sizes_push number items (Glue w s o k body) ∙ append-nil (sizes_of number items)
+sizes_plain number items (Kern w body) e =
+    sizes_push number items (Kern w body) ∙ append-nil (sizes_of number items)
+sizes_plain number items (Penalty v body) e =
+    sizes_push number items (Penalty v body) ∙ append-nil (sizes_of number items)
+sizes_plain number items (Insert c z body) e = absurd (cc)
+sizes_plain number items (Carry body) e = sizes_push number items (Carry body) ∙ append-nil (sizes_of number items)
 
-pub sum-push : (xs : List ℤ) (x : ℤ) → whole_sum (xs ++ x ∷ []) ≡ whole_sum xs +ℤ x
-sum-push [] x = omega (arith, ints)
-sum-push (y ∷ xs) x = omega (arith, ints, sum-push xs x)
+pub sum_push : (xs : List ℤ) (x : ℤ) → whole_sum (xs ++ x ∷ []) ≡ whole_sum xs +ℤ x
+sum_push [] x = omega (arith, ints)
+sum_push (y ∷ xs) x = omega (arith, ints, sum_push xs x)

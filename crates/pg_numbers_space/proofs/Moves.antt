@@ -9,6 +9,7 @@ use Rattle.std.proofs.lemmas.Cmp.{by_ranked, ranked}
 use Rattle.pg_table.specs.Space.{AreMoves}
 use Rattle.pg_table.specs.declared.step.Step.{Step}
 use Rattle.pg_numbers_space.specs.Numbers.{Adds, numbers, with_step}
+use Rattle.std.proofs.lemmas.Bool.{leb-true}
 
 abbrev step_by : ℕ → ℕ → Step ℕ ℕ
 step_by u m = record { to = u + m; by = m; cost = pos 1 }
@@ -33,9 +34,6 @@ same_step : (last u m v : ℕ) (c : ℤ) (n : ℕ) → m ≡ n → Adds last u m
 same_step last u m v c n e a = let p : v ≡ u + n = a.sum ∙ ap (λ k. u + k) e in let q : c ≡ pos 1 = a.cost in
     cc
 
-near : (k last : ℕ) → nat_le k last ≡ true → k ≤ last
-near k last h = grind (arith, nat_tests)
-
 too_far : (k last : ℕ) → nat_le k last ≡ false → k ≤ last → ⊥
 too_far k last h l = grind (arith, nat_tests)
 
@@ -56,7 +54,7 @@ one_more last u n steps new few k e = by (nat_le (u + (n + 1)) last) refl e
           some = omega arith;
           few = omega arith;
           sum = refl;
-          within = near (u + (n + 1)) last t;
+          within = leb-true (u + (n + 1)) last t;
           cost = refl;
         })
       ];

@@ -11,13 +11,10 @@ use Rattle.pg_sums.specs.AreSums.{AreSums}
 use Rattle.pg_sums.specs.SumsValue.{SumsValue}
 use Rattle.pg_style.specs.Values.{StyleValue}
 use Rattle.pg_plain.specs.Plain.{AreSingle, single_items, items_between, plain_room}
-use Rattle.pg_plain.proofs.Singles.{drop-items, drop-single}
+use Rattle.pg_plain.proofs.Singles.{drop_items, drop_single}
 use Rattle.pg_pages.specs.PlainText.{numbers_from}
 use Rattle.pg_plain.specs.Plain.{not_over}
-
-not-true : (b : Bool) → not b ≡ true → b ≡ false
-not-true true e = absurd (cc)
-not-true false e = refl
+use Rattle.pg_lemmas.proofs.Bools.{not_true}
 
 -- sums of a column that is not over are not over its room
 pub is_under : (style : StyleValue) (topskip maxdepth goal : ℤ) (items : List Item) (sums : SumsValue) →
@@ -30,7 +27,7 @@ is_under style topskip maxdepth goal items sums t m g are fits =
     ap (λ (z : ℤ). is_over z sums.totals.shrink goal) size
     ∙ ap (λ (z : ℤ). is_over (total style.topskip style.maxdepth (trimmed items)) z goal) are.totals_are.shrink_is
     ∙ ap (λ (z : ℤ). is_over (total style.topskip style.maxdepth (trimmed items)) (shrink (trimmed items)) z) g
-    ∙ not-true (is_over (total style.topskip style.maxdepth (trimmed items)) (shrink (trimmed items)) (plain_room style)) fits
+    ∙ not_true (is_over (total style.topskip style.maxdepth (trimmed items)) (shrink (trimmed items)) (plain_room style)) fits
 
 pub numbers_are : (style : StyleValue) (is_last : Bool) (items : List Item) (goal size demerits : ℤ) (badness : ℕ) → goal ≡ plain_room style → size ≡ total style.topskip style.maxdepth (trimmed items)
     → badness ≡ page_badness is_last (plain_room style) (total style.topskip style.maxdepth (trimmed items)) (trimmed items) → demerits ≡ square (pos (style.line + badness))
@@ -52,16 +49,16 @@ badness_is style topskip maxdepth goal is_last badness items t m g e =
 
 -- ---- the blocks of a column
 
-pub take-items : (k : ℕ) (blocks : List Block) → AreSingle blocks →
+pub take_items : (k : ℕ) (blocks : List Block) → AreSingle blocks →
     single_items (take k blocks) ≡ take k (single_items blocks)
-take-items zero blocks single = refl
-take-items (suc k) [] single = refl
-take-items (suc k) (One item ∷ blocks) single =
-    ap (λ (items : List Item). item ∷ items) (take-items k blocks single.1)
-take-items (suc k) (Choice variants ∷ blocks) single = absurd single.0
+take_items zero blocks single = refl
+take_items (suc k) [] single = refl
+take_items (suc k) (One item ∷ blocks) single =
+    ap (λ (items : List Item). item ∷ items) (take_items k blocks single.1)
+take_items (suc k) (Choice variants ∷ blocks) single = absurd single.0
 
-pub between-items : (blocks : List Block) (from to : ℕ) → AreSingle blocks →
+pub between_items : (blocks : List Block) (from to : ℕ) → AreSingle blocks →
     single_items (take (to - from) (drop from blocks)) ≡ items_between blocks from to
-between-items blocks from to single =
-    take-items (to - from) (drop from blocks) (drop-single from blocks single)
-    ∙ ap (λ (items : List Item). take (to - from) items) (drop-items from blocks single)
+between_items blocks from to single =
+    take_items (to - from) (drop from blocks) (drop_single from blocks single)
+    ∙ ap (λ (items : List Item). take (to - from) items) (drop_items from blocks single)

@@ -27,72 +27,72 @@ use Rattle.pg_pages.specs.PlainText.{own_items}
 abbrev pub AllRigid : List Item → Type 0
 AllRigid items = AllByRecursion IsRigid items
 
-pub items-rigid : (blocks : List Block) → AreRigid blocks → AllRigid (single_items blocks)
-items-rigid [] all = tt
-items-rigid (One item ∷ blocks) all = (all.0, items-rigid blocks all.1)
-items-rigid (Choice variants ∷ blocks) all = absurd all.0
+pub items_rigid : (blocks : List Block) → AreRigid blocks → AllRigid (single_items blocks)
+items_rigid [] all = tt
+items_rigid (One item ∷ blocks) all = (all.0, items_rigid blocks all.1)
+items_rigid (Choice variants ∷ blocks) all = absurd all.0
 
-pub rigid-take : (n : ℕ) (items : List Item) → AllRigid items → AllRigid (take n items)
-rigid-take zero items all = tt
-rigid-take (suc n) [] all = tt
-rigid-take (suc n) (item ∷ items) all = (all.0, rigid-take n items all.1)
+pub rigid_take : (n : ℕ) (items : List Item) → AllRigid items → AllRigid (take n items)
+rigid_take zero items all = tt
+rigid_take (suc n) [] all = tt
+rigid_take (suc n) (item ∷ items) all = (all.0, rigid_take n items all.1)
 
-pub rigid-drop : (n : ℕ) (items : List Item) → AllRigid items → AllRigid (drop n items)
-rigid-drop zero items all = all
-rigid-drop (suc n) [] all = tt
-rigid-drop (suc n) (item ∷ items) all = rigid-drop n items all.1
+pub rigid_drop : (n : ℕ) (items : List Item) → AllRigid items → AllRigid (drop n items)
+rigid_drop zero items all = all
+rigid_drop (suc n) [] all = tt
+rigid_drop (suc n) (item ∷ items) all = rigid_drop n items all.1
 
-trimmed-step : (b d : Bool) (item : Item) (items : List Item) → AllRigid (item ∷ items) →
+trimmed_step : (b d : Bool) (item : Item) (items : List Item) → AllRigid (item ∷ items) →
     AllRigid (trimmed items) → AllRigid (if b then item ∷ items else (if d then trimmed items else item ∷ trimmed items))
-trimmed-step true d item items all rest = all
-trimmed-step false true item items all rest = rest
-trimmed-step false false item items all rest = (all.0, rest)
+trimmed_step true d item items all rest = all
+trimmed_step false true item items all rest = rest
+trimmed_step false false item items all rest = (all.0, rest)
 
-pub rigid-trimmed : (items : List Item) → AllRigid items → AllRigid (trimmed items)
-rigid-trimmed [] all = tt
-rigid-trimmed (item ∷ items) all =
-    trimmed-step (is_box item) (is_discardable item) item items all (rigid-trimmed items all.1)
+pub rigid_trimmed : (items : List Item) → AllRigid items → AllRigid (trimmed items)
+rigid_trimmed [] all = tt
+rigid_trimmed (item ∷ items) all =
+    trimmed_step (is_box item) (is_discardable item) item items all (rigid_trimmed items all.1)
 
 -- ---- no penalty
 
-glue-or-box : (items : List Item) (k : ℕ) (item : Item) → IsRigid item →
+glue_or_box : (items : List Item) (k : ℕ) (item : Item) → IsRigid item →
     (item_break items k item ≡ None) ⊎ (item_break items k item ≡ Some (pos 0))
-glue-or-box items k (BoxItem height depth body) is = inl refl
-glue-or-box items k (Glue width stretch order shrink body) is = elim (cases_Bool (follows_solid items k)) [
+glue_or_box items k (BoxItem height depth body) is = inl refl
+glue_or_box items k (Glue width stretch order shrink body) is = elim (cases_Bool (follows_solid items k)) [
   | inl yes' ↦ inr (rw yes' refl)
   | inr no' ↦ inl (rw no' refl)
 ]
-glue-or-box items k (Rule height depth body) is = absurd is
-glue-or-box items k (Kern width body) is = absurd is
-glue-or-box items k (Penalty value body) is = absurd is
-glue-or-box items k (Insert class size body) is = absurd is
-glue-or-box items k (Carry body) is = absurd is
+glue_or_box items k (Rule height depth body) is = absurd is
+glue_or_box items k (Kern width body) is = absurd is
+glue_or_box items k (Penalty value body) is = absurd is
+glue_or_box items k (Insert class size body) is = absurd is
+glue_or_box items k (Carry body) is = absurd is
 
 got : (items : List Item) (k : ℕ) (o : Option Item) → ((item : Item) → o ≡ Some item → IsRigid item) →
     (option_map_or (item_break items k) o None ≡ None) ⊎ (option_map_or (item_break items k) o None ≡ Some (pos 0))
 got items k None rigid = inl refl
-got items k (Some item) rigid = glue-or-box items k item (rigid item refl)
+got items k (Some item) rigid = glue_or_box items k item (rigid item refl)
 
 abbrev RigidIf : Option Item → Type 0
 RigidIf None = Unit {0}
 RigidIf (Some item) = IsRigid item
 
-rigid-at : (items : List Item) (k : ℕ) → AllRigid items → (item : Item) → slice_get items k ≡ Some item →
+rigid_at : (items : List Item) (k : ℕ) → AllRigid items → (item : Item) → slice_get items k ≡ Some item →
     IsRigid item
-rigid-at [] k all item e = absurd (cc)
-rigid-at (first ∷ items) zero all item e = subst (λ (o : Option Item). RigidIf o) e all.0
-rigid-at (first ∷ items) (suc k) all item e = rigid-at items k all.1 item e
+rigid_at [] k all item e = absurd (cc)
+rigid_at (first ∷ items) zero all item e = subst (λ (o : Option Item). RigidIf o) e all.0
+rigid_at (first ∷ items) (suc k) all item e = rigid_at items k all.1 item e
 
-pub no-penalty : (items : List Item) (k : ℕ) → AllRigid items →
+pub no_penalty : (items : List Item) (k : ℕ) → AllRigid items →
     (break_penalty items k ≡ None) ⊎ (break_penalty items k ≡ Some (pos 0))
-no-penalty items k all = elim (cases_Bool (k == length items)) [
+no_penalty items k all = elim (cases_Bool (k == length items)) [
   | inl last ↦ inr (rw last refl)
-  | inr inside ↦ rw inside (got items k (slice_get items k) (rigid-at items k all))
+  | inr inside ↦ rw inside (got items k (slice_get items k) (rigid_at items k all))
 ]
 
-pub nothing-added : (f : ℤ → ℤ) (items : List Item) (k : ℕ) → AllRigid items → f (pos 0) ≡ pos 0 →
+pub nothing_added : (f : ℤ → ℤ) (items : List Item) (k : ℕ) → AllRigid items → f (pos 0) ≡ pos 0 →
     option_map_or f (break_penalty items k) (pos 0) ≡ pos 0
-nothing-added f items k all zero-is = elim (no-penalty items k all) [
+nothing_added f items k all zero-is = elim (no_penalty items k all) [
   | inl none ↦ rw none refl
   | inr some ↦ rw some zero-is
 ]
@@ -102,107 +102,107 @@ nothing-added f items k all zero-is = elim (no-penalty items k all) [
 abbrev pub IsStill : Elastic → Type 0
 IsStill entry = entry.amount ≡ pos 0
 
-still-amount : (b : Bool) (z : ℤ) → z ≡ pos 0 → (if b then z else pos 0) ≡ pos 0
-still-amount true z e = e
-still-amount false z e = refl
+still_amount : (b : Bool) (z : ℤ) → z ≡ pos 0 → (if b then z else pos 0) ≡ pos 0
+still_amount true z e = e
+still_amount false z e = refl
 
-still-sum : (order : Order) (list : List Elastic) → AllByRecursion IsStill list → amounts order list ≡ pos 0
-still-sum order [] all = refl
-still-sum order (entry ∷ list) all =
-    let first = still-amount (is_same_order order entry.order) entry.amount all.0 in
-    rw (first, still-sum order list all.1) refl
+still_sum : (order : Order) (list : List Elastic) → AllByRecursion IsStill list → amounts order list ≡ pos 0
+still_sum order [] all = refl
+still_sum order (entry ∷ list) all =
+    let first = still_amount (is_same_order order entry.order) entry.amount all.0 in
+    rw (first, still_sum order list all.1) refl
 
-still-widths : (sense : Sense) (excess : ℤ) (order : Order) (front list : List Elastic) →
+still_widths : (sense : Sense) (excess : ℤ) (order : Order) (front list : List Elastic) →
     widths_from sense excess order (pos 0) front list ≡ map (λ (entry : Elastic). entry.width) list
-still-widths sense excess order front [] = refl
-still-widths Stretch excess order front (entry ∷ list) =
+still_widths sense excess order front [] = refl
+still_widths Stretch excess order front (entry ∷ list) =
     let first : entry.width +ℤ (pos 0 -ℤ pos 0) ≡ entry.width = omega (arith, ints) in
-    rw (first, still-widths Stretch excess order (front ++ entry ∷ []) list) refl
-still-widths Shrink excess order front (entry ∷ list) =
+    rw (first, still_widths Stretch excess order (front ++ entry ∷ []) list) refl
+still_widths Shrink excess order front (entry ∷ list) =
     let first : entry.width -ℤ (pos 0 -ℤ pos 0) ≡ entry.width = omega (arith, ints) in
-    rw (first, still-widths Shrink excess order (front ++ entry ∷ []) list) refl
+    rw (first, still_widths Shrink excess order (front ++ entry ∷ []) list) refl
 
 pub still : (list : List Elastic) (excess : ℤ) (sense : Sense) → AllByRecursion IsStill list →
     set_widths list excess sense ≡ map (λ (entry : Elastic). entry.width) list
 still list excess sense all =
-    rw (still-sum (chosen list) list all) (still-widths sense excess (chosen list) [] list)
+    rw (still_sum (chosen list) list all) (still_widths sense excess (chosen list) [] list)
 
-pub stretching-still : (items : List Item) → AllRigid items → AllByRecursion IsStill (flat_map stretching items)
-stretching-still [] all = tt
-stretching-still (BoxItem height depth body ∷ items) all = stretching-still items all.1
-stretching-still (Glue width stretch order shrink body ∷ items) all = (all.0.0, stretching-still items all.1)
-stretching-still (Rule height depth body ∷ items) all = absurd all.0
-stretching-still (Kern width body ∷ items) all = absurd all.0
-stretching-still (Penalty value body ∷ items) all = absurd all.0
-stretching-still (Insert class size body ∷ items) all = absurd all.0
-stretching-still (Carry body ∷ items) all = absurd all.0
+pub stretching_still : (items : List Item) → AllRigid items → AllByRecursion IsStill (flat_map stretching items)
+stretching_still [] all = tt
+stretching_still (BoxItem height depth body ∷ items) all = stretching_still items all.1
+stretching_still (Glue width stretch order shrink body ∷ items) all = (all.0.0, stretching_still items all.1)
+stretching_still (Rule height depth body ∷ items) all = absurd all.0
+stretching_still (Kern width body ∷ items) all = absurd all.0
+stretching_still (Penalty value body ∷ items) all = absurd all.0
+stretching_still (Insert class size body ∷ items) all = absurd all.0
+stretching_still (Carry body ∷ items) all = absurd all.0
 
-pub shrinking-still : (items : List Item) → AllRigid items → AllByRecursion IsStill (flat_map shrinking items)
-shrinking-still [] all = tt
-shrinking-still (BoxItem height depth body ∷ items) all = shrinking-still items all.1
-shrinking-still (Glue width stretch order shrink body ∷ items) all = (all.0.1, shrinking-still items all.1)
-shrinking-still (Rule height depth body ∷ items) all = absurd all.0
-shrinking-still (Kern width body ∷ items) all = absurd all.0
-shrinking-still (Penalty value body ∷ items) all = absurd all.0
-shrinking-still (Insert class size body ∷ items) all = absurd all.0
-shrinking-still (Carry body ∷ items) all = absurd all.0
+pub shrinking_still : (items : List Item) → AllRigid items → AllByRecursion IsStill (flat_map shrinking items)
+shrinking_still [] all = tt
+shrinking_still (BoxItem height depth body ∷ items) all = shrinking_still items all.1
+shrinking_still (Glue width stretch order shrink body ∷ items) all = (all.0.1, shrinking_still items all.1)
+shrinking_still (Rule height depth body ∷ items) all = absurd all.0
+shrinking_still (Kern width body ∷ items) all = absurd all.0
+shrinking_still (Penalty value body ∷ items) all = absurd all.0
+shrinking_still (Insert class size body ∷ items) all = absurd all.0
+shrinking_still (Carry body ∷ items) all = absurd all.0
 
-pub stretching-widths : (items : List Item) → AllRigid items →
+pub stretching_widths : (items : List Item) → AllRigid items →
     map (λ (entry : Elastic). entry.width) (flat_map stretching items) ≡ flat_map own_width items
-stretching-widths [] all = refl
-stretching-widths (BoxItem height depth body ∷ items) all = stretching-widths items all.1
-stretching-widths (Glue width stretch order shrink body ∷ items) all =
-    ap (λ (ws : List ℤ). width ∷ ws) (stretching-widths items all.1)
-stretching-widths (Rule height depth body ∷ items) all = absurd all.0
-stretching-widths (Kern width body ∷ items) all = absurd all.0
-stretching-widths (Penalty value body ∷ items) all = absurd all.0
-stretching-widths (Insert class size body ∷ items) all = absurd all.0
-stretching-widths (Carry body ∷ items) all = absurd all.0
+stretching_widths [] all = refl
+stretching_widths (BoxItem height depth body ∷ items) all = stretching_widths items all.1
+stretching_widths (Glue width stretch order shrink body ∷ items) all =
+    ap (λ (ws : List ℤ). width ∷ ws) (stretching_widths items all.1)
+stretching_widths (Rule height depth body ∷ items) all = absurd all.0
+stretching_widths (Kern width body ∷ items) all = absurd all.0
+stretching_widths (Penalty value body ∷ items) all = absurd all.0
+stretching_widths (Insert class size body ∷ items) all = absurd all.0
+stretching_widths (Carry body ∷ items) all = absurd all.0
 
-pub shrinking-widths : (items : List Item) → AllRigid items →
+pub shrinking_widths : (items : List Item) → AllRigid items →
     map (λ (entry : Elastic). entry.width) (flat_map shrinking items) ≡ flat_map own_width items
-shrinking-widths [] all = refl
-shrinking-widths (BoxItem height depth body ∷ items) all = shrinking-widths items all.1
-shrinking-widths (Glue width stretch order shrink body ∷ items) all =
-    ap (λ (ws : List ℤ). width ∷ ws) (shrinking-widths items all.1)
-shrinking-widths (Rule height depth body ∷ items) all = absurd all.0
-shrinking-widths (Kern width body ∷ items) all = absurd all.0
-shrinking-widths (Penalty value body ∷ items) all = absurd all.0
-shrinking-widths (Insert class size body ∷ items) all = absurd all.0
-shrinking-widths (Carry body ∷ items) all = absurd all.0
+shrinking_widths [] all = refl
+shrinking_widths (BoxItem height depth body ∷ items) all = shrinking_widths items all.1
+shrinking_widths (Glue width stretch order shrink body ∷ items) all =
+    ap (λ (ws : List ℤ). width ∷ ws) (shrinking_widths items all.1)
+shrinking_widths (Rule height depth body ∷ items) all = absurd all.0
+shrinking_widths (Kern width body ∷ items) all = absurd all.0
+shrinking_widths (Penalty value body ∷ items) all = absurd all.0
+shrinking_widths (Insert class size body ∷ items) all = absurd all.0
+shrinking_widths (Carry body ∷ items) all = absurd all.0
 
-pub set-as-they-are : (items : List Item) → AllRigid items →
+pub set_as_they_are : (items : List Item) → AllRigid items →
     set_items items (flat_map own_width items) ≡ own_items items
-set-as-they-are [] all = refl
-set-as-they-are (BoxItem height depth body ∷ items) all =
-    ap (λ (text : List ℕ). plain_text (BoxItem height depth body) ++ text) (set-as-they-are items all.1)
-set-as-they-are (Glue width stretch order shrink body ∷ items) all =
-    ap (λ (text : List ℕ). set_text body width ++ text) (set-as-they-are items all.1)
-set-as-they-are (Rule height depth body ∷ items) all = absurd all.0
-set-as-they-are (Kern width body ∷ items) all = absurd all.0
-set-as-they-are (Penalty value body ∷ items) all = absurd all.0
-set-as-they-are (Insert class size body ∷ items) all = absurd all.0
-set-as-they-are (Carry body ∷ items) all = absurd all.0
+set_as_they_are [] all = refl
+set_as_they_are (BoxItem height depth body ∷ items) all =
+    ap (λ (text : List ℕ). plain_text (BoxItem height depth body) ++ text) (set_as_they_are items all.1)
+set_as_they_are (Glue width stretch order shrink body ∷ items) all =
+    ap (λ (text : List ℕ). set_text body width ++ text) (set_as_they_are items all.1)
+set_as_they_are (Rule height depth body ∷ items) all = absurd all.0
+set_as_they_are (Kern width body ∷ items) all = absurd all.0
+set_as_they_are (Penalty value body ∷ items) all = absurd all.0
+set_as_they_are (Insert class size body ∷ items) all = absurd all.0
+set_as_they_are (Carry body ∷ items) all = absurd all.0
 
 -- ---- the first box is in front
 
-front-step : (item : Item) (items : List Item) → IsRigid item →
+front_step : (item : Item) (items : List Item) → IsRigid item →
     prefix_len (λ (it : Item). not (is_box it)) (trimmed items) ≡ 0 →
     prefix_len (λ (it : Item). not (is_box it)) (trimmed (item ∷ items)) ≡ 0
-front-step (BoxItem height depth body) items is rest = refl
-front-step (Glue width stretch order shrink body) items is rest = rest
-front-step (Rule height depth body) items is rest = absurd is
-front-step (Kern width body) items is rest = absurd is
-front-step (Penalty value body) items is rest = absurd is
-front-step (Insert class size body) items is rest = absurd is
-front-step (Carry body) items is rest = absurd is
+front_step (BoxItem height depth body) items is rest = refl
+front_step (Glue width stretch order shrink body) items is rest = rest
+front_step (Rule height depth body) items is rest = absurd is
+front_step (Kern width body) items is rest = absurd is
+front_step (Penalty value body) items is rest = absurd is
+front_step (Insert class size body) items is rest = absurd is
+front_step (Carry body) items is rest = absurd is
 
-pub box-in-front : (items : List Item) → AllRigid items →
+pub box_in_front : (items : List Item) → AllRigid items →
     prefix_len (λ (it : Item). not (is_box it)) (trimmed items) ≡ 0
-box-in-front [] all = refl
-box-in-front (item ∷ items) all = front-step item items all.0 (box-in-front items all.1)
+box_in_front [] all = refl
+box_in_front (item ∷ items) all = front_step item items all.0 (box_in_front items all.1)
 
-pub text-of-items : (topskip : ℤ) (items : List Item) → AllRigid items →
+pub the_text_of_items : (topskip : ℤ) (items : List Item) → AllRigid items →
     items_text topskip (trimmed items) (flat_map own_width (trimmed items)) ≡ top_line topskip (trimmed items) ++ own_items (trimmed items)
-text-of-items topskip items all =
-    rw (box-in-front items all) (ap (λ (text : List ℕ). top_line topskip (trimmed items) ++ text) (set-as-they-are (trimmed items) (rigid-trimmed items all)))
+the_text_of_items topskip items all =
+    rw (box_in_front items all) (ap (λ (text : List ℕ). top_line topskip (trimmed items) ++ text) (set_as_they_are (trimmed items) (rigid_trimmed items all)))

@@ -22,89 +22,84 @@ use Rattle.pg_rules.specs.Cost.{text_demerits, penalty_demerits}
 use Rattle.pg_rules.specs.History.{next_page, next_side, placed_of, context, side_of}
 use Rattle.pg_rules.specs.Room.{Document, items_of, size_of, is_text}
 use Rattle.pg_plain.specs.Plain.{single_items, items_between, plain_move, plain_context, IsPlainStyle}
-use Rattle.pg_plain.proofs.Singles.{rigid-single}
-use Rattle.pg_plain.proofs.Contexts.{bare-is, with_style, first-column, page-number, context-is, goal-is, items-of, size-is}
+use Rattle.pg_plain.proofs.Singles.{rigid_single}
+use Rattle.pg_plain.proofs.Contexts.{bare_is, with_style, first_column, page_number, context_is, goal_is, items_of_singles, size_is}
 use Rattle.pg_pages.specs.SetGlue.{glue_widths, stretching, shrinking, own_width}
 use Rattle.pg_pages.specs.Words.{line}
 use Rattle.pg_pages.specs.PageText.{floats_text, notes_text, area, text_column, column_text, column_body, float_column, column_line, page_line, page_head, set_line, text_area, end_penalty, top_line, top_area, bottom_area}
 use Rattle.pg_pages.specs.PlainText.{numbers_between, numbers_text, text_head, text_of_items, text_between, plain_page_text, own_items}
-use Rattle.pg_pages.proofs.Plain.{AllRigid, items-rigid, rigid-drop, rigid-take, rigid-trimmed, nothing-added, still, stretching-still, shrinking-still, stretching-widths, shrinking-widths, text-of-items}
+use Rattle.pg_pages.proofs.Plain.{AllRigid, items_rigid, rigid_drop, rigid_take, rigid_trimmed, nothing_added, still, stretching_still, shrinking_still, stretching_widths, shrinking_widths, the_text_of_items}
 
 -- ---- no floats and no notes
 
-pub no-floats : (doc : Document) → IsPlainStyle doc.style → (before : List ℕ) → floats_text doc before [] ≡ []
+pub no_floats : (doc : Document) → IsPlainStyle doc.style → (before : List ℕ) → floats_text doc before [] ≡ []
 unfolding floats_text
-no-floats doc plain before =
-    subst (λ (style : StyleValue). floats_text (with_style doc style) before [] ≡ []) (sym (bare-is doc.style plain)) refl
+no_floats doc plain before =
+    subst (λ (style : StyleValue). floats_text (with_style doc style) before [] ≡ []) (sym (bare_is doc.style plain)) refl
 
-pub no-notes : (style : StyleValue) → IsPlainStyle style → (items : List Item) → notes_text style items ≡ []
+pub no_notes : (style : StyleValue) → IsPlainStyle style → (items : List Item) → notes_text style items ≡ []
 unfolding notes_text
-no-notes style plain items =
-    subst (λ (it : StyleValue). notes_text it items ≡ []) (sym (bare-is style plain)) refl
+no_notes style plain items =
+    subst (λ (it : StyleValue). notes_text it items ≡ []) (sym (bare_is style plain)) refl
 
 -- ---- the column's items
 
-pub segment-is : (doc : Document) → AreRigid doc.blocks → (from to : ℕ) →
+pub segment_is : (doc : Document) → AreRigid doc.blocks → (from to : ℕ) →
     segment (plain_context doc from to) (to - from) ≡ trimmed (items_between doc.blocks from to)
-segment-is doc rigid from to =
-    ap (λ (items : List Item). trimmed (take (to - from) items)) (items-of doc (rigid-single doc.blocks rigid) from to)
+segment_is doc rigid from to =
+    ap (λ (items : List Item). trimmed (take (to - from) items)) (items_of_singles doc (rigid_single doc.blocks rigid) from to)
 
-pub spent-is : (doc : Document) → AreRigid doc.blocks → (from to : ℕ) → from ≤ to →
+pub spent_is : (doc : Document) → AreRigid doc.blocks → (from to : ℕ) → from ≤ to →
     is_spent (items_of (plain_context doc from to)) (to - from) ≡ is_spent (single_items doc.blocks) to
-spent-is doc rigid from to onward =
+spent_is doc rigid from to onward =
     let there : from + (to - from) ≡ to = omega (arith, onward) in
-    ap (λ (items : List Item). is_spent items (to - from)) (items-of doc (rigid-single doc.blocks rigid) from to)
+    ap (λ (items : List Item). is_spent items (to - from)) (items_of_singles doc (rigid_single doc.blocks rigid) from to)
     ∙ ap (λ (items : List Item). is_spent items 0) (drop-drop (to - from) from (single_items doc.blocks) ∙ ap (λ (k : ℕ). drop k (single_items doc.blocks)) there)
 
-pub rigid-column : (doc : Document) → AreRigid doc.blocks → (from to : ℕ) →
+pub rigid_column : (doc : Document) → AreRigid doc.blocks → (from to : ℕ) →
     AllRigid (items_of (plain_context doc from to))
-rigid-column doc rigid from to =
-    subst (λ (items : List Item). AllRigid items) (sym (items-of doc (rigid-single doc.blocks rigid) from to)) (rigid-drop from (single_items doc.blocks) (items-rigid doc.blocks rigid))
+rigid_column doc rigid from to =
+    subst (λ (items : List Item). AllRigid items) (sym (items_of_singles doc (rigid_single doc.blocks rigid) from to)) (rigid_drop from (single_items doc.blocks) (items_rigid doc.blocks rigid))
 
-abbrev pub spaced : List Item → ℕ → ℤ → ℤ → Bool → List ℤ
-spaced items n size goal spent =
-    if int_lt size goal && not spent then set_widths (flat_map stretching items) (goal -ℤ size) Stretch
-    else (if int_lt goal size then set_widths (flat_map shrinking items) (size -ℤ goal) Shrink else flat_map own_width items)
-
-three-ways : {X : Type 0} (b c : Bool) (x y z w : X) → x ≡ w → y ≡ w → z ≡ w →
+three_ways : {X : Type 0} (b c : Bool) (x y z w : X) → x ≡ w → y ≡ w → z ≡ w →
     (if b then x else (if c then y else z)) ≡ w
-three-ways true c x y z w e f g = e
-three-ways false true x y z w e f g = f
-three-ways false false x y z w e f g = g
+three_ways true c x y z w e f g = e
+three_ways false true x y z w e f g = f
+three_ways false false x y z w e f g = g
 
-pub widths-are : (doc : Document) → AreRigid doc.blocks → (from to : ℕ) →
+pub widths_are : (doc : Document) → AreRigid doc.blocks → (from to : ℕ) →
     glue_widths (plain_context doc from to) (to - from) ≡ flat_map own_width (trimmed (items_between doc.blocks from to))
-widths-are doc rigid from to =
+widths_are doc rigid from to =
     let it = plain_context doc from to in
     let n = to - from in
     let items = segment it n in
-    let all : AllRigid items = rigid-trimmed (take n (items_of it)) (rigid-take n (items_of it) (rigid-column doc rigid from to)) in
-    three-ways (int_lt (text_total it n) (text_goal it n) && not (is_spent (items_of it) n)) (int_lt (text_goal it n) (text_total it n)) _ _ _ (flat_map own_width items)
-    (still (flat_map stretching items) _ Stretch (stretching-still items all) ∙ stretching-widths items all)
-    (still (flat_map shrinking items) _ Shrink (shrinking-still items all) ∙ shrinking-widths items all) refl
-    ∙ ap (flat_map own_width) (segment-is doc rigid from to)
+    let all : AllRigid items = rigid_trimmed (take n (items_of it)) (rigid_take n (items_of it) (rigid_column doc rigid from to)) in
+    three_ways (int_lt (text_total it n) (text_goal it n) && not (is_spent (items_of it) n)) (int_lt (text_goal it n) (text_total it n)) _ _ _ (flat_map own_width items)
+    (still (flat_map stretching items) _ Stretch (stretching_still items all) ∙ stretching_widths items all)
+    (still (flat_map shrinking items) _ Shrink (shrinking_still items all) ∙ shrinking_widths items all) refl
+    ∙ ap (flat_map own_width) (segment_is doc rigid from to)
 
 -- ---- its numbers
 
-pub badness-is : (doc : Document) → IsPlainStyle doc.style → AreRigid doc.blocks → (from to : ℕ) → from ≤ to
+pub badness_is : (doc : Document) → IsPlainStyle doc.style → AreRigid doc.blocks → (from to : ℕ) → from ≤ to
     → text_badness (plain_context doc from to) (to - from) ≡ (numbers_between doc from to).badness
-badness-is doc plain rigid from to onward =
-    let goal = goal-is doc plain from to (to - from) in
-    let items = segment-is doc rigid from to in
-    rw (spent-is doc rigid from to onward, goal, items) refl
+badness_is doc plain rigid from to onward =
+    let goal = goal_is doc plain from to (to - from) in
+    let items = segment_is doc rigid from to in
+    rw (spent_is doc rigid from to onward, goal, items) refl
 
-pub set-line-is : (doc : Document) → IsPlainStyle doc.style → AreRigid doc.blocks → (from to : ℕ) → from ≤ to
+pub set_line_is : (doc : Document) → IsPlainStyle doc.style → AreRigid doc.blocks → (from to : ℕ) → from ≤ to
     → set_line (plain_context doc from to) (to - from) ≡ numbers_text (numbers_between doc from to)
 unfolding set_line numbers_text
-set-line-is doc plain rigid from to onward =
+set_line_is doc plain rigid from to onward =
     let it = plain_context doc from to in
     let n = to - from in
-    let badness = badness-is doc plain rigid from to onward in
+    let badness = badness_is doc plain rigid from to onward in
     let demerits : text_demerits it n ≡ (numbers_between doc from to).demerits =
-    let nothing = nothing-added penalty_demerits (items_of it) n (rigid-column doc rigid from to) refl in
+    let nothing = nothing_added penalty_demerits (items_of it) n (rigid_column doc rigid from to) refl in
     rw (nothing, badness) (omega (arith, ints)) in
-    let penalty : end_penalty it n ≡ pos 0 = nothing-added (λ (z : ℤ). z) (items_of it) n (rigid-column doc rigid from to) refl in
-    rw (demerits, penalty, badness, goal-is doc plain from to n, segment-is doc rigid from to) refl
+    let penalty : end_penalty it n ≡ pos 0 = nothing_added (λ (z : ℤ). z) (items_of it) n (rigid_column doc rigid from to) refl in
+    rw (demerits, penalty, badness, goal_is doc plain from to n, segment_is doc rigid from to) refl
 
 -- ---- the whole
 
@@ -113,35 +108,35 @@ parts : (set top text bottom notes set' text' : List ℕ) → set ≡ set' → t
 parts set top text bottom notes set' text' a b c d e =
     rw (a, b, c, d, e) (append-nil (set' ++ [] ++ text' ++ []) ∙ append-nil (set' ++ [] ++ text') ∙ ap (λ (front : List ℕ). front ++ text') (append-nil set'))
 
-pub text-area-is : (doc : Document) → AreRigid doc.blocks → (from to : ℕ) →
+pub text_area_is : (doc : Document) → AreRigid doc.blocks → (from to : ℕ) →
     text_area (plain_context doc from to) (to - from) ≡ text_between doc from to
 unfolding text_area text_of_items text_head
-text-area-is doc rigid from to =
-    rw (widths-are doc rigid from to, segment-is doc rigid from to)
+text_area_is doc rigid from to =
+    rw (widths_are doc rigid from to, segment_is doc rigid from to)
     (ap (λ (text : List ℕ). line (codes "area text") ++ text)
-    (text-of-items doc.style.topskip (items_between doc.blocks from to) (rigid-take (to - from) (drop from (single_items doc.blocks)) (rigid-drop from (single_items doc.blocks) (items-rigid doc.blocks rigid))))
+    (the_text_of_items doc.style.topskip (items_between doc.blocks from to) (rigid_take (to - from) (drop from (single_items doc.blocks)) (rigid_drop from (single_items doc.blocks) (items_rigid doc.blocks rigid))))
     ∙ sym (append_assoc (line (codes "area text")) (top_line doc.style.topskip (trimmed (items_between doc.blocks from to))) (own_items (trimmed (items_between doc.blocks from to)))))
 
-pub text-is : (doc : Document) → IsPlainStyle doc.style → AreRigid doc.blocks → (from to : ℕ) → from ≤ to
+pub text_is : (doc : Document) → IsPlainStyle doc.style → AreRigid doc.blocks → (from to : ℕ) → from ≤ to
     → text_column (plain_context doc from to) (to - from) ≡ numbers_text (numbers_between doc from to) ++ text_between doc from to
-text-is doc plain rigid from to onward =
+text_is doc plain rigid from to onward =
     let it = plain_context doc from to in
     let n = to - from in
-    let top : top_area it ≡ [] = ap (area (codes "top")) (no-floats doc plain []) in
-    let bottom : bottom_area it ≡ [] = ap (area (codes "bottom")) (no-floats doc plain _) in
-    let notes : area (codes "notes") (notes_text doc.style (segment it n)) ≡ [] = ap (area (codes "notes")) (no-notes doc.style plain (segment it n)) in
+    let top : top_area it ≡ [] = ap (area (codes "top")) (no_floats doc plain []) in
+    let bottom : bottom_area it ≡ [] = ap (area (codes "bottom")) (no_floats doc plain _) in
+    let notes : area (codes "notes") (notes_text doc.style (segment it n)) ≡ [] = ap (area (codes "notes")) (no_notes doc.style plain (segment it n)) in
     parts (set_line it n) (top_area it) (text_area it n) (bottom_area it) (area (codes "notes") (notes_text doc.style (segment it n))) (numbers_text (numbers_between doc from to)) (text_between doc from to)
-    (set-line-is doc plain rigid from to onward) top (text-area-is doc rigid from to) bottom notes
+    (set_line_is doc plain rigid from to onward) top (text_area_is doc rigid from to) bottom notes
 
-pub side-is : (style : StyleValue) → IsPlainStyle style → (ms : List PageMove) → next_side style ms ≡ S
-side-is style plain ms = ap (λ (first : First). side_of first (next_page style ms)) plain.single_sides
+pub side_is : (style : StyleValue) → IsPlainStyle style → (ms : List PageMove) → next_side style ms ≡ S
+side_is style plain ms = ap (λ (first : First). side_of first (next_page style ms)) plain.single_sides
 
-pub head-is : (doc : Document) → IsPlainStyle doc.style → (from to : ℕ) (ms : List PageMove) →
+pub head_is : (doc : Document) → IsPlainStyle doc.style → (from to : ℕ) (ms : List PageMove) →
     page_head doc (plain_move from to) ms ≡ page_line (length ms + 1) S 0 []
-head-is doc plain from to ms =
-    let wide = no-floats doc plain (placed_of doc.style ms) in
-    ap (λ (number : ℕ). page_line number (next_side doc.style ms) 0 [] ++ area (codes "wide") (floats_text doc (placed_of doc.style ms) [])) (page-number doc.style plain.one_column ms)
-    ∙ ap (λ (side : Side). page_line (length ms + 1) side 0 [] ++ area (codes "wide") (floats_text doc (placed_of doc.style ms) [])) (side-is doc.style plain ms)
+head_is doc plain from to ms =
+    let wide = no_floats doc plain (placed_of doc.style ms) in
+    ap (λ (number : ℕ). page_line number (next_side doc.style ms) 0 [] ++ area (codes "wide") (floats_text doc (placed_of doc.style ms) [])) (page_number doc.style plain.one_column ms)
+    ∙ ap (λ (side : Side). page_line (length ms + 1) side 0 [] ++ area (codes "wide") (floats_text doc (placed_of doc.style ms) [])) (side_is doc.style plain ms)
     ∙ ap (λ (text : List ℕ). page_line (length ms + 1) S 0 [] ++ area (codes "wide") text) wide
     ∙ append-nil (page_line (length ms + 1) S 0 [])
 
@@ -149,23 +144,23 @@ joined : (head head' line body body' : List ℕ) → head ≡ head' → body ≡
     head ++ line ++ body ≡ head' ++ (line ++ body')
 joined head head' line body body' e f = rw (e, f) (append_assoc head' line body')
 
-pub body-is : (doc : Document) → IsPlainStyle doc.style → AreRigid doc.blocks → (from to : ℕ) → from < to →
+pub body_is : (doc : Document) → IsPlainStyle doc.style → AreRigid doc.blocks → (from to : ℕ) → from < to →
     to ≤ length doc.blocks
     → column_body (plain_context doc from to) ≡ numbers_text (numbers_between doc from to) ++ text_between doc from to
-body-is doc plain rigid from to onward within =
+body_is doc plain rigid from to onward within =
     let it = plain_context doc from to in
     let forward : from ≤ to = omega (arith, onward) in
     let apart : is_text it ≡ true = let differ : (from == to) ≡ false = grind (arith, nat_tests) in
     rw differ refl in
     ap (λ (b : Bool). if b then option_map_or (text_column it) (size_of it) [] else float_column it) apart
-    ∙ ap (λ (o : Option ℕ). option_map_or (text_column it) o []) (size-is doc (rigid-single doc.blocks rigid) from to forward within)
-    ∙ text-is doc plain rigid from to forward
+    ∙ ap (λ (o : Option ℕ). option_map_or (text_column it) o []) (size_is doc (rigid_single doc.blocks rigid) from to forward within)
+    ∙ text_is doc plain rigid from to forward
 
-pub column-is : (doc : Document) → IsPlainStyle doc.style → AreRigid doc.blocks → (from to : ℕ) →
+pub column_is : (doc : Document) → IsPlainStyle doc.style → AreRigid doc.blocks → (from to : ℕ) →
     from < to → to ≤ length doc.blocks → (ms : List PageMove)
     → column_text doc (plain_move from to) ms ≡ plain_page_text doc (length ms + 1) from to
-column-is doc plain rigid from to onward within ms =
+column_is doc plain rigid from to onward within ms =
     let m = plain_move from to in
-    ap (λ (number : ℕ). (if number == 1 then page_head doc m ms else []) ++ column_line number m.column ++ column_body (context doc m ms)) (first-column doc.style plain.one_column ms)
+    ap (λ (number : ℕ). (if number == 1 then page_head doc m ms else []) ++ column_line number m.column ++ column_body (context doc m ms)) (first_column doc.style plain.one_column ms)
     ∙ joined (page_head doc m ms) (page_line (length ms + 1) S 0 []) (column_line 1 m.column) (column_body (context doc m ms)) (numbers_text (numbers_between doc from to) ++ text_between doc from to)
-    (head-is doc plain from to ms) (ap column_body (context-is doc plain from to ms) ∙ body-is doc plain rigid from to onward within)
+    (head_is doc plain from to ms) (ap column_body (context_is doc plain from to ms) ∙ body_is doc plain rigid from to onward within)

@@ -21,18 +21,18 @@ shown_lines zero = shown_line ∷ []
 shown_lines (suc n) = shown_line ∷ shown_gap ∷ shown_lines n
 
 -- ten lines on two pages
-ten_lines-text : page_text (galley (shown_lines 9)) (plain 58) (two_pages 9 19) (pos 200) ≡ codes "pages 2 cost 200 width 345.0\npage 1 side S run 0 wide -\ncolumn 1 from 0 0 0 to 9 0 0 top - bottom - picks -\nset goal 58.0 total 58.0 badness 0 penalty 0 demerits 100\narea text\n.\\glue(\\topskip) 3.0\n.\\hbox(7.0+2.0)x345.0\n.\\glue 3.0, set 3.0\n.\\hbox(7.0+2.0)x345.0\n.\\glue 3.0, set 3.0\n.\\hbox(7.0+2.0)x345.0\n.\\glue 3.0, set 3.0\n.\\hbox(7.0+2.0)x345.0\n.\\glue 3.0, set 3.0\n.\\hbox(7.0+2.0)x345.0\npage 2 side S run 0 wide -\ncolumn 1 from 9 0 0 to 19 0 0 top - bottom - picks -\nset goal 58.0 total 58.0 badness 0 penalty 0 demerits 100\narea text\n.\\glue(\\topskip) 3.0\n.\\hbox(7.0+2.0)x345.0\n.\\glue 3.0, set 3.0\n.\\hbox(7.0+2.0)x345.0\n.\\glue 3.0, set 3.0\n.\\hbox(7.0+2.0)x345.0\n.\\glue 3.0, set 3.0\n.\\hbox(7.0+2.0)x345.0\n.\\glue 3.0, set 3.0\n.\\hbox(7.0+2.0)x345.0\n"
+ten_lines_text : page_text (galley (shown_lines 9)) (plain 58) (two_pages 9 19) (pos 200) ≡ codes "pages 2 cost 200 width 345.0\npage 1 side S run 0 wide -\ncolumn 1 from 0 0 0 to 9 0 0 top - bottom - picks -\nset goal 58.0 total 58.0 badness 0 penalty 0 demerits 100\narea text\n.\\glue(\\topskip) 3.0\n.\\hbox(7.0+2.0)x345.0\n.\\glue 3.0, set 3.0\n.\\hbox(7.0+2.0)x345.0\n.\\glue 3.0, set 3.0\n.\\hbox(7.0+2.0)x345.0\n.\\glue 3.0, set 3.0\n.\\hbox(7.0+2.0)x345.0\n.\\glue 3.0, set 3.0\n.\\hbox(7.0+2.0)x345.0\npage 2 side S run 0 wide -\ncolumn 1 from 9 0 0 to 19 0 0 top - bottom - picks -\nset goal 58.0 total 58.0 badness 0 penalty 0 demerits 100\narea text\n.\\glue(\\topskip) 3.0\n.\\hbox(7.0+2.0)x345.0\n.\\glue 3.0, set 3.0\n.\\hbox(7.0+2.0)x345.0\n.\\glue 3.0, set 3.0\n.\\hbox(7.0+2.0)x345.0\n.\\glue 3.0, set 3.0\n.\\hbox(7.0+2.0)x345.0\n.\\glue 3.0, set 3.0\n.\\hbox(7.0+2.0)x345.0\n"
 unfolding page_text page_line notes_text floats_text set_line text_area column_ends column_counts page_side page_run head_counts head_line digits fraction_digits
-ten_lines-text = refl
+ten_lines_text = refl
 
 -- a float above its line
 abbrev pub shown_float : GalleyValue
 shown_float =
     galley (shown_line ∷ Insert 100 (points 20) (codes "\\insert100, natural size 20.0; split(0.0,0.0); float cost 0") ∷ [])
 
-float-text : page_text shown_float both_style (with_float 1 0) (pos 100) ≡ codes "pages 1 cost 100 width 345.0\npage 1 side S run 0 wide 0\ncolumn 1 from 0 0 0 to 2 0 0 top 1 bottom 0 picks -\nset goal 34.0 total 10.0 badness 0 penalty 0 demerits 100\narea top\n.\\insert100, natural size 20.0; split(0.0,0.0); float cost 0\narea text\n.\\glue(\\topskip) 3.0\n.\\hbox(7.0+2.0)x345.0\n"
+float_text : page_text shown_float both_style (with_float 1 0) (pos 100) ≡ codes "pages 1 cost 100 width 345.0\npage 1 side S run 0 wide 0\ncolumn 1 from 0 0 0 to 2 0 0 top 1 bottom 0 picks -\nset goal 34.0 total 10.0 badness 0 penalty 0 demerits 100\narea top\n.\\insert100, natural size 20.0; split(0.0,0.0); float cost 0\narea text\n.\\glue(\\topskip) 3.0\n.\\hbox(7.0+2.0)x345.0\n"
 unfolding page_text page_line notes_text floats_text set_line text_area column_ends column_counts page_side page_run head_counts head_line digits fraction_digits
-float-text = refl
+float_text = refl
 
 -- bodies of several lines, penalties, and a line higher than the ones before
 abbrev pub deep_line : List ℕ → ℕ → Item
@@ -51,9 +51,9 @@ shown_words = galley (
     ∷ deep_line (codes "\\hbox(6.94444+1.94444)x345.0\n.\\tenrm h") 127431 ∷ shown_penalty ∷ shown_baselineskip
     ∷ deep_line (codes "\\hbox(6.94444+0.0)x345.0, glue set 200.0fil\n.\\tenrm e") 0 ∷ [])
 
-words-text : page_text shown_words (plain 550) (pages (page [] (text_column (at 0) (at 8) [] ∷ []) ∷ [])) (pos 100) ≡ codes "pages 1 cost 100 width 345.0\npage 1 side S run 0 wide -\ncolumn 1 from 0 0 0 to 8 0 0 top - bottom - picks -\nset goal 550.0 total 34.0 badness 0 penalty 0 demerits 100\narea text\n.\\glue(\\topskip) 3.05556\n.\\hbox(6.94444+1.94444)x345.0, glue set 0.5\n..\\tenrm T\n.\\penalty 150\n.\\glue(\\baselineskip) 3.11111, set 3.11111\n.\\hbox(6.94444+1.94444)x345.0\n..\\tenrm h\n.\\penalty 150\n.\\glue(\\baselineskip) 3.11111, set 3.11111\n.\\hbox(6.94444+0.0)x345.0, glue set 200.0fil\n..\\tenrm e\n"
+words_text : page_text shown_words (plain 550) (pages (page [] (text_column (at 0) (at 8) [] ∷ []) ∷ [])) (pos 100) ≡ codes "pages 1 cost 100 width 345.0\npage 1 side S run 0 wide -\ncolumn 1 from 0 0 0 to 8 0 0 top - bottom - picks -\nset goal 550.0 total 34.0 badness 0 penalty 0 demerits 100\narea text\n.\\glue(\\topskip) 3.05556\n.\\hbox(6.94444+1.94444)x345.0, glue set 0.5\n..\\tenrm T\n.\\penalty 150\n.\\glue(\\baselineskip) 3.11111, set 3.11111\n.\\hbox(6.94444+1.94444)x345.0\n..\\tenrm h\n.\\penalty 150\n.\\glue(\\baselineskip) 3.11111, set 3.11111\n.\\hbox(6.94444+0.0)x345.0, glue set 200.0fil\n..\\tenrm e\n"
 unfolding page_text page_line notes_text floats_text set_line text_area column_ends column_counts page_side page_run head_counts head_line digits fraction_digits
-words-text = refl
+words_text = refl
 
 -- glue that is stretched to the goal, and a note
 abbrev pub shown_soft : Item
@@ -64,6 +64,6 @@ shown_note =
     galley (shown_line ∷ shown_soft ∷ shown_line ∷ shown_soft ∷ shown_line ∷ shown_soft ∷ shown_line ∷ shown_soft ∷ shown_line
     ∷ Insert 200 (points 9) (codes "\\insert200, natural size 9.0; split(0.0,0.0); float cost 0") ∷ [])
 
-note-text : page_text shown_note (note_style 100) (two_pages 7 10) (pos 41036936) ≡ codes "pages 2 cost 41036936 width 345.0\npage 1 side S run 0 wide -\ncolumn 1 from 0 0 0 to 7 0 0 top - bottom - picks -\nset goal 58.0 total 46.0 badness 6396 penalty 0 demerits 41036836\narea text\n.\\glue(\\topskip) 3.0\n.\\hbox(7.0+2.0)x345.0\n.\\glue 3.0 plus 1.0, set 7.0\n.\\hbox(7.0+2.0)x345.0\n.\\glue 3.0 plus 1.0, set 7.0\n.\\hbox(7.0+2.0)x345.0\n.\\glue 3.0 plus 1.0, set 7.0\n.\\hbox(7.0+2.0)x345.0\npage 2 side S run 0 wide -\ncolumn 1 from 7 0 0 to 10 0 0 top - bottom - picks -\nset goal 45.0 total 10.0 badness 0 penalty 0 demerits 100\narea text\n.\\glue(\\topskip) 3.0\n.\\hbox(7.0+2.0)x345.0\narea notes\n.\\insert200, natural size 9.0; split(0.0,0.0); float cost 0\n"
+note_text : page_text shown_note (note_style 100) (two_pages 7 10) (pos 41036936) ≡ codes "pages 2 cost 41036936 width 345.0\npage 1 side S run 0 wide -\ncolumn 1 from 0 0 0 to 7 0 0 top - bottom - picks -\nset goal 58.0 total 46.0 badness 6396 penalty 0 demerits 41036836\narea text\n.\\glue(\\topskip) 3.0\n.\\hbox(7.0+2.0)x345.0\n.\\glue 3.0 plus 1.0, set 7.0\n.\\hbox(7.0+2.0)x345.0\n.\\glue 3.0 plus 1.0, set 7.0\n.\\hbox(7.0+2.0)x345.0\n.\\glue 3.0 plus 1.0, set 7.0\n.\\hbox(7.0+2.0)x345.0\npage 2 side S run 0 wide -\ncolumn 1 from 7 0 0 to 10 0 0 top - bottom - picks -\nset goal 45.0 total 10.0 badness 0 penalty 0 demerits 100\narea text\n.\\glue(\\topskip) 3.0\n.\\hbox(7.0+2.0)x345.0\narea notes\n.\\insert200, natural size 9.0; split(0.0,0.0); float cost 0\n"
 unfolding page_text page_line notes_text floats_text set_line text_area column_ends column_counts page_side page_run head_counts head_line digits fraction_digits
-note-text = refl
+note_text = refl

@@ -15,81 +15,78 @@ use Rattle.pg_rules.specs.Room.{Document, items_of, size_of, top_height, bottom_
 use Rattle.pg_rules.specs.ColumnRules.{text_goal}
 use Rattle.pg_rules.specs.History.{next_column, next_page, placed_of, wide_of, context, made_wide, with_wide}
 use Rattle.pg_plain.specs.Plain.{AreSingle, single_items, IsPlainStyle, plain_move, plain_context, plain_room}
-use Rattle.pg_plain.proofs.Singles.{items-are, flat-length, drop-single, drop-items, position-is}
+use Rattle.pg_plain.proofs.Singles.{items_are, flat_length, drop_single, drop_items, position_is}
+use Rattle.pg_lemmas.proofs.Bools.{either_way}
 
 -- ---- styles without classes
 
 abbrev pub bare : StyleValue → StyleValue
 bare style = record style { classes = [] }
 
-pub bare-is : (style : StyleValue) → IsPlainStyle style → style ≡ bare style
-bare-is style plain = ap (λ (classes : List Class). record style { classes = classes }) plain.no_classes
+pub bare_is : (style : StyleValue) → IsPlainStyle style → style ≡ bare style
+bare_is style plain = ap (λ (classes : List Class). record style { classes = classes }) plain.no_classes
 
 abbrev pub with_style : Document → StyleValue → Document
 with_style doc style = record { blocks = doc.blocks; style = style }
 
-either-way : {X : Type 0} (b : Bool) (x : X) → (if b then x else x) ≡ x
-either-way true x = refl
-either-way false x = refl
-
 -- ---- pages of one column
 
-pub first-column : (style : StyleValue) → style.columns ≡ 1 → (ms : List PageMove) → next_column style ms ≡ 1
-first-column style one [] = refl
-first-column style one (m ∷ ms) = rw (first-column style one ms, one) refl
+pub first_column : (style : StyleValue) → style.columns ≡ 1 → (ms : List PageMove) → next_column style ms ≡ 1
+first_column style one [] = refl
+first_column style one (m ∷ ms) = rw (first_column style one ms, one) refl
 
-pub page-number : (style : StyleValue) → style.columns ≡ 1 → (ms : List PageMove) →
+pub page_number : (style : StyleValue) → style.columns ≡ 1 → (ms : List PageMove) →
     next_page style ms ≡ length ms + 1
-page-number style one [] = refl
-page-number style one (m ∷ ms) = rw (first-column style one ms, one, page-number style one ms) (omega arith)
+page_number style one [] = refl
+page_number style one (m ∷ ms) = rw (first_column style one ms, one, page_number style one ms) (omega arith)
 
 -- ---- the context
 
-bare-wide : (doc : Document) (placed : List ℕ) → made_wide (with_style doc (bare doc.style)) placed [] ≡ None
-bare-wide doc placed = refl
+bare_wide : (doc : Document) (placed : List ℕ) → made_wide (with_style doc (bare doc.style)) placed [] ≡ None
+bare_wide doc placed = refl
 
-pub context-is : (doc : Document) → IsPlainStyle doc.style → (from to : ℕ) (ms : List PageMove) →
+pub context_is : (doc : Document) → IsPlainStyle doc.style → (from to : ℕ) (ms : List PageMove) →
     context doc (plain_move from to) ms ≡ plain_context doc from to
-context-is doc plain from to ms =
-    let first = first-column doc.style plain.one_column ms in
+context_is doc plain from to ms =
+    let first = first_column doc.style plain.one_column ms in
     let wide : wide_of doc (plain_move from to ∷ ms) ≡ None =
-    rw first (subst (λ (style : StyleValue). made_wide (with_style doc style) (placed_of doc.style ms) [] ≡ None) (sym (bare-is doc.style plain)) (bare-wide doc (placed_of doc.style ms))) in
+    rw first (subst (λ (style : StyleValue). made_wide (with_style doc style) (placed_of doc.style ms) [] ≡ None) (sym (bare_is doc.style plain)) (bare_wide doc (placed_of doc.style ms))) in
     let before : with_wide doc.style (placed_of doc.style ms) (plain_move from to) ≡ [] =
-    subst (λ (style : StyleValue). with_wide style (placed_of doc.style ms) (plain_move from to) ≡ []) (sym (bare-is doc.style plain)) refl in
+    subst (λ (style : StyleValue). with_wide style (placed_of doc.style ms) (plain_move from to) ≡ []) (sym (bare_is doc.style plain)) refl in
     rw (wide, before) refl
 
 -- ---- its room
 
-bare-goal : (doc : Document) (from to n : ℕ) →
+bare_goal : (doc : Document) (from to n : ℕ) →
     text_goal (plain_context (with_style doc (bare doc.style)) from to) n ≡ plain_room doc.style
-bare-goal doc from to n =
+bare_goal doc from to n =
     let it = plain_context (with_style doc (bare doc.style)) from to in
-    let top : top_height it ≡ pos 0 = either-way _ (pos 0) in
-    let bottom : bottom_height it ≡ pos 0 = either-way _ (pos 0) in
+    let top : top_height it ≡ pos 0 = either_way _ (pos 0) in
+    let bottom : bottom_height it ≡ pos 0 = either_way _ (pos 0) in
     omega (arith, ints, top, bottom)
 
-pub goal-is : (doc : Document) → IsPlainStyle doc.style → (from to n : ℕ) →
+pub goal_is : (doc : Document) → IsPlainStyle doc.style → (from to n : ℕ) →
     text_goal (plain_context doc from to) n ≡ plain_room doc.style
-goal-is doc plain from to n =
-    subst (λ (style : StyleValue). text_goal (plain_context (with_style doc style) from to) n ≡ plain_room doc.style) (sym (bare-is doc.style plain)) (bare-goal doc from to n)
+goal_is doc plain from to n =
+    subst (λ (style : StyleValue). text_goal (plain_context (with_style doc style) from to) n ≡ plain_room doc.style) (sym (bare_is doc.style plain)) (bare_goal doc from to n)
 
 -- ---- its items
 
-pub items-of : (doc : Document) → AreSingle doc.blocks → (from to : ℕ) →
+pub items_of_singles : (doc : Document) → AreSingle doc.blocks → (from to : ℕ) →
     items_of (plain_context doc from to) ≡ drop from (single_items doc.blocks)
-items-of doc single from to = items-are from (drop from doc.blocks) [] (drop-single from doc.blocks single)
-    ∙ drop-items from doc.blocks single
+items_of_singles doc single from to = items_are from (drop from doc.blocks) [] (drop_single from doc.blocks single)
+    ∙ drop_items from doc.blocks single
 
-pub size-is : (doc : Document) → AreSingle doc.blocks → (from to : ℕ) → from ≤ to → to ≤ length doc.blocks →
+pub size_is : (doc : Document) → AreSingle doc.blocks → (from to : ℕ) → from ≤ to → to ≤ length doc.blocks →
     size_of (plain_context doc from to) ≡ Some (to - from)
-size-is doc single from to onward within =
-    let rest = drop-single from doc.blocks single in
+size_is doc single from to onward within =
+    let rest = drop_single from doc.blocks single in
     let rest-length = length-drop from doc.blocks in
     elim (cases_Bool (to == length doc.blocks)) [
       | inl last ↦ let same : to ≡ length doc.blocks = grind (arith, nat_tests) in
-          let long = flat-length from (drop from doc.blocks) [] rest in
+          let long = flat_length from (drop from doc.blocks) [] rest in
           rw last (ap Some (long ∙ omega (arith, same, rest-length)))
       | inr inside ↦ let below : to < length doc.blocks = grind (arith, nat_tests) in
           rw inside (subst (λ (k : ℕ). position (λ (it : FlatItem). is_same_place it.place (place k 0 0)) (flat_items_from from (drop from doc.blocks) []) ≡ Some (to - from)) (omega arith)
-          (position-is from (to - from) (drop from doc.blocks) [] rest (omega (arith, below, rest-length))))
+          (position_is from (to - from) (drop from doc.blocks) [] rest (omega (arith, below, rest-length))))
     ]

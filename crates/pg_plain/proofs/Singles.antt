@@ -13,66 +13,66 @@ use Rattle.pg_flat.specs.Rigid.{AreRigid}
 use Rattle.pg_plain.specs.Plain.{AreSingle, single_items}
 
 -- the items are those of the blocks
-pub items-are : (n : ℕ) (blocks : List Block) (picks : List ℕ) → AreSingle blocks →
+pub items_are : (n : ℕ) (blocks : List Block) (picks : List ℕ) → AreSingle blocks →
     map (λ (it : FlatItem). it.item) (flat_items_from n blocks picks) ≡ single_items blocks
-items-are n [] picks single = refl
-items-are n (One item ∷ blocks) picks single =
-    ap (λ (items : List Item). item ∷ items) (items-are (n + 1) blocks picks single.1)
-items-are n (Choice variants ∷ blocks) picks single = absurd single.0
+items_are n [] picks single = refl
+items_are n (One item ∷ blocks) picks single =
+    ap (λ (items : List Item). item ∷ items) (items_are (n + 1) blocks picks single.1)
+items_are n (Choice variants ∷ blocks) picks single = absurd single.0
 
-pub flat-length : (n : ℕ) (blocks : List Block) (picks : List ℕ) → AreSingle blocks →
+pub flat_length : (n : ℕ) (blocks : List Block) (picks : List ℕ) → AreSingle blocks →
     length (flat_items_from n blocks picks) ≡ length blocks
-flat-length n [] picks single = refl
-flat-length n (One item ∷ blocks) picks single = ap suc (flat-length (n + 1) blocks picks single.1)
-flat-length n (Choice variants ∷ blocks) picks single = absurd single.0
+flat_length n [] picks single = refl
+flat_length n (One item ∷ blocks) picks single = ap suc (flat_length (n + 1) blocks picks single.1)
+flat_length n (Choice variants ∷ blocks) picks single = absurd single.0
 
-pub items-length : (blocks : List Block) → AreSingle blocks → length (single_items blocks) ≡ length blocks
-items-length [] single = refl
-items-length (One item ∷ blocks) single = ap suc (items-length blocks single.1)
-items-length (Choice variants ∷ blocks) single = absurd single.0
+pub items_length : (blocks : List Block) → AreSingle blocks → length (single_items blocks) ≡ length blocks
+items_length [] single = refl
+items_length (One item ∷ blocks) single = ap suc (items_length blocks single.1)
+items_length (Choice variants ∷ blocks) single = absurd single.0
 
 -- rigid blocks are single items
-pub rigid-single : (blocks : List Block) → AreRigid blocks → AreSingle blocks
-rigid-single [] all = tt
-rigid-single (One item ∷ blocks) all = (tt, rigid-single blocks all.1)
-rigid-single (Choice variants ∷ blocks) all = absurd all.0
+pub rigid_single : (blocks : List Block) → AreRigid blocks → AreSingle blocks
+rigid_single [] all = tt
+rigid_single (One item ∷ blocks) all = (tt, rigid_single blocks all.1)
+rigid_single (Choice variants ∷ blocks) all = absurd all.0
 
-pub drop-single : (k : ℕ) (blocks : List Block) → AreSingle blocks → AreSingle (drop k blocks)
-drop-single zero blocks single = single
-drop-single (suc k) [] single = tt
-drop-single (suc k) (block ∷ blocks) single = drop-single k blocks single.1
+pub drop_single : (k : ℕ) (blocks : List Block) → AreSingle blocks → AreSingle (drop k blocks)
+drop_single zero blocks single = single
+drop_single (suc k) [] single = tt
+drop_single (suc k) (block ∷ blocks) single = drop_single k blocks single.1
 
-pub drop-items : (k : ℕ) (blocks : List Block) → AreSingle blocks →
+pub drop_items : (k : ℕ) (blocks : List Block) → AreSingle blocks →
     single_items (drop k blocks) ≡ drop k (single_items blocks)
-drop-items zero blocks single = refl
-drop-items (suc k) [] single = refl
-drop-items (suc k) (One item ∷ blocks) single = drop-items k blocks single.1
-drop-items (suc k) (Choice variants ∷ blocks) single = absurd single.0
+drop_items zero blocks single = refl
+drop_items (suc k) [] single = refl
+drop_items (suc k) (One item ∷ blocks) single = drop_items k blocks single.1
+drop_items (suc k) (Choice variants ∷ blocks) single = absurd single.0
 
 abbrev pub not_at : Place → FlatItem → Bool
 not_at to it = not (is_same_place it.place to)
 
 -- so many items stand before the k-th block's
-pub prefix-is : (n k : ℕ) (blocks : List Block) (picks : List ℕ) → AreSingle blocks → k < length blocks
+pub prefix_is : (n k : ℕ) (blocks : List Block) (picks : List ℕ) → AreSingle blocks → k < length blocks
     → prefix_len (not_at (place (n + k) 0 0)) (flat_items_from n blocks picks) ≡ k
-prefix-is n k [] picks single less = absurd (omega (arith, less))
-prefix-is n zero (One item ∷ blocks) picks single less =
+prefix_is n k [] picks single less = absurd (omega (arith, less))
+prefix_is n zero (One item ∷ blocks) picks single less =
     let here : (n == (n + 0)) ≡ true = grind (arith, nat_tests) in
     rw here refl
-prefix-is n (suc k) (One item ∷ blocks) picks single less =
+prefix_is n (suc k) (One item ∷ blocks) picks single less =
     let there : (n == (n + suc k)) ≡ false = grind (arith, nat_tests) in
     let rest : prefix_len (not_at (place (n + suc k) 0 0)) (flat_items_from (n + 1) blocks picks) ≡ k =
     subst (λ (j : ℕ). prefix_len (not_at (place j 0 0)) (flat_items_from (n + 1) blocks picks) ≡ k) (omega arith)
-    (prefix-is (n + 1) k blocks picks single.1 (omega (arith, less))) in
+    (prefix_is (n + 1) k blocks picks single.1 (omega (arith, less))) in
     rw (there, rest) (omega arith)
-prefix-is n k (Choice variants ∷ blocks) picks single less = absurd single.0
+prefix_is n k (Choice variants ∷ blocks) picks single less = absurd single.0
 
 -- the k-th item stands at the k-th block
-pub position-is : (n k : ℕ) (blocks : List Block) (picks : List ℕ) → AreSingle blocks → k < length blocks
+pub position_is : (n k : ℕ) (blocks : List Block) (picks : List ℕ) → AreSingle blocks → k < length blocks
     → position (λ (it : FlatItem). is_same_place it.place (place (n + k) 0 0)) (flat_items_from n blocks picks)
     ≡ Some k
-position-is n k blocks picks single less =
-    let prefix = prefix-is n k blocks picks single less in
-    let long = flat-length n blocks picks single in
+position_is n k blocks picks single less =
+    let prefix = prefix_is n k blocks picks single less in
+    let long = flat_length n blocks picks single in
     let there : nat_lt k (length (flat_items_from n blocks picks)) ≡ true = grind (arith, nat_tests) in
     rw (prefix, there) refl

@@ -1,4 +1,4 @@
 pub mod OrderLaws
 pub mod LastLemmas
-pub mod BackLemmas
+pub mod BackwardsLemmas
 pub mod PickLemmas

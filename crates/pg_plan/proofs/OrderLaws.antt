@@ -11,6 +11,7 @@ use Rattle.std.proofs.lemmas.List.{reverse-reverse}
 use Rattle.pg_list.specs.declared.galley.Place.{Place}
 use Rattle.pg_plan.specs.declared.pages.PageMove.{PageMove}
 use Rattle.pg_plan.specs.Order.{columns, plan_cmp, place_cmp, counts_cmp, picks_cmp, column_cmp}
+use Rattle.pg_lemmas.proofs.Orders.{then_equal}
 
 pub place_total : IsTotalOrder place_cmp
 place_total = then_total {R = λ (a b : Place). nat_cmp a.block b.block} (on_total (λ (a : Place). a.block) nat_cmp_total) (then_total {R = λ (a b : Place). nat_cmp a.variant b.variant} (on_total (λ (a : Place). a.variant) nat_cmp_total) (on_total (λ (a : Place). a.index) nat_cmp_total))
@@ -25,21 +26,16 @@ columns_total =
     (then_total (on_total (λ (a : PageMove). a.column.top) nat_list_cmp_total)
     (on_total (λ (a : PageMove). reverse a.column.picks) nat_list_cmp_total))))))
 
-then_equal : (o p : Ordering) → ordering_then o p ≡ Equal → (o ≡ Equal) × (p ≡ Equal)
-then_equal Less p e = absurd cc
-then_equal Equal p e = (refl, e)
-then_equal Greater p e = absurd cc
-
-nat_equal : (a b : ℕ) → nat_cmp a b ≡ Equal → a ≡ b
+pub nat_equal : (a b : ℕ) → nat_cmp a b ≡ Equal → a ≡ b
 nat_equal a b e = by_ranked (a < b) (a ≡ b) (b < a) (nat_cmp a b) (ranked a b (nat_cmp a b) refl) (λ o _. absurd cc) (λ _ p. p) (λ o _. absurd cc)
 
-list_equal : (xs ys : List ℕ) → slice_cmp nat_cmp xs ys ≡ Equal → xs ≡ ys
+pub list_equal : (xs ys : List ℕ) → slice_cmp nat_cmp xs ys ≡ Equal → xs ≡ ys
 list_equal [] [] e = refl
 list_equal [] (y ∷ ys) e = absurd cc
 list_equal (x ∷ xs) [] e = absurd cc
 list_equal (x ∷ xs) (y ∷ ys) e = let t = then_equal (nat_cmp x y) (slice_cmp nat_cmp xs ys) e in let p : x ≡ y = nat_equal x y t.0 in let q : xs ≡ ys = list_equal xs ys t.1 in cc
 
-place_equal : (a b : Place) → place_cmp a b ≡ Equal → a ≡ b
+pub place_equal : (a b : Place) → place_cmp a b ≡ Equal → a ≡ b
 place_equal a b e =
     let t = then_equal (nat_cmp a.block b.block) (ordering_then (nat_cmp a.variant b.variant) (nat_cmp a.index b.index)) e in
     let s = then_equal (nat_cmp a.variant b.variant) (nat_cmp a.index b.index) t.1 in
@@ -48,7 +44,7 @@ place_equal a b e =
     make : (b v i b' v' i' : ℕ) → b ≡ b' → v ≡ v' → i ≡ i' → ◌≡◌ {A = Place} (record { block = b; variant = v; index = i }) (record { block = b'; variant = v'; index = i' })
     make b v i b' v' i' p q r = cc
 
-picks_equal : (a b : List ℕ) → picks_cmp a b ≡ Equal → a ≡ b
+pub picks_equal : (a b : List ℕ) → picks_cmp a b ≡ Equal → a ≡ b
 picks_equal a b e = sym (reverse-reverse a) ∙ (ap reverse (list_equal (reverse a) (reverse b) e) ∙ reverse-reverse b)
 
 same_column : (f t f' t' : Place) (a b p a' b' p' : List ℕ) (r r' : ℕ) (doc doc' : List ℕ) → f ≡ f' → t ≡ t' → a ≡ a' → b ≡ b' → p ≡ p' → r ≡ r' → doc ≡ doc' →

@@ -1,9 +1,9 @@
 ghost use Rattle.std.specs.Prelude.{◌≡◌, if◌then◌else◌};
 ghost use Rattle.std.specs.Cmp.Lexicographic.{slice_cmp};
 ghost use Rattle.pg_plan.specs.Order.{place_cmp, counts_cmp, picks_cmp, column_cmp, plan_cmp};
-ghost use Rattle.pg_plan.specs.Back.{move_of, moves_left, wide_of};
+ghost use Rattle.pg_plan.specs.Backwards.{move_of, moves_left, wide_of};
 
-use crate::back::{Front, Seat, split_last};
+use crate::backwards::{ColumnsBefore, MoveView, split_last};
 use crate::pages::{PageMove, Pagination};
 use pg_list::Place;
 use std::cmp::Ordering;
@@ -76,7 +76,7 @@ fn compare_picks(a: &[u32], b: &[u32]) -> Ordering
     }
 }
 
-fn compare_seats(a: &Seat<'_>, b: &Seat<'_>) -> Ordering
+fn compare_seats(a: &MoveView<'_>, b: &MoveView<'_>) -> Ordering
     ensures { result ≡ column_cmp (move_of a.now) (move_of b.now) }
 {
     let to = compare_places(&a.column.to, &b.column.to);
@@ -94,7 +94,7 @@ fn compare_seats(a: &Seat<'_>, b: &Seat<'_>) -> Ordering
 pub fn compare_moves(a: &PageMove, b: &PageMove) -> Ordering
     ensures { result ≡ column_cmp a.now b.now }
 {
-    compare_seats(&Seat::of(a), &Seat::of(b))
+    compare_seats(&MoveView::of(a), &MoveView::of(b))
 }
 
 /// The order among paginations of equal cost: the first difference of two columns decides, from the
@@ -102,8 +102,8 @@ pub fn compare_moves(a: &PageMove, b: &PageMove) -> Ordering
 pub fn compare(a: &Pagination, b: &Pagination) -> Ordering
     ensures { result ≡ plan_cmp a.now b.now }
 {
-    let mut left = Front::of(a);
-    let mut right = Front::of(b);
+    let mut left = ColumnsBefore::of(a);
+    let mut right = ColumnsBefore::of(b);
     'columns: while let Some((column, before)) = split_last(&left) {
         let Some((other, front)) = split_last(&right) else {
             return Ordering::Greater;

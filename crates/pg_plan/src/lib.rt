@@ -4,7 +4,7 @@
 //! The definitions are in `specs/Order`.
 #![tactic(auto)]
 
-mod back;
+mod backwards;
 mod comparing;
 mod laws;
 mod lists;

@@ -9,28 +9,28 @@ use Rattle.pg_rules.specs.States.{state_of, prefix_breach}
 use Rattle.pg_rules.proofs.Examples.{at, text_column, two_floats, floats_style, floats_begun, wide_float, wide_style, wide_begun, wide_state}
 
 -- the text alone is a beginning, though no float is placed
-floats-begin : prefix_breach two_floats (floats_style (0 ∷ 100 ∷ 400 ∷ [])) floats_begun ≡ None
+floats_begin : prefix_breach two_floats (floats_style (0 ∷ 100 ∷ 400 ∷ [])) floats_begun ≡ None
 unfolding prefix_breach
-floats-begin = refl
+floats_begin = refl
 
 abbrev pub floats_state : List ℕ → State
-floats_state ages = record { place = at 5; column = 1; side = S; run = None; wide = None; fit = None; placed = 0 ∷ []; ages = ages }
+floats_state ages = record { place = at 5; column = 1; side = S; run = None; wide = None; fitness = None; placed = 0 ∷ []; ages = ages }
 
 -- both floats wait, and will have waited one page on the next
-floats-state : state_of two_floats (floats_style (0 ∷ 100 ∷ 400 ∷ [])) floats_begun ≡ floats_state (1 ∷ 1 ∷ [])
+floats_state_is : state_of two_floats (floats_style (0 ∷ 100 ∷ 400 ∷ [])) floats_begun ≡ floats_state (1 ∷ 1 ∷ [])
 unfolding state_of
-floats-state = refl
+floats_state_is = refl
 
 -- in a page's second column the run is fixed
-wide-state : state_of wide_float wide_style wide_begun ≡ wide_state
+wide_state_is : state_of wide_float wide_style wide_begun ≡ wide_state
 unfolding state_of
-wide-state = refl
+wide_state_is = refl
 
 -- the second column, in which the wide float is called, ends the page
-wide-follow :
+wide_follow :
     Follow (document wide_float wide_style) wide_state (record { column = text_column (at 3) (at 8) (0 ∷ []); run = 0; wide = 0 ∷ [] })
-    (record { place = at 8; column = 1; side = S; run = None; wide = None; fit = None; placed = 0 ∷ []; ages = 1 ∷ [] }) (pos 100)
-wide-follow = record {
+    (record { place = at 8; column = 1; side = S; run = None; wide = None; fitness = None; placed = 0 ∷ []; ages = 1 ∷ [] }) (pos 100)
+wide_follow = record {
   starts = refl;
   stands = record {
     takes_run = refl;
@@ -45,8 +45,8 @@ wide-follow = record {
 }
 
 -- the state whose first float has waited less is no worse, and not the other way round
-younger-is-no-worse : is_no_worse (floats_state (0 ∷ 1 ∷ [])) (floats_state (1 ∷ 1 ∷ [])) ≡ true
-younger-is-no-worse = refl
+younger_is_no_worse : is_no_worse (floats_state (0 ∷ 1 ∷ [])) (floats_state (1 ∷ 1 ∷ [])) ≡ true
+younger_is_no_worse = refl
 
-older-is-worse : is_no_worse (floats_state (1 ∷ 1 ∷ [])) (floats_state (0 ∷ 1 ∷ [])) ≡ false
-older-is-worse = refl
+older_is_worse : is_no_worse (floats_state (1 ∷ 1 ∷ [])) (floats_state (0 ∷ 1 ∷ [])) ≡ false
+older_is_worse = refl

@@ -22,45 +22,45 @@ use Rattle.pg_rules.proofs.Examples.{points, line, gap, soft_gap, penalty, eject
 -- ---- totals and badness
 
 -- a depth above the limit counts into the size, and all of it before what follows
-deep-totals : total (points 10) (points 4) (BoxItem (points 7) (points 6) [] ∷ []) ∷ total (points 10) (points 4) (BoxItem (points 7) (points 6) [] ∷ gap ∷ []) ∷ [] ≡ points 12 ∷ points 19 ∷ []
-deep-totals = refl
+deep_totals : total (points 10) (points 4) (BoxItem (points 7) (points 6) [] ∷ []) ∷ total (points 10) (points 4) (BoxItem (points 7) (points 6) [] ∷ gap ∷ []) ∷ [] ≡ points 12 ∷ points 19 ∷ []
+deep_totals = refl
 
 -- at its goal a text is over where its shrink is negative
-over-by-shrink : is_over (points 9) (negsuc 0) (points 9) ∷ is_over (points 9) (pos 0) (points 9) ∷ is_over (points 8) (negsuc 0) (points 9) ∷ [] ≡ true ∷ false ∷ false ∷ []
-over-by-shrink = refl
+over_by_shrink : is_over (points 9) (negsuc 0) (points 9) ∷ is_over (points 9) (pos 0) (points 9) ∷ is_over (points 8) (negsuc 0) (points 9) ∷ [] ≡ true ∷ false ∷ false ∷ []
+over_by_shrink = refl
 
 -- an end with no box behind it is good where the text is not too long
-spent-badness : page_badness true (points 9) (points 8) [] ∷ page_badness true (points 9) (points 9) [] ∷ page_badness true (points 8) (points 9) [] ∷ page_badness false (points 9) (points 8) [] ∷ [] ≡ 0 ∷ 0 ∷ 10000 ∷ 10000 ∷ []
-spent-badness = refl
+spent_badness : page_badness true (points 9) (points 8) [] ∷ page_badness true (points 9) (points 9) [] ∷ page_badness true (points 8) (points 9) [] ∷ page_badness false (points 9) (points 8) [] ∷ [] ≡ 0 ∷ 0 ∷ 10000 ∷ 10000 ∷ []
+spent_badness = refl
 
 -- ---- ends and penalties
 
 -- discardable items may be left behind the last column
-spent-end-cost : cost (galley (line ∷ gap ∷ penalty 10 ∷ [])) (plain 58) (pages (page [] (text_column (at 0) (at 1) [] ∷ []) ∷ [])) ≡ pos 100
+spent_end_cost : cost (galley (line ∷ gap ∷ penalty 10 ∷ [])) (plain 58) (pages (page [] (text_column (at 0) (at 1) [] ∷ []) ∷ [])) ≡ pos 100
 unfolding cost
-spent-end-cost = refl
+spent_end_cost = refl
 
-spent-end-legal : breach (galley (line ∷ gap ∷ penalty 10 ∷ [])) (plain 58) (pages (page [] (text_column (at 0) (at 1) [] ∷ []) ∷ [])) ≡ None
+spent_end_legal : breach (galley (line ∷ gap ∷ penalty 10 ∷ [])) (plain 58) (pages (page [] (text_column (at 0) (at 1) [] ∷ []) ∷ [])) ≡ None
 unfolding breach
-spent-end-legal = refl
+spent_end_legal = refl
 
 -- a penalty below 0 takes its square off
-bonus-cost : cost (galley (line ∷ Penalty (negsuc 49) [] ∷ line ∷ [])) (plain 10) (two_pages 1 3) ≡ negsuc 2299
+bonus_cost : cost (galley (line ∷ Penalty (negsuc 49) [] ∷ line ∷ [])) (plain 10) (two_pages 1 3) ≡ negsuc 2299
 unfolding cost
-bonus-cost = refl
+bonus_cost = refl
 
 -- a forced end excuses badness, but not a text that is over
-forced-over : breach (galley (BoxItem (points 60) (pos 0) [] ∷ eject ∷ line ∷ [])) (plain 58) (two_pages 1 3) ≡ Some (4, 1)
+forced_over : breach (galley (BoxItem (points 60) (pos 0) [] ∷ eject ∷ line ∷ [])) (plain 58) (two_pages 1 3) ≡ Some (4, 1)
 unfolding breach
-forced-over = refl
+forced_over = refl
 
 -- ---- counts and areas
 
 -- a count beyond the classes is no float: the column without text is empty
-no_class-no_float : breach two_floats (floats_style (0 ∷ 100 ∷ 400 ∷ []))
+no_class_no_float : breach two_floats (floats_style (0 ∷ 100 ∷ 400 ∷ []))
     (pages (page (0 ∷ []) (text_column (at 0) (at 5) (0 ∷ []) ∷ []) ∷ page (0 ∷ []) (record { from = at 5; to = at 5; top = 0 ∷ 1 ∷ []; bottom = 0 ∷ []; picks = [] } ∷ []) ∷ [])) ≡ Some (3, 2)
 unfolding breach
-no_class-no_float = refl
+no_class_no_float = refl
 
 abbrev pub wide_of_size : ℕ → GalleyValue
 wide_of_size size = galley (line ∷ gap ∷ line ∷ gap ∷ line ∷ insert 101 size ∷ gap ∷ line ∷ [])
@@ -70,9 +70,9 @@ wide_counts wide = pages (
     page (0 ∷ []) (text_column (at 0) (at 3) (0 ∷ []) ∷ text_column (at 3) (at 8) (0 ∷ []) ∷ []) ∷ page wide (text_column (at 8) (at 8) (0 ∷ []) ∷ text_column (at 8) (at 8) (0 ∷ []) ∷ []) ∷ [])
 
 -- wide counts of a wrong length are named at the page's first column
-wide_counts-breach : breach (wide_of_size 10) wide_style (wide_counts (1 ∷ 0 ∷ [])) ≡ Some (7, 3)
+wide_counts_breach : breach (wide_of_size 10) wide_style (wide_counts (1 ∷ 0 ∷ [])) ≡ Some (7, 3)
 unfolding breach
-wide_counts-breach = refl
+wide_counts_breach = refl
 
 -- below wide floats alone no gap is due
 wide_fits : breach (wide_of_size 22) wide_style wide_plan ≡ None
@@ -91,24 +91,24 @@ unfolding breach
 missing_run = refl
 
 abbrev pub right_state : ℕ → Side → Option ℕ → State
-right_state n side run = record { place = at n; column = 1; side = side; run = run; wide = None; fit = None; placed = []; ages = [] }
+right_state n side run = record { place = at n; column = 1; side = side; run = run; wide = None; fitness = None; placed = []; ages = [] }
 
 abbrev pub right_style : StyleValue
 right_style = record (plain 58) { first = Right }
 
 -- a right page at the front is free in its run, one behind a left page is not
-right-states : state_of ten_lines right_style (pages []) ∷ state_of ten_lines right_style (pages (page [] (text_column (at 0) (at 9) [] ∷ []) ∷ [])) ∷ state_of ten_lines right_style (two_pages 9 19) ∷ []
+right_states : state_of ten_lines right_style (pages []) ∷ state_of ten_lines right_style (pages (page [] (text_column (at 0) (at 9) [] ∷ []) ∷ [])) ∷ state_of ten_lines right_style (two_pages 9 19) ∷ []
     ≡ right_state 0 R None ∷ right_state 9 L None ∷ right_state 19 R (Some 0) ∷ []
 unfolding state_of
-right-states = refl
+right_states = refl
 
 -- ---- ages and fitness
 
 -- a float that is called in a page's first column has not waited in the second
-called-state : state_of (galley (line ∷ insert 101 10 ∷ gap ∷ line ∷ [])) (record wide_style { height = points 10 }) (pages (page (0 ∷ []) (text_column (at 0) (at 2) (0 ∷ []) ∷ []) ∷ []))
-    ≡ record { place = at 2; column = 2; side = S; run = Some 0; wide = None; fit = None; placed = 0 ∷ []; ages = 0 ∷ [] }
+called_state : state_of (galley (line ∷ insert 101 10 ∷ gap ∷ line ∷ [])) (record wide_style { height = points 10 }) (pages (page (0 ∷ []) (text_column (at 0) (at 2) (0 ∷ []) ∷ []) ∷ []))
+    ≡ record { place = at 2; column = 2; side = S; run = Some 0; wide = None; fitness = None; placed = 0 ∷ []; ages = 0 ∷ [] }
 unfolding state_of
-called-state = refl
+called_state = refl
 
 abbrev pub fit_galley : GalleyValue
 fit_galley = galley (line ∷ soft_gap 12 ∷ line ∷ insert 100 10 ∷ gap ∷ line ∷ penalty 150 ∷ gap ∷ line ∷ [])
@@ -123,24 +123,24 @@ abbrev pub fit_plan : Pagination
 fit_plan = pages (page (0 ∷ []) (text_column (at 0) (at 4) (0 ∷ []) ∷ []) ∷ page (0 ∷ []) (floats_at (at 4) 1 ∷ []) ∷ page (0 ∷ []) (text_column (at 4) (at 9) (0 ∷ []) ∷ []) ∷ [])
 
 -- a column without text between two columns of text keeps the fitness of the first
-fit-state : state_of fit_galley fit_style fit_begun ≡ record { place = at 4; column = 1; side = S; run = None; wide = None; fit = Some 0; placed = 1 ∷ []; ages = [] }
+kept_fitness_state : state_of fit_galley fit_style fit_begun ≡ record { place = at 4; column = 1; side = S; run = None; wide = None; fitness = Some 0; placed = 1 ∷ []; ages = [] }
 unfolding state_of
-fit-state = refl
+kept_fitness_state = refl
 
-fit-cost : cost fit_galley fit_style fit_plan ≡ pos 33300
+kept_fitness_cost : cost fit_galley fit_style fit_plan ≡ pos 33300
 unfolding cost
-fit-cost = refl
+kept_fitness_cost = refl
 
-fit-legal : breach fit_galley fit_style fit_plan ≡ None
+kept_fitness_legal : breach fit_galley fit_style fit_plan ≡ None
 unfolding breach
-fit-legal = refl
+kept_fitness_legal = refl
 
 -- ---- order and reach
 
 -- picks are compared from the last
-later-pick-first : picks_cmp (1 ∷ 0 ∷ []) (0 ∷ 1 ∷ []) ≡ Less
-later-pick-first = refl
+later_pick_first : picks_cmp (1 ∷ 0 ∷ []) (0 ∷ 1 ∷ []) ≡ Less
+later_pick_first = refl
 
 -- the end reaches itself
-end-reaches : Reaches (document ten_lines (plain 58)) (at 19) (at 19)
-end-reaches = record { picks = []; size = 0; leads = refl; picked = refl; passes = refl }
+end_reaches : Reaches (document ten_lines (plain 58)) (at 19) (at 19)
+end_reaches = record { picks = []; size = 0; leads = refl; picked = refl; passes = refl }

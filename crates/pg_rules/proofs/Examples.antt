@@ -191,7 +191,7 @@ abbrev pub wide_plan : Pagination
 wide_plan = pages (page (0 ∷ []) (text_column (at 0) (at 3) (0 ∷ []) ∷ text_column (at 3) (at 8) (0 ∷ []) ∷ []) ∷ page (1 ∷ []) (text_column (at 8) (at 8) (0 ∷ []) ∷ []) ∷ [])
 
 abbrev pub wide_state : State
-wide_state = record { place = at 3; column = 2; side = S; run = Some 0; wide = None; fit = None; placed = 0 ∷ []; ages = [] }
+wide_state = record { place = at 3; column = 2; side = S; run = Some 0; wide = None; fitness = None; placed = 0 ∷ []; ages = [] }
 
 -- five lines that hold together but for one gap, and runs of two heights
 abbrev pub tie : Item

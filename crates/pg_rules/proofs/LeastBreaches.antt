@@ -17,15 +17,15 @@ unfolding breach
 chain_of_columns = refl
 
 -- no column stands where something is left
-chain-end : breach (galley (Carry [] ∷ [])) (plain 58) (pages []) ≡ Some (2, 0)
+chain_end : breach (galley (Carry [] ∷ [])) (plain 58) (pages []) ≡ Some (2, 0)
 unfolding breach
-chain-end = refl
+chain_end = refl
 
 -- a pick that names no variant, though another choice follows
-chain-picks : breach (record { width = points 345; blocks = Choice (record { looseness = pos 0; demerits = 0; items = line ∷ [] } ∷ []) ∷ Choice (record { looseness = pos 0; demerits = 0; items = line ∷ [] } ∷ []) ∷ [] })
+chain_picks : breach (record { width = points 345; blocks = Choice (record { looseness = pos 0; demerits = 0; items = line ∷ [] } ∷ []) ∷ Choice (record { looseness = pos 0; demerits = 0; items = line ∷ [] } ∷ []) ∷ [] })
     (plain 58) (pages (page [] (record { from = at 0; to = at 2; top = []; bottom = []; picks = 9 ∷ [] } ∷ []) ∷ [])) ≡ Some (2, 1)
 unfolding breach
-chain-picks = refl
+chain_picks = refl
 
 -- 3, shape of a column: it ends at a line, which is no break
 shape_of_a_column : breach ten_lines (plain 58) (two_pages 2 19) ≡ Some (3, 1)

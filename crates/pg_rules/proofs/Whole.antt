@@ -10,120 +10,120 @@ use Rattle.pg_rules.specs.Cost.{cost}
 use Rattle.pg_rules.proofs.Examples.{points, gap, penalty, plain, galley, pages, two_pages, ten_lines, forced, one_note, note_style, two_floats, floats_style, floats_plan, top_or_bottom, both_style, with_float, four_ways, four_ways_style, four_ways_plan, four_ways_late, wide_float, wide_style, wide_plan, tied_lines, runs_style, runs_plan, one_choice, choice_style, choice_plan, loose_and_decent, fitness_style}
 
 -- five lines a page
-ten_lines-legal : breach ten_lines (plain 58) (two_pages 9 19) ≡ None
+ten_lines_legal : breach ten_lines (plain 58) (two_pages 9 19) ≡ None
 unfolding breach
-ten_lines-legal = refl
+ten_lines_legal = refl
 
-ten_lines-cost : cost ten_lines (plain 58) (two_pages 9 19) ≡ pos 200
+ten_lines_cost : cost ten_lines (plain 58) (two_pages 9 19) ≡ pos 200
 unfolding cost
-ten_lines-cost = refl
+ten_lines_cost = refl
 
 -- where only discardable items stand there is no page
-no_box-legal : breach (galley (gap ∷ penalty 150 ∷ Glue (pos 0) (points 1) Fil (pos 0) [] ∷ [])) (plain 58) (pages []) ≡ None
+no_box_legal : breach (galley (gap ∷ penalty 150 ∷ Glue (pos 0) (points 1) Fil (pos 0) [] ∷ [])) (plain 58) (pages []) ≡ None
 unfolding breach
-no_box-legal = refl
+no_box_legal = refl
 
 -- a forced end is tolerated, at its badness
-forced-legal : breach forced (record (plain 58) { tolerance = 200 }) (two_pages 1 3) ≡ None
+forced_legal : breach forced (record (plain 58) { tolerance = 200 }) (two_pages 1 3) ≡ None
 unfolding breach
-forced-legal = refl
+forced_legal = refl
 
-forced-cost : cost forced (record (plain 58) { tolerance = 200 }) (two_pages 1 3) ≡ pos 100200200
+forced_cost : cost forced (record (plain 58) { tolerance = 200 }) (two_pages 1 3) ≡ pos 100200200
 unfolding cost
-forced-cost = refl
+forced_cost = refl
 
 -- a note takes its room
-one_note-legal : breach one_note (note_style 100) (two_pages 7 10) ≡ None
+one_note_legal : breach one_note (note_style 100) (two_pages 7 10) ≡ None
 unfolding breach
-one_note-legal = refl
+one_note_legal = refl
 
-one_note-cost : cost one_note (note_style 100) (two_pages 7 10) ≡ pos 41036936
+one_note_cost : cost one_note (note_style 100) (two_pages 7 10) ≡ pos 41036936
 unfolding cost
-one_note-cost = refl
+one_note_cost = refl
 
 -- floats wait, and pay for it
-two_floats-legal : breach two_floats (floats_style (0 ∷ 100 ∷ 400 ∷ [])) floats_plan ≡ None
+two_floats_legal : breach two_floats (floats_style (0 ∷ 100 ∷ 400 ∷ [])) floats_plan ≡ None
 unfolding breach
-two_floats-legal = refl
+two_floats_legal = refl
 
-two_floats-cost : cost two_floats (floats_style (0 ∷ 100 ∷ 400 ∷ [])) floats_plan ≡ pos 2600
+two_floats_cost : cost two_floats (floats_style (0 ∷ 100 ∷ 400 ∷ [])) floats_plan ≡ pos 2600
 unfolding cost
-two_floats-cost = refl
+two_floats_cost = refl
 
 -- a float at the top costs as much as one at the bottom, and comes first
-top-legal : breach top_or_bottom both_style (with_float 1 0) ≡ None
+top_legal : breach top_or_bottom both_style (with_float 1 0) ≡ None
 unfolding breach
-top-legal = refl
+top_legal = refl
 
-bottom-legal : breach top_or_bottom both_style (with_float 0 1) ≡ None
+bottom_legal : breach top_or_bottom both_style (with_float 0 1) ≡ None
 unfolding breach
-bottom-legal = refl
+bottom_legal = refl
 
-top-and-bottom-cost : cost top_or_bottom both_style (with_float 1 0) ∷ cost top_or_bottom both_style (with_float 0 1) ∷ [] ≡ pos 100 ∷ pos 100 ∷ []
+top_and_bottom_cost : cost top_or_bottom both_style (with_float 1 0) ∷ cost top_or_bottom both_style (with_float 0 1) ∷ [] ≡ pos 100 ∷ pos 100 ∷ []
 unfolding cost
-top-and-bottom-cost = refl
+top_and_bottom_cost = refl
 
-top-before-bottom : plan_cmp (with_float 1 0) (with_float 0 1) ≡ Less
-top-before-bottom = refl
+top_before_bottom : plan_cmp (with_float 1 0) (with_float 0 1) ≡ Less
+top_before_bottom = refl
 
 -- the earlier of two columns for a float comes first among equals
-four_ways-legal : breach four_ways four_ways_style four_ways_plan ≡ None
+four_ways_legal : breach four_ways four_ways_style four_ways_plan ≡ None
 unfolding breach
-four_ways-legal = refl
+four_ways_legal = refl
 
-four_ways-late-legal : breach four_ways four_ways_style four_ways_late ≡ None
+four_ways_late_legal : breach four_ways four_ways_style four_ways_late ≡ None
 unfolding breach
-four_ways-late-legal = refl
+four_ways_late_legal = refl
 
-four_ways-cost : cost four_ways four_ways_style four_ways_plan ∷ cost four_ways four_ways_style four_ways_late ∷ [] ≡ pos 1300 ∷ pos 1300 ∷ []
+four_ways_cost : cost four_ways four_ways_style four_ways_plan ∷ cost four_ways four_ways_style four_ways_late ∷ [] ≡ pos 1300 ∷ pos 1300 ∷ []
 unfolding cost
-four_ways-cost = refl
+four_ways_cost = refl
 
-four_ways-first : plan_cmp four_ways_plan four_ways_late ≡ Less
-four_ways-first = refl
+four_ways_first : plan_cmp four_ways_plan four_ways_late ≡ Less
+four_ways_first = refl
 
 -- a wide float that is called in a second column stands on the next page
-wide_float-legal : breach wide_float wide_style wide_plan ≡ None
+wide_float_legal : breach wide_float wide_style wide_plan ≡ None
 unfolding breach
-wide_float-legal = refl
+wide_float_legal = refl
 
-wide_float-cost : cost wide_float wide_style wide_plan ≡ pos 1250
+wide_float_cost : cost wide_float wide_style wide_plan ≡ pos 1250
 unfolding cost
-wide_float-cost = refl
+wide_float_cost = refl
 
 -- both pages of a spread run long; single pages do as they like
-spread-legal : breach tied_lines (runs_style Left) (runs_plan 1) ≡ None
+spread_legal : breach tied_lines (runs_style Left) (runs_plan 1) ≡ None
 unfolding breach
-spread-legal = refl
+spread_legal = refl
 
-spread-cost : cost tied_lines (runs_style Left) (runs_plan 1) ≡ pos 800
+spread_cost : cost tied_lines (runs_style Left) (runs_plan 1) ≡ pos 800
 unfolding cost
-spread-cost = refl
+spread_cost = refl
 
-single-legal : breach tied_lines (runs_style Single) (runs_plan 0) ≡ None
+single_legal : breach tied_lines (runs_style Single) (runs_plan 0) ≡ None
 unfolding breach
-single-legal = refl
+single_legal = refl
 
-single-cost : cost tied_lines (runs_style Single) (runs_plan 0) ≡ pos 500
+single_cost : cost tied_lines (runs_style Single) (runs_plan 0) ≡ pos 500
 unfolding cost
-single-cost = refl
+single_cost = refl
 
 -- the longer variant of a paragraph
-one_choice-legal : breach one_choice (choice_style 1) choice_plan ≡ None
+one_choice_legal : breach one_choice (choice_style 1) choice_plan ≡ None
 unfolding breach
-one_choice-legal = refl
+one_choice_legal = refl
 
-one_choice-cost : cost one_choice (choice_style 1) choice_plan ≡ pos 600
+one_choice_cost : cost one_choice (choice_style 1) choice_plan ≡ pos 600
 unfolding cost
-one_choice-cost = refl
+one_choice_cost = refl
 
 -- fitness counts in version 2 alone
-fitness-cost : cost loose_and_decent (fitness_style 1 0) (two_pages 3 8) ∷ cost loose_and_decent (fitness_style 2 0) (two_pages 3 8)
+fitness_cost : cost loose_and_decent (fitness_style 1 0) (two_pages 3 8) ∷ cost loose_and_decent (fitness_style 2 0) (two_pages 3 8)
     ∷ cost loose_and_decent (fitness_style 2 20000) (two_pages 3 8) ∷ cost loose_and_decent (fitness_style 2 20000) (two_pages 5 8) ∷ []
     ≡ pos 12200 ∷ pos 12200 ∷ pos 32200 ∷ pos 22700 ∷ []
 unfolding cost
-fitness-cost = refl
+fitness_cost = refl
 
-fitness-legal : breach loose_and_decent (fitness_style 2 20000) (two_pages 5 8) ≡ None
+fitness_legal : breach loose_and_decent (fitness_style 2 20000) (two_pages 5 8) ≡ None
 unfolding breach
-fitness-legal = refl
+fitness_legal = refl

@@ -10,8 +10,9 @@ use Rattle.pg_style.specs.Values.{StyleValue}
 use Rattle.pg_style.specs.declared.style.Run.{Run}
 use Rattle.pg_flat.specs.Break.{break_penalty}
 use Rattle.pg_rules.specs.ColumnRules.{text_badness, column_variants}
-use Rattle.pg_rules.specs.History.{next_column, fit_of, column_fitness, placed_of, context}
-use Rattle.pg_rules.specs.Legal.{added, distance, distance_table, document}
+use Rattle.pg_rules.specs.History.{next_column, fitness_of, column_fitness, placed_of, context}
+use Rattle.pg_rules.specs.Legal.{added, distance, document}
+use Rattle.pg_rules.specs.Floats.{distance_table}
 use Rattle.pg_rules.specs.Room.{Document, ColumnContext, is_text, items_of, size_of}
 use Rattle.pg_flat.specs.Whole.{whole_sum_by, square}
 
@@ -43,21 +44,21 @@ float_demerits style wait floats =
 abbrev pub differs : ℕ → ℕ → Bool
 differs a b = not (nat_le a (b + 1) && nat_le b (a + 1))
 
-abbrev pub fit_demerits : Option ℕ → ColumnContext → ℤ
-fit_demerits fit it = option_map_or (λ (last : ℕ). if is_text it && differs last (column_fitness it)
-    then pos it.document.style.fitness else pos 0) fit (pos 0)
+abbrev pub fitness_demerits : Option ℕ → ColumnContext → ℤ
+fitness_demerits fitness it = option_map_or (λ (last : ℕ). if is_text it && differs last (column_fitness it)
+    then pos it.document.style.fitness else pos 0) fitness (pos 0)
 
 -- what a column adds, after a column with this fitness, where each float that it adds waited so long
 abbrev pub column_cost : ColumnContext → ℕ → Option ℕ → (ℕ × ℕ → ℕ) → List (ℕ × ℕ) → ℤ
-column_cost it column fit wait floats =
+column_cost it column fitness wait floats =
     (column_demerits it +ℤ pick_demerits it)
     +ℤ (((if column == 1 then run_demerits it.document.style it.run else pos 0)
-    +ℤ float_demerits it.document.style wait floats) +ℤ fit_demerits fit it)
+    +ℤ float_demerits it.document.style wait floats) +ℤ fitness_demerits fitness it)
 
 abbrev pub cost_of : Document → List PageMove → ℤ
 cost_of doc [] = pos 0
 cost_of doc (m ∷ ms) = cost_of doc ms
-    +ℤ column_cost (context doc m ms) (next_column doc.style ms) (fit_of doc ms) (distance doc m ms)
+    +ℤ column_cost (context doc m ms) (next_column doc.style ms) (fitness_of doc ms) (distance doc m ms)
     (added doc (placed_of doc.style ms) m)
 
 unfoldable pub cost : GalleyValue → StyleValue → Pagination → ℤ

@@ -126,3 +126,9 @@ takes_wide _ = false
 abbrev pub takes_in_column : Area → Bool
 takes_in_column Wide = false
 takes_in_column _ = true
+
+-- the demerits of a float by its distance
+abbrev pub distance_table : StyleValue → ℕ → List ℕ
+distance_table style slot =
+    option_map_or (λ (number : ℕ). option_map_or (λ (kind : Area × List ℕ). kind.1) (float_class style number) [])
+    (slice_get (float_numbers style) slot) []

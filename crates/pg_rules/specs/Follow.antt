@@ -10,8 +10,9 @@ use Rattle.pg_rules.specs.ColumnRules.{does_fit, is_well_formed, is_tolerable, p
 use Rattle.pg_rules.specs.Cost.{column_cost}
 use Rattle.pg_flat.specs.Flat.{is_same_place}
 use Rattle.pg_rules.specs.Floats.{called, floats_between}
-use Rattle.pg_rules.specs.History.{context_with, made_wide, placed_after, is_called, fit_after}
-use Rattle.pg_rules.specs.Legal.{has_wide_counts, deals_floats, has_callouts, has_run, added, distance_table}
+use Rattle.pg_rules.specs.History.{context_with, made_wide, placed_after, is_called, fitness_after}
+use Rattle.pg_rules.specs.Legal.{has_wide_counts, deals_floats, has_callouts, has_run, added}
+use Rattle.pg_rules.specs.Floats.{distance_table}
 use Rattle.pg_rules.specs.Room.{Document, ColumnContext}
 
 -- the height of the wide area of the page
@@ -66,7 +67,7 @@ next_state doc u m = record {
   side = if fills_page doc.style u then other_side u.side else u.side;
   run = if fills_page doc.style u then keeps_run u.side m.run else Some m.run;
   wide = if fills_page doc.style u then None else wide_in doc u m;
-  fit = fit_after u.fit (context_in doc u m);
+  fitness = fitness_after u.fitness (context_in doc u m);
   placed = placed_after doc.style u.placed m;
   ages = map (λ (float : ℕ × ℕ). age_in doc u float + turns doc.style u) (waiting_behind doc u m);
 }
@@ -102,5 +103,5 @@ pub record Follow (doc : Document) (u : State) (m : PageMove) (v : State) (cost 
   pub starts : is_same_place m.column.from u.place ≡ true
   pub stands : MayStand doc u.column u.run u.placed m (context_in doc u m)
   pub turns : may_turn doc u m ≡ true
-  pub pays : cost ≡ column_cost (context_in doc u m) u.column u.fit (age_in doc u) (added doc u.placed m)
+  pub pays : cost ≡ column_cost (context_in doc u m) u.column u.fitness (age_in doc u) (added doc u.placed m)
   pub leads : v ≡ next_state doc u m

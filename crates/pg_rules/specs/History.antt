@@ -101,9 +101,9 @@ abbrev pub column_fitness : ColumnContext → ℕ
 column_fitness it = option_map_or (text_fitness it) (size_of it) 2
 
 -- the fitness of the last text column, in version 2
-abbrev pub fit_after : Option ℕ → ColumnContext → Option ℕ
-fit_after fit it = if it.document.style.version == 1 then None else (if is_text it then Some (column_fitness it) else fit)
+abbrev pub fitness_after : Option ℕ → ColumnContext → Option ℕ
+fitness_after fitness it = if it.document.style.version == 1 then None else (if is_text it then Some (column_fitness it) else fitness)
 
-abbrev pub fit_of : Document → List PageMove → Option ℕ
-fit_of doc [] = None
-fit_of doc (m ∷ ms) = fit_after (fit_of doc ms) (context doc m ms)
+abbrev pub fitness_of : Document → List PageMove → Option ℕ
+fitness_of doc [] = None
+fitness_of doc (m ∷ ms) = fitness_after (fitness_of doc ms) (context doc m ms)

@@ -13,7 +13,7 @@ use Rattle.pg_style.specs.declared.style.First.TheVariants.{Left, Right, Single}
 use Rattle.pg_flat.specs.Flat.{is_same_place, end_of}
 use Rattle.pg_rules.specs.Floats.{entry, called, float_numbers, slots}
 use Rattle.pg_rules.specs.Follow.{waiting_in}
-use Rattle.pg_rules.specs.Legal.{distance_table}
+use Rattle.pg_rules.specs.Floats.{distance_table}
 use Rattle.pg_rules.specs.NoWorse.{is_same_side}
 use Rattle.pg_rules.specs.Room.{Document}
 
@@ -53,7 +53,7 @@ pub record IsState (doc : Document) (u : State) : Type 0 where
   -- a page that has begun may have a wide area
   pub wide : option_map_or (λ (z : ℤ). not_first u.column
       && (int_le (pos 0) z && int_lt z (pos (2 ^ 33)))) u.wide true ≡ true
-  pub fit : option_map_or (λ (f : ℕ). not_first doc.style.version && nat_le f 3) u.fit true ≡ true
+  pub fitness : option_map_or (λ (f : ℕ). not_first doc.style.version && nat_le f 3) u.fitness true ≡ true
   pub placed : length u.placed ≡ length (float_numbers doc.style)
   pub called : list_all (λ (slot : ℕ). nat_le (entry u.placed slot)
       (entry (called doc.blocks doc.style u.place) slot)) (slots doc.style) ≡ true

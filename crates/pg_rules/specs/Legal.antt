@@ -42,12 +42,6 @@ has_callouts doc placed m = list_all (is_called doc m.column.to) (added doc plac
 abbrev pub has_run : StyleValue → Option ℕ → PageMove → Bool
 has_run style must m = is_some (slice_get style.runs m.run) && option_map_or (λ (run : ℕ). m.run == run) must true
 
--- the demerits of a float by its distance
-abbrev pub distance_table : StyleValue → ℕ → List ℕ
-distance_table style slot =
-    option_map_or (λ (number : ℕ). option_map_or (λ (kind : Area × List ℕ). kind.1) (float_class style number) [])
-    (slice_get (float_numbers style) slot) []
-
 -- how many pages a float that the column adds stands behind its callout
 abbrev pub distance : Document → PageMove → List PageMove → ℕ × ℕ → ℕ
 distance doc m ms float = next_page doc.style ms - calling_page doc (m ∷ ms) float

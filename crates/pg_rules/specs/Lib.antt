@@ -1,3 +1,4 @@
+pub mod Ranges
 pub mod Floats
 pub mod Room
 pub mod ColumnRules

@@ -9,7 +9,7 @@ use Rattle.pg_flat.specs.Flat.{is_same_place}
 
 -- a state but for its ages
 abbrev pub key : State → PageKey
-key u = record { place = u.place; column = u.column; side = u.side; run = u.run; wide = u.wide; fit = u.fit; placed = u.placed }
+key u = record { place = u.place; column = u.column; side = u.side; run = u.run; wide = u.wide; fitness = u.fitness; placed = u.placed }
 
 abbrev pub is_same_side : Side → Side → Bool
 is_same_side L L = true
@@ -36,7 +36,7 @@ abbrev pub is_same_key : PageKey → PageKey → Bool
 is_same_key a b =
     is_same_place a.place b.place && ((a.column == b.column) && (is_same_side a.side b.side
     && (is_same_number a.run b.run && (is_same_whole a.wide b.wide
-    && (is_same_number a.fit b.fit && are_same_counts a.placed b.placed)))))
+    && (is_same_number a.fitness b.fitness && are_same_counts a.placed b.placed)))))
 
 -- as many, and none greater
 abbrev pub are_no_older : List ℕ → List ℕ → Bool

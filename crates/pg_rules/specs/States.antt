@@ -8,8 +8,9 @@ use Rattle.pg_plan.specs.declared.pages.Pagination.{Pagination}
 use Rattle.pg_plan.specs.declared.states.State.{State}
 use Rattle.pg_style.specs.Values.{StyleValue}
 use Rattle.pg_rules.specs.Floats.{called, floats_between}
-use Rattle.pg_rules.specs.History.{next_column, next_page, next_side, next_run, place_of, placed_of, wide_of, fit_of, calling_page}
-use Rattle.pg_rules.specs.Legal.{faults_with, first_breach, distance_table, document, is_spent_at, has_dealt_all}
+use Rattle.pg_rules.specs.History.{next_column, next_page, next_side, next_run, place_of, placed_of, wide_of, fitness_of, calling_page}
+use Rattle.pg_rules.specs.Legal.{faults_with, first_breach, document, is_spent_at, has_dealt_all}
+use Rattle.pg_rules.specs.Floats.{distance_table}
 use Rattle.pg_rules.specs.Room.{Document}
 
 -- how many pages a float will have waited on the next page
@@ -27,7 +28,7 @@ state_at doc ms = record {
   side = next_side doc.style ms;
   run = next_run doc.style ms;
   wide = if next_column doc.style ms == 1 then None else wide_of doc ms;
-  fit = fit_of doc ms;
+  fitness = fitness_of doc ms;
   placed = placed_of doc.style ms;
   ages = map (age doc ms) (waiting doc ms);
 }

@@ -13,21 +13,23 @@ use Rattle.pg_list.specs.GalleyValue.{GalleyValue}
 use Rattle.pg_list.specs.Ranges.{IsScaled}
 use Rattle.pg_list.specs.Counts.{item_count, item_limit}
 use Rattle.pg_list.specs.Shapes.{IsBlock}
-use Rattle.pg_lines.specs.declared.kinds.ListFault.{ListFault}
-use Rattle.pg_showbox.specs.declared.said.Said.TheVariants as said
-use Rattle.pg_showbox.specs.declared.draft.Draft.{Draft}
-use Rattle.pg_showbox.specs.declared.draft.Stands.TheVariants.{Outside}
-use Rattle.pg_lines.specs.Lines.{raw_lines, joined, trimmed, is_no_feed}
-use Rattle.pg_lines.specs.Parts.{after, due, size_at, past_size}
-use Rattle.pg_showbox.specs.Said.{root_at, galley_line, ends_cut}
+use Rattle.pg_showbox.specs.declared.kinds.ListFault.{ListFault}
+use Rattle.pg_showbox.specs.declared.parsed.ParsedLine.TheVariants as said
+use Rattle.pg_showbox.specs.declared.state.ReaderState.{ReaderState}
+use Rattle.pg_showbox.specs.declared.state.Within.TheVariants.{Outside}
+use Rattle.pg_scan.specs.Lines.{raw_lines, joined, trimmed, is_no_feed}
+use Rattle.pg_showbox.specs.Parts.{due, size_at, past_size}
+use Rattle.pg_scan.specs.Parts.{after}
+use Rattle.pg_showbox.specs.ParsedLine.{root_at, galley_line, ends_cut}
 use Rattle.pg_showbox.specs.State.{started, step, ended, begun_listing}
 use Rattle.pg_showbox.specs.Reading.{line_read, said_in, all_read, galley_of, then_ok, at_line, galley_from}
 use Rattle.pg_showbox.specs.Text.{root_front, galley_text, block_text}
-use Rattle.pg_lines.specs.Lines.{IsClean}
+use Rattle.pg_scan.specs.Lines.{IsClean}
 use Rattle.pg_showbox.specs.Shown.{IsShownBlock}
-use Rattle.pg_lines.proofs.LineLemmas.{no_return}
+use Rattle.pg_scan.proofs.LineLemmas.{no_return}
 use Rattle.pg_showbox.proofs.RunLemmas.{run_end, no_raw_lines, joined_none}
-use Rattle.pg_showbox.proofs.ReadBack.{text_run, reads_line, reads_then, in_list, blocks_read, digits_no_feed, decimal_no_feed, all_append, all_no_feeds}
+use Rattle.pg_showbox.proofs.ReadBack.{text_run, reads_line, reads_then, in_list, blocks_read, digits_no_feed, decimal_no_feed, all_no_feeds}
+use Rattle.pg_lemmas.proofs.Lists.{all_append}
 
 -- the last byte
 abbrev last_of : List ℕ → ℕ
@@ -147,13 +149,13 @@ text_is galley =
     sym (append_assoc (codes "\\vbox(0.0+0.0)x") (scaled_text galley.width) (10 ∷ flat_map block_text galley.blocks))
     ∙ sym (append_assoc (root_line galley.width) (10 ∷ []) (flat_map block_text galley.blocks))
 
-empty_run : (s : Draft) (n : ℕ) → text_run s n [] ≡ Ok s
+empty_run : (s : ReaderState) (n : ℕ) → text_run s n [] ≡ Ok s
 empty_run s n = run_end true s (joined None n (raw_lines []))
     (joined_none None n (raw_lines []) (no_raw_lines [] refl))
 
-ends_well : (s : Draft) (n : ℕ) (width : ℤ) (blocks : List Block) (last : Bool) (count : ℕ)
-    (r : Result Draft ListFault) → r ≡ Ok (in_list (Some width) blocks last count)
-    → then_ok (then_ok r (λ t. at_line n (ended t t.stands))) (λ t. galley_from t.blocks t.width)
+ends_well : (s : ReaderState) (n : ℕ) (width : ℤ) (blocks : List Block) (last : Bool) (count : ℕ)
+    (r : Result ReaderState ListFault) → r ≡ Ok (in_list (Some width) blocks last count)
+    → then_ok (then_ok r (λ t. at_line n (ended t t.within))) (λ t. galley_from t.blocks t.width)
     ≡ Ok (record { width = width; blocks = blocks })
 unfolding ended
 ends_well s n width blocks last count r e = rw e refl

@@ -8,17 +8,17 @@ use Rattle.pg_list.specs.declared.blocks.Block.{Block}
 use Rattle.pg_list.specs.declared.blocks.Block.TheVariants as block
 use Rattle.pg_list.specs.Bodies.{with_line, body_of, longer}
 use Rattle.pg_list.proofs.BodyLemmas.{extended_last_block, extended_last}
-use Rattle.pg_lines.specs.declared.kinds.ListFault.{ListFault}
+use Rattle.pg_showbox.specs.declared.kinds.ListFault.{ListFault}
 use Rattle.pg_showbox.specs.declared.node.Node.{Node}
 use Rattle.pg_showbox.specs.declared.node.Node.TheVariants as node
-use Rattle.pg_showbox.specs.declared.said.Said.{Said}
-use Rattle.pg_showbox.specs.declared.said.Said.TheVariants as said
-use Rattle.pg_showbox.specs.declared.draft.Draft.{Draft}
-use Rattle.pg_showbox.specs.declared.draft.Stands.TheVariants.{Listing, InChoice, InVariant}
-use Rattle.pg_lines.specs.Lines.{lines_of, raw_lines, joined, trimmed, is_no_feed}
-use Rattle.pg_lines.specs.Parts.{after, past}
+use Rattle.pg_showbox.specs.declared.parsed.ParsedLine.{ParsedLine}
+use Rattle.pg_showbox.specs.declared.parsed.ParsedLine.TheVariants as said
+use Rattle.pg_showbox.specs.declared.state.ReaderState.{ReaderState}
+use Rattle.pg_showbox.specs.declared.state.Within.TheVariants.{Listing, InChoice, InVariant}
+use Rattle.pg_scan.specs.Lines.{lines_of, raw_lines, joined, trimmed, is_no_feed}
+use Rattle.pg_scan.specs.Parts.{after, past}
 use Rattle.pg_showbox.specs.Nodes.{node_item}
-use Rattle.pg_showbox.specs.Said.{pointed_at, marker_at, variant_at, block_line, listing_line, galley_line}
+use Rattle.pg_showbox.specs.ParsedLine.{pointed_at, marker_at, variant_at, block_line, listing_line, galley_line}
 use Rattle.pg_showbox.specs.State.{step, longer_last, placed, placed_block, placed_item, begun_choice, begun_variant, next_variant, closed, whole_choice, ended_choice}
 use Rattle.pg_showbox.specs.Reading.{in_listing, said_in, line_read, run}
 use Rattle.std.specs.Prelude.{ℤ}
@@ -27,11 +27,11 @@ use Rattle.std.proofs.lemmas.List.Sums.{sum_by-cons}
 use Rattle.pg_list.specs.Counts.{block_size, item_count, item_limit}
 use Rattle.pg_list.specs.Shapes.{IsBlock}
 use Rattle.pg_showbox.specs.Text.{pointed_byte, body_text, block_text, items_text, choice_line, end_line, variant_front, variant_numbers, variant_text}
-use Rattle.pg_lines.specs.Lines.{IsClean}
+use Rattle.pg_scan.specs.Lines.{IsClean}
 use Rattle.pg_showbox.specs.Shown.{IsDeeper, IsShown, IsShownBlock, deeper_text}
 use Rattle.pg_showbox.proofs.RunLemmas.{run_more}
-use Rattle.pg_lines.proofs.LineLemmas.{no_return}
-use Rattle.pg_lines.proofs.WholeReads.{whole_reads}
+use Rattle.pg_scan.proofs.LineLemmas.{no_return}
+use Rattle.pg_scan.proofs.WholeReads.{whole_reads}
 use Rattle.pg_scaled.proofs.ReadsBack.{AreDigits, from_all_digits}
 use Rattle.std.proofs.lemmas.Fmt.{decimal_is_IsNumeral}
 use Rattle.std.proofs.lemmas.Int.{ints}
@@ -48,6 +48,9 @@ use Rattle.std.specs.Cmp.Lexicographic.{pointwise}
 use Rattle.std.proofs.lemmas.Slice.Eq.{bytes_eq-Decides}
 use Rattle.std.proofs.lemmas.Bool.Decides.{Decides-int_eq}
 use Rattle.std.proofs.Common.{length-append}
+use Rattle.pg_lemmas.proofs.Lists.{all_append}
+use Rattle.pg_lemmas.proofs.Bools.{true_both}
+use Rattle.pg_list.proofs.NewLemmas.{begins_back, solid_back, same_self, inserts_self}
 
 not_true : (b : Bool) → IsTrue (not b) → b ≡ false
 not_true true h = absurd (cc)
@@ -62,7 +65,7 @@ unfolding lines_of
 lines_line [] rest h = refl
 lines_line (c ∷ cs) rest h = rw (no_feed_is c h.0, lines_line cs rest h.1) refl
 
-abbrev pub text_run : Draft → ℕ → List ℕ → Result Draft ListFault
+abbrev pub text_run : ReaderState → ℕ → List ℕ → Result ReaderState ListFault
 text_run s n text = run true s (joined None n (raw_lines text))
 
 joined_line : (n : ℕ) (line rest : List ℕ) → IsClean line → joined None n (raw_lines (line ++ 10 ∷ rest))
@@ -71,19 +74,19 @@ unfolding joined
 joined_line n line rest clean = rw (lines_line line rest clean.no_feed, clean.no_return) refl
 
 -- this text takes one state to another, whatever follows it
-abbrev pub Reads : Draft → List ℕ → Draft → Type 0
+abbrev pub Reads : ReaderState → List ℕ → ReaderState → Type 0
 Reads s text t = (n : ℕ) (rest : List ℕ) → (m : ℕ) × (text_run s n (text ++ rest) ≡ text_run t m rest)
 
-pub reads_none : (s : Draft) → Reads s [] s
+pub reads_none : (s : ReaderState) → Reads s [] s
 reads_none s n rest = (n, refl)
 
-pub reads_then : (s t u : Draft) (a b : List ℕ) → Reads s a t → Reads t b u → Reads s (a ++ b) u
+pub reads_then : (s t u : ReaderState) (a b : List ℕ) → Reads s a t → Reads t b u → Reads s (a ++ b) u
 reads_then s t u a b first second n rest =
     let one = first n (b ++ rest) in
     let two = second one.0 rest in
     (two.0, ap (λ (text : List ℕ). text_run s n text) (append_assoc a b rest) ∙ one.1 ∙ two.1)
 
-pub reads_line : (s t : Draft) (line : List ℕ) → IsClean line → line_read true s line ≡ Ok t
+pub reads_line : (s t : ReaderState) (line : List ℕ) → IsClean line → line_read true s line ≡ Ok t
     → Reads s (line ++ 10 ∷ []) t
 reads_line s t line clean e n rest = (
   n + 1,
@@ -97,11 +100,11 @@ point_said : (line : List ℕ) → galley_line true (46 ∷ line) ≡ pointed_at
 unfolding galley_line listing_line block_line after
 point_said line = refl
 
-past_point : (line : List ℕ) → past (codes ".") (46 ∷ line) ≡ line
+pub past_point : (line : List ℕ) → past (codes ".") (46 ∷ line) ≡ line
 unfolding past after
 past_point line = refl
 
-pointed_line : (s : Draft) (line : List ℕ) (what : Said) → in_listing s.stands ≡ true → pointed_at line ≡ Ok what
+pointed_line : (s : ReaderState) (line : List ℕ) (what : ParsedLine) → in_listing s.within ≡ true → pointed_at line ≡ Ok what
     → line_read true s (46 ∷ line) ≡ step s what (46 ∷ line)
 unfolding line_read said_in
 pointed_line s line what inside says = rw (inside, point_said line, says) refl
@@ -116,21 +119,21 @@ longer_node (node.Insert c s) body line = refl
 longer_node node.Carry body line = refl
 
 -- states whose last item is the one that is shown
-pub record HasLast (K : Item → Draft) : Type 0 where
-  pub inside : (x : Item) → in_listing (K x).stands ≡ true
-  pub longer : (x : Item) (line : List ℕ) → longer_last (K x) (K x).stands line ≡ Ok (K (with_line line x))
+pub record HasLast (K : Item → ReaderState) : Type 0 where
+  pub inside : (x : Item) → in_listing (K x).within ≡ true
+  pub longer : (x : Item) (line : List ℕ) → longer_last (K x) (K x).within line ≡ Ok (K (with_line line x))
 
 abbrev deeper_lines : List (List ℕ) → List ℕ
 deeper_lines [] = []
 deeper_lines (line ∷ lines) = ((46 ∷ line) ++ 10 ∷ []) ++ deeper_lines lines
 
-one_deeper : (K : Item → Draft) (x : Item) (line : List ℕ) → HasLast K → IsDeeper line
+one_deeper : (K : Item → ReaderState) (x : Item) (line : List ℕ) → HasLast K → IsDeeper line
     → line_read true (K x) (46 ∷ line) ≡ Ok (K (with_line line x))
 unfolding step
 one_deeper K x line last is = pointed_line (K x) line said.Deeper (last.inside x) is.says
     ∙ rw (past_point line) (last.longer x line)
 
-deeper_reads : (K : Item → Draft) (n : Node) (body : List ℕ) (lines : List (List ℕ)) → HasLast K
+deeper_reads : (K : Item → ReaderState) (n : Node) (body : List ℕ) (lines : List (List ℕ)) → HasLast K
     → AllByRecursion IsDeeper lines
     → Reads (K (node_item n body)) (deeper_lines lines) (K (node_item n (body ++ deeper_text lines)))
 deeper_reads K n body [] last each = subst (λ (b : List ℕ). Reads (K (node_item n body)) [] (K (node_item n b)))
@@ -175,15 +178,15 @@ body_of_node (node.Penalty v) body = refl
 body_of_node (node.Insert c s) body = refl
 body_of_node node.Carry body = refl
 
-first_line : (s : Draft) (K : Item → Draft) (n : Node) (line : List ℕ) → in_listing s.stands ≡ true
-    → ((x : Item) → placed s s.stands x ≡ Ok (K x)) → pointed_at line ≡ Ok (said.Item n)
+first_line : (s : ReaderState) (K : Item → ReaderState) (n : Node) (line : List ℕ) → in_listing s.within ≡ true
+    → ((x : Item) → placed s s.within x ≡ Ok (K x)) → pointed_at line ≡ Ok (said.Item n)
     → line_read true s (46 ∷ line) ≡ Ok (K (node_item n line))
 unfolding step
 first_line s K n line inside place says = pointed_line s line (said.Item n) inside says
     ∙ rw (past_point line) (place (node_item n line))
 
-pub item_reads : (s : Draft) (K : Item → Draft) (item : Item) → IsShown item → in_listing s.stands ≡ true → HasLast K
-    → ((x : Item) → placed s s.stands x ≡ Ok (K x)) → Reads s (body_text (body_of item)) (K item)
+pub item_reads : (s : ReaderState) (K : Item → ReaderState) (item : Item) → IsShown item → in_listing s.within ≡ true → HasLast K
+    → ((x : Item) → placed s s.within x ≡ Ok (K x)) → Reads s (body_text (body_of item)) (K item)
 item_reads s K item shown inside last place =
     let n = shown.node in
     let body = shown.first ++ deeper_text shown.deeper in
@@ -198,11 +201,11 @@ item_reads s K item shown inside last place =
     (subst (λ (t : List ℕ). Reads s t (K (node_item n body))) (sym text) all)
 
 -- a listing after some blocks
-abbrev pub in_list : Option ℤ → List Block → Bool → ℕ → Draft
+abbrev pub in_list : Option ℤ → List Block → Bool → ℕ → ReaderState
 in_list width blocks has_item count = record {
   blocks = blocks;
   width = width;
-  stands = Listing;
+  within = Listing;
   variants = [];
   items = [];
   has_item = has_item;
@@ -239,12 +242,12 @@ BlockReads width blocks has_item count b = (more : Bool) × Reads (in_list width
     (in_list width (blocks ++ b ∷ []) more (count + block_size b))
 
 -- a choice
-abbrev pub in_var : Option ℤ → List Block → List Variant → ℤ → ℕ → List Item → Bool → ℕ → Draft
+abbrev pub in_var : Option ℤ → List Block → List Variant → ℤ → ℕ → List Item → Bool → ℕ → ReaderState
 in_var width blocks variants l d items has_item count =
     record {
       blocks = blocks;
       width = width;
-      stands = InVariant l d;
+      within = InVariant l d;
       variants = variants;
       items = items;
       has_item =
@@ -252,11 +255,11 @@ in_var width blocks variants l d items has_item count =
       count = count;
     }
 
-abbrev pub in_choice : Option ℤ → List Block → ℕ → Draft
+abbrev pub in_choice : Option ℤ → List Block → ℕ → ReaderState
 in_choice width blocks count = record {
   blocks = blocks;
   width = width;
-  stands = InChoice;
+  within = InChoice;
   variants = [];
   items = [];
   has_item = false;
@@ -317,14 +320,9 @@ abbrev no_feeds : List ℕ → Bool
 no_feeds [] = true
 no_feeds (c ∷ cs) = is_no_feed c && no_feeds cs
 
-both : (a b : Bool) → IsTrue (a && b) → IsTrue a × IsTrue b
-both true true e = (refl, refl)
-both true false e = cc
-both false b e = cc
-
 pub all_no_feeds : (line : List ℕ) → IsTrue (no_feeds line) → AllByRecursion (λ c. IsTrue (is_no_feed c)) line
 all_no_feeds [] e = tt
-all_no_feeds (c ∷ cs) e = let p = both (is_no_feed c) (no_feeds cs) e in (p.0, all_no_feeds cs p.1)
+all_no_feeds (c ∷ cs) e = let p = true_both (is_no_feed c) (no_feeds cs) e in (p.0, all_no_feeds cs p.1)
 
 choice_clean : IsClean (46 ∷ codes "\\special{pg:choice}")
 unfolding trimmed
@@ -363,11 +361,6 @@ mark_numbers l d = signed_decimal l ++ 32 ∷ (decimal d ++ 125 ∷ [])
 
 abbrev mark_line : ℤ → ℕ → List ℕ
 mark_line l d = codes "\\special{pg:variant " ++ mark_numbers l d
-
-pub all_append : {X : Type 0} (P : X → Type 0) (xs ys : List X) → AllByRecursion P xs → AllByRecursion P ys
-    → AllByRecursion P (xs ++ ys)
-all_append P [] ys h k = k
-all_append P (x ∷ xs) ys h k = (h.0, all_append P xs ys h.1 k)
 
 all_at : {X : Type 0} (P : X → Type 0) (xs ys : List X) (x : X) → AllByRecursion P (xs ++ x ∷ ys) → P x
 all_at P [] ys x h = h.0
@@ -446,9 +439,9 @@ mark_text variant =
     ∙ ap (λ (xs : List ℕ). xs ++ items_text variant.items) (sym (append_assoc front (mark_numbers l d) (10 ∷ [])))
 
 -- the marker and the items of a variant
-variant_reads : (s : Draft) (width : Option ℤ) (blocks : List Block) (variants : List Variant) (count : ℕ)
-    (variant : Variant) → in_listing s.stands ≡ true
-    → begun_variant s s.stands variant.looseness variant.demerits
+variant_reads : (s : ReaderState) (width : Option ℤ) (blocks : List Block) (variants : List Variant) (count : ℕ)
+    (variant : Variant) → in_listing s.within ≡ true
+    → begun_variant s s.within variant.looseness variant.demerits
     ≡ Ok (in_var width blocks variants variant.looseness variant.demerits [] false count)
     → AllByRecursion IsShown variant.items → IsWithinLimits variant → count + length variant.items ≤ item_limit
     → (last : Bool) × Reads s (variant_text variant)
@@ -470,40 +463,9 @@ variant_reads s width blocks variants count variant inside begins shown limits f
           (reads_then s from to ((46 ∷ mark_line l d) ++ 10 ∷ []) (items_text variant.items) one more.1),
     )
 
--- what a choice keeps, as the tests that the reader makes
-and_true : (a b : Bool) → a ≡ true → b ≡ true → (a && b) ≡ true
-and_true a b p q = rw (p, q) refl
-
-begins_back : (items : List Item) → BeginsWithBox items → begins_with_box items ≡ true
-begins_back [] h = absurd h
-begins_back (item ∷ items) h = h
-
-solid_back : (o : Option Item) → IsSomeAnd o (λ item. IsTrue (not (is_discardable item))) → is_solid o ≡ true
-solid_back None h = absurd h
-solid_back (Some item) h = h
-
 shaped_back : (variant : Variant) → IsVariant variant → is_shaped variant.items ≡ true
-shaped_back variant h = and_true (begins_with_box variant.items) (ends_solid variant.items)
+shaped_back variant h = true_both (begins_with_box variant.items) (ends_solid variant.items)
     (begins_back variant.items h.begins) (solid_back (slice_get variant.items (length variant.items - 1)) h.ends)
-
-same_self : (class : ℕ) (size : ℤ) (body : List ℕ) → same_insert (item.Insert class size body)
-    (item.Insert class size body) ≡ true
-same_self class size body =
-    let c : (class == class) ≡ true = grind (arith, nat_tests) in
-    and_true (class == class) (int_eq size size && bytes_eq body body) c
-    (and_true (int_eq size size) (bytes_eq body body) ((Decides-int_eq size size).1 refl)
-    ((bytes_eq-Decides body body).1 refl))
-
-inserts_self : (items : List Item) → pointwise same_insert (inserts items) (inserts items) ≡ true
-inserts_self [] = refl
-inserts_self (item.BoxItem h d b ∷ items) = inserts_self items
-inserts_self (item.Rule h d b ∷ items) = inserts_self items
-inserts_self (item.Glue w s o k b ∷ items) = inserts_self items
-inserts_self (item.Kern w b ∷ items) = inserts_self items
-inserts_self (item.Penalty v b ∷ items) = inserts_self items
-inserts_self (item.Insert c s b ∷ items) = and_true (same_insert (item.Insert c s b) (item.Insert c s b))
-    (pointwise same_insert (inserts items) (inserts items)) (same_self c s b) (inserts_self items)
-inserts_self (item.Carry b ∷ items) = inserts_self items
 
 fits_back : (variants more : List Variant) (variant : Variant) → HaveEqualInserts (variants ++ variant ∷ more)
     → fits_first variants variant.items ≡ true

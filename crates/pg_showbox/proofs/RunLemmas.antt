@@ -1,27 +1,27 @@
 -- Lines that are read one by one.
 use Rattle.std.proofs.Common.{◌≡◌, ℕ, List, [], ◌∷◌, refl, length, Bool}
 use Rattle.std.specs.Prelude.{Result, Ok, Err, Option}
-use Rattle.pg_lines.specs.declared.kinds.ListKind.{ListKind}
-use Rattle.pg_lines.specs.declared.kinds.ListKind.TheVariants.{NoListing, BadLine, UnknownNode, BadNumber, OutOfRange, Truncated, InfiniteShrink, RunningSize, NegativeSize, ChoiceShape, ChoiceInserts, Limit, Memory}
-use Rattle.pg_showbox.specs.declared.draft.Draft.{Draft}
-use Rattle.pg_lines.specs.Lines.{Line, raw_lines, joined}
+use Rattle.pg_showbox.specs.declared.kinds.ListKind.{ListKind}
+use Rattle.pg_showbox.specs.declared.kinds.ListKind.TheVariants.{NoListing, BadLine, UnknownNode, BadNumber, OutOfRange, Truncated, InfiniteShrink, RunningSize, NegativeSize, ChoiceShape, ChoiceInserts, Limit, Memory}
+use Rattle.pg_showbox.specs.declared.state.ReaderState.{ReaderState}
+use Rattle.pg_scan.specs.Lines.{Line, raw_lines, joined}
 use Rattle.pg_showbox.specs.State.{Steps}
 use Rattle.pg_showbox.specs.Reading.{line_read, run, OrMemory}
-use Rattle.pg_lines.proofs.LineLemmas.{nil_from_length, no_line}
+use Rattle.pg_scan.proofs.LineLemmas.{nil_from_length, no_line}
 
-pub run_more : (is_file : Bool) (s t : Draft) (lines rest : List Line) (n : ℕ) (text : List ℕ)
+pub run_more : (is_file : Bool) (s t : ReaderState) (lines rest : List Line) (n : ℕ) (text : List ℕ)
     → lines ≡ record { number = n; text = text } ∷ rest → line_read is_file s text ≡ Ok t
     → run is_file s lines ≡ run is_file t rest
 unfolding run
 run_more is_file s t lines rest n text e is = rw (e, is) refl
 
-pub run_fault : (is_file : Bool) (s : Draft) (lines rest : List Line) (n : ℕ) (text : List ℕ) (kind : ListKind)
+pub run_fault : (is_file : Bool) (s : ReaderState) (lines rest : List Line) (n : ℕ) (text : List ℕ) (kind : ListKind)
     → lines ≡ record { number = n; text = text } ∷ rest → line_read is_file s text ≡ Err kind
     → run is_file s lines ≡ Err (record { line = n; kind = kind })
 unfolding run
 run_fault is_file s lines rest n text kind e is = rw (e, is) refl
 
-pub run_end : (is_file : Bool) (s : Draft) (lines : List Line) → lines ≡ [] → run is_file s lines ≡ Ok s
+pub run_end : (is_file : Bool) (s : ReaderState) (lines : List Line) → lines ≡ [] → run is_file s lines ≡ Ok s
 unfolding run
 run_end is_file s lines e = rw e refl
 
@@ -32,7 +32,7 @@ pub joined_none : (wrap : Option ℕ) (n : ℕ) (lines : List (List ℕ)) → li
 unfolding joined
 joined_none wrap n lines e = rw e refl
 
-pub err_runs : (kind : ListKind) (said : Result Draft ListKind) (new : Draft) (P : Type 0) → Steps (Err kind) said new
+pub err_runs : (kind : ListKind) (said : Result ReaderState ListKind) (new : ReaderState) (P : Type 0) → Steps (Err kind) said new
     → (said ≡ Err kind → P) → OrMemory kind P
 err_runs NoListing said new P e f = f e
 err_runs BadLine said new P e f = f e
@@ -47,18 +47,3 @@ err_runs ChoiceShape said new P e f = f e
 err_runs ChoiceInserts said new P e f = f e
 err_runs Limit said new P e f = f e
 err_runs Memory said new P e f = tt
-
-pub or_memory : (kind : ListKind) (P Q : Type 0) → OrMemory kind P → (P → Q) → OrMemory kind Q
-or_memory NoListing P Q p f = f p
-or_memory BadLine P Q p f = f p
-or_memory UnknownNode P Q p f = f p
-or_memory BadNumber P Q p f = f p
-or_memory OutOfRange P Q p f = f p
-or_memory Truncated P Q p f = f p
-or_memory InfiniteShrink P Q p f = f p
-or_memory RunningSize P Q p f = f p
-or_memory NegativeSize P Q p f = f p
-or_memory ChoiceShape P Q p f = f p
-or_memory ChoiceInserts P Q p f = f p
-or_memory Limit P Q p f = f p
-or_memory Memory P Q p f = tt

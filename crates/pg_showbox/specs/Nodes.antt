@@ -8,11 +8,12 @@ use Rattle.pg_list.specs.declared.item.Item.{Item}
 use Rattle.pg_list.specs.declared.item.Item.TheVariants as item
 use Rattle.pg_list.specs.declared.item.Order.{Order}
 use Rattle.pg_list.specs.declared.item.Order.TheVariants.{Finite, Fil, Fill, Filll}
-use Rattle.pg_lines.specs.declared.kinds.ListKind.{ListKind}
-use Rattle.pg_lines.specs.declared.kinds.ListKind.TheVariants.{BadLine, UnknownNode, Truncated, InfiniteShrink, NegativeSize}
+use Rattle.pg_showbox.specs.declared.kinds.ListKind.{ListKind}
+use Rattle.pg_showbox.specs.declared.kinds.ListKind.TheVariants.{BadLine, UnknownNode, Truncated, InfiniteShrink, NegativeSize}
 use Rattle.pg_showbox.specs.declared.node.Node.{Node}
 use Rattle.pg_showbox.specs.declared.node.Node.TheVariants.{Box, Rule, Glue, Kern, Penalty, Insert, Carry}
-use Rattle.pg_lines.specs.Parts.{◌>>=◌, after, due, past, on, named, begins_with_letter, size_at, fixed_size, past_width, whole_at, class_at, order_at}
+use Rattle.pg_showbox.specs.Parts.{◌>>=◌, due, size_at, fixed_size, past_width, whole_at, class_at, order_at}
+use Rattle.pg_scan.specs.Parts.{after, past, on, named, begins_with_letter}
 
 -- `(H+D)xW`, then anything
 unfoldable pub box_at : List ℕ → Result Node ListKind

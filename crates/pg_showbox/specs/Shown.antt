@@ -6,10 +6,10 @@ use Rattle.pg_list.specs.declared.variants.Variant.{Variant}
 use Rattle.pg_list.specs.declared.blocks.Block.{Block}
 use Rattle.pg_list.specs.declared.blocks.Block.TheVariants as block
 use Rattle.pg_showbox.specs.declared.node.Node.{Node}
-use Rattle.pg_showbox.specs.declared.said.Said.TheVariants as said
-use Rattle.pg_lines.specs.Lines.{IsClean}
+use Rattle.pg_showbox.specs.declared.parsed.ParsedLine.TheVariants as said
+use Rattle.pg_scan.specs.Lines.{IsClean}
 use Rattle.pg_showbox.specs.Nodes.{node_item}
-use Rattle.pg_showbox.specs.Said.{pointed_at}
+use Rattle.pg_showbox.specs.ParsedLine.{pointed_at}
 
 -- a deeper line behind its first point
 pub record IsDeeper (line : List ℕ) : Type 0 where

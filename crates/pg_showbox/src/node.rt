@@ -4,13 +4,13 @@ ghost use Rattle.pg_list.specs.Ranges.{IsScaled, IsItemInRange};
 ghost use Rattle.pg_showbox.specs.Nodes.{IsNodeInRange, node_item};
 ghost use Rattle.std.specs.List.{prefix_len};
 ghost use Rattle.pg_showbox.specs.Nodes.{box_at, rule_at, amount_at, stretch_at, shrink_at, ends_glue, glue_text_at, past_name, glue_at, leaders_at, kern_at, penalty_at, insert_at, past_natural, natural_at, carry_or_unknown, node_at, later_node_at, is_not_close};
-ghost use Rattle.pg_lines.specs.Parts.{Answers};
+ghost use Rattle.pg_showbox.specs.Parts.{Answers};
 
-use pg_lines::{
-    ListKind, class, due, fixed_size, letter_first, named, order, size, skip, skip_if, skip_width,
-    whole,
-};
+use crate::kinds::ListKind;
+use crate::numbers::{read_class, read_whole};
+use crate::parts::{expect, read_fixed_size, read_order, read_size, skip_width};
 use pg_list::{Bytes, Item, Order};
+use pg_scan::{letter_first, named, skip, skip_if};
 
 /// What the first line of an item says: its kind and its numbers, in scaled points.
 #[derive(Clone, Copy, Debug, PartialEq, Eq)]
@@ -84,9 +84,9 @@ fn box_node(bytes: &[u8]) -> Result<Node, ListKind>
     ensures value { result ≡ box_at bytes.now }
     ensures range { IfOk result (λ node. IsNodeInRange node) }
 {
-    let (height, plus) = size(due(b"(", bytes)?)?;
-    let (depth, close) = size(due(b"+", plus)?)?;
-    size(due(b")x", close)?)?;
+    let (height, plus) = read_size(expect(b"(", bytes)?)?;
+    let (depth, close) = read_size(expect(b"+", plus)?)?;
+    read_size(expect(b")x", close)?)?;
     Ok(Node::Box { height, depth })
 }
 
@@ -96,9 +96,9 @@ fn rule_node(bytes: &[u8]) -> Result<Node, ListKind>
     ensures value { result ≡ rule_at bytes.now }
     ensures range { IfOk result (λ node. IsNodeInRange node) }
 {
-    let (height, plus) = fixed_size(due(b"(", bytes)?)?;
-    let (depth, close) = fixed_size(due(b"+", plus)?)?;
-    skip_width(due(b")x", close)?)?;
+    let (height, plus) = read_fixed_size(expect(b"(", bytes)?)?;
+    let (depth, close) = read_fixed_size(expect(b"+", plus)?)?;
+    skip_width(expect(b")x", close)?)?;
     Ok(Node::Rule { height, depth })
 }
 
@@ -108,8 +108,8 @@ fn amount(bytes: &[u8]) -> Result<((i32, Order), &[u8]), ListKind>
     ensures value { Answers (λ x. (x.0, x.1.now)) result (amount_at bytes.now) }
     ensures range { IfOk result (λ x. IsScaled x.0.0) }
 {
-    let (value, rest) = size(bytes)?;
-    let (order, rest) = order(rest);
+    let (value, rest) = read_size(bytes)?;
+    let (order, rest) = read_order(rest);
     Ok(((value, order), rest))
 }
 
@@ -153,7 +153,7 @@ fn glue_text(is_leader: bool, bytes: &[u8]) -> Result<Node, ListKind>
     ensures value { result ≡ glue_text_at is_leader bytes.now }
     ensures range { IfOk result (λ node. IsNodeInRange node) }
 {
-    let (width, rest) = size(bytes)?;
+    let (width, rest) = read_size(bytes)?;
     let ((stretch, order), rest) = stretch(rest)?;
     let (shrink, rest) = shrink(rest)?;
     if !is_end(is_leader, rest) {
@@ -190,8 +190,8 @@ fn glue_node(bytes: &[u8]) -> Result<Node, ListKind>
     ensures range { IfOk result (λ node. IsNodeInRange node) }
 {
     match skip(b"(", bytes) {
-        Some(rest) => glue_text(false, due(b") ", skip_name(rest))?),
-        None => glue_text(false, due(b" ", bytes)?),
+        Some(rest) => glue_text(false, expect(b") ", skip_name(rest))?),
+        None => glue_text(false, expect(b" ", bytes)?),
     }
 }
 
@@ -201,7 +201,7 @@ fn leaders_node(bytes: &[u8]) -> Result<Node, ListKind>
     ensures value { result ≡ leaders_at bytes.now }
     ensures range { IfOk result (λ node. IsNodeInRange node) }
 {
-    glue_text(true, due(b" ", bytes)?)
+    glue_text(true, expect(b" ", bytes)?)
 }
 
 // A kern, behind its name.
@@ -210,7 +210,7 @@ fn kern_node(bytes: &[u8]) -> Result<Node, ListKind>
     ensures value { result ≡ kern_at bytes.now }
     ensures range { IfOk result (λ node. IsNodeInRange node) }
 {
-    let (width, _) = size(skip_if(b" ", bytes))?;
+    let (width, _) = read_size(skip_if(b" ", bytes))?;
     Ok(Node::Kern { width })
 }
 
@@ -220,7 +220,7 @@ fn penalty_node(bytes: &[u8]) -> Result<Node, ListKind>
     ensures value { result ≡ penalty_at bytes.now }
     ensures range { IfOk result (λ node. IsNodeInRange node) }
 {
-    let (value, _) = whole(-2147483648, 2147483647, due(b" ", bytes)?)?;
+    let (value, _) = read_whole(-2147483648, 2147483647, expect(b" ", bytes)?)?;
     Ok(Node::Penalty {
         value: value as i32,
     })
@@ -231,7 +231,7 @@ fn penalty_node(bytes: &[u8]) -> Result<Node, ListKind>
 fn skip_natural(bytes: &[u8]) -> Result<&[u8], ListKind>
     ensures { Answers (λ b. b.now) result (past_natural bytes.now) }
 {
-    due(b", natural size ", bytes)
+    expect(b", natural size ", bytes)
 }
 
 // The size of an insert.
@@ -240,7 +240,7 @@ fn natural(bytes: &[u8]) -> Result<i32, ListKind>
     ensures value { result ≡ natural_at bytes.now }
     ensures range { IfOk result (λ size. IsScaled size × (pos 0 ≤ℤ size)) }
 {
-    let (size, _) = size(bytes)?;
+    let (size, _) = read_size(bytes)?;
     if size < 0 {
         return Err(ListKind::NegativeSize);
     }
@@ -253,7 +253,7 @@ fn insert_node(bytes: &[u8]) -> Result<Node, ListKind>
     ensures value { result ≡ insert_at bytes.now }
     ensures range { IfOk result (λ node. IsNodeInRange node) }
 {
-    let (class, rest) = class(bytes)?;
+    let (class, rest) = read_class(bytes)?;
     let size = natural(skip_natural(rest)?)?;
     Ok(Node::Insert { class, size })
 }

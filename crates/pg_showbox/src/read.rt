@@ -1,46 +1,53 @@
+//! Galley files and item lines, read line by line.
 ghost use Rattle.std.specs.Prelude.{◌≡◌, ◌≤◌, ◌<◌, ◌+◌, ◌^◌, length, IfOk, OnOk, MatchOption, IfSome, ◌∷◌, [], Option, None, true, false};
 ghost use Rattle.std.specs.List.{AllByRecursion};
-ghost use Rattle.pg_lines.specs.Lines.{raw_lines, joined};
-ghost use Rattle.pg_showbox.specs.Said.{IsSaidInRange};
-ghost use Rattle.pg_showbox.specs.State.{Steps, Sound, StandsSound, started, ended};
+ghost use Rattle.pg_scan.specs.Lines.{raw_lines, joined};
+ghost use Rattle.pg_showbox.specs.ParsedLine.{IsParsedInRange};
+ghost use Rattle.pg_showbox.specs.State.{Steps, Sound, WithinSound, started, ended};
 ghost use Rattle.pg_showbox.specs.Shown.{IsShownBlock};
 ghost use Rattle.pg_showbox.specs.Reading.{in_listing, said_in, line_read, run, all_read, galley_of, blocks_of, Gives, Runs};
 
-use crate::draft::{Draft, Stands};
-use crate::said::{Said, say_block_line, say_galley_line};
-use pg_lines::{ListFault, ListKind, take_line};
+use crate::kinds::{ListFault, ListKind};
+use crate::parsed::{ParsedLine, parse_block_line, parse_galley_line};
+use crate::state::{ReaderState, Within};
 use pg_list::{Blocks, Galley};
+use pg_scan::take_line;
 use std::alloc::Global;
 
 // The next line stands in a listing.
-fn is_in_listing(stands: Stands) -> bool
-    ensures { result ≡ in_listing stands }
+fn is_in_listing(within: Within) -> bool
+    ensures { result ≡ in_listing within }
 {
-    !matches!(stands, Stands::Outside)
+    !matches!(within, Within::Outside)
 }
 
 // What a line says, in a galley file or among item lines alone.
 #[tactic(auto, unfolding(crate::specs::Reading::said_in))]
-fn say(is_file: bool, stands: Stands, line: &[u8]) -> Result<Said, ListKind>
-    ensures value { result ≡ said_in is_file stands line.now }
-    ensures range { IfOk result (λ said. IsSaidInRange said) }
+fn parse_line(is_file: bool, within: Within, line: &[u8]) -> Result<ParsedLine, ListKind>
+    ensures value { result ≡ said_in is_file within line.now }
+    ensures range { IfOk result (λ parsed. IsParsedInRange parsed) }
 {
     if is_file {
-        say_galley_line(is_in_listing(stands), line)
+        parse_galley_line(is_in_listing(within), line)
     } else {
-        say_block_line(line)
+        parse_block_line(line)
     }
 }
 
 // Reads one line.
 #[tactic(auto, using(crate::proofs::StateLemmas::steps_err), unfolding(crate::specs::Reading::line_read))]
-fn read_line(alloc: Global, is_file: bool, draft: &mut Draft, line: &[u8]) -> Result<(), ListKind>
-    requires { Sound draft.old }
-    ensures step { Steps result (line_read is_file draft.old line.now) draft.new }
-    ensures sound { OnOk result (Sound draft.new) }
+fn read_line(
+    alloc: Global,
+    is_file: bool,
+    state: &mut ReaderState,
+    line: &[u8],
+) -> Result<(), ListKind>
+    requires { Sound state.old }
+    ensures step { Steps result (line_read is_file state.old line.now) state.new }
+    ensures sound { OnOk result (Sound state.new) }
 {
-    let said = say(is_file, draft.stands, line)?;
-    draft.step(alloc, said, line)
+    let parsed = parse_line(is_file, state.within, line)?;
+    state.step(alloc, parsed, line)
 }
 
 // Reads all lines of a text, the first of which has this number.
@@ -50,13 +57,13 @@ fn read_lines(
     wrap: Option<u32>,
     first: u32,
     text: &[u8],
-    draft: &mut Draft,
+    state: &mut ReaderState,
 ) -> Result<u32, ListFault>
     requires room { first + length text.now < 2 ^ 32 }
-    requires sound { Sound draft.old }
-    ensures run { Runs result (run is_file draft.old (joined wrap first (raw_lines text.now))) draft.new }
+    requires sound { Sound state.old }
+    ensures run { Runs result (run is_file state.old (joined wrap first (raw_lines text.now))) state.new }
     ensures last { IfOk result (λ number. number ≡ first + length (raw_lines text.now)) }
-    ensures sound { OnOk result (Sound draft.new) }
+    ensures sound { OnOk result (Sound state.new) }
 {
     let mut line = Vec::new(alloc);
     let mut rest = text;
@@ -72,7 +79,7 @@ fn read_lines(
                 });
             }
         };
-        match read_line(alloc, is_file, draft, &line) {
+        match read_line(alloc, is_file, state, &line) {
             Err(kind) => return Err(ListFault { line: number, kind }),
             Ok(()) => {
                 rest = after;
@@ -91,17 +98,17 @@ fn read_all(
     wrap: Option<u32>,
     first: u32,
     text: &[u8],
-    stands: Stands,
-) -> Result<Draft, ListFault>
+    within: Within,
+) -> Result<ReaderState, ListFault>
     requires room { first + length text.now < 2 ^ 32 }
-    requires stands { StandsSound stands [] }
-    ensures read { Gives (λ draft. draft) result (all_read is_file wrap first text.now (started stands)) }
-    ensures sound { IfOk result (λ draft. Sound draft) }
+    requires within { WithinSound within [] }
+    ensures read { Gives (λ state. state) result (all_read is_file wrap first text.now (started within)) }
+    ensures sound { IfOk result (λ state. Sound state) }
 {
-    let mut draft = Draft::new(alloc, stands);
-    let number = read_lines(alloc, is_file, wrap, first, text, &mut draft)?;
-    match draft.end_listing() {
-        Ok(()) => Ok(draft),
+    let mut state = ReaderState::new(alloc, within);
+    let number = read_lines(alloc, is_file, wrap, first, text, &mut state)?;
+    match state.end_listing() {
+        Ok(()) => Ok(state),
         Err(kind) => Err(ListFault { line: number, kind }),
     }
 }
@@ -118,9 +125,9 @@ pub fn read_galley(alloc: Global, text: &[u8], wrap: Option<u32>) -> Result<Gall
     ensures said { Gives (λ galley. galley) result (galley_of text.now wrap) }
     ensures shown { IfOk result (λ galley. AllByRecursion IsShownBlock galley.blocks) }
 {
-    let draft = read_all(alloc, true, wrap, 1, text, Stands::Outside)?;
-    match draft.width {
-        Some(width) => Ok(Galley::of(width, draft.blocks)),
+    let state = read_all(alloc, true, wrap, 1, text, Within::Outside)?;
+    match state.width {
+        Some(width) => Ok(Galley::of(width, state.blocks)),
         None => Err(ListFault {
             line: 0,
             kind: ListKind::NoListing,
@@ -137,6 +144,6 @@ pub fn read_blocks(alloc: Global, text: &[u8], first_line: u32) -> Result<Blocks
     ensures said { Gives (λ blocks. blocks) result (blocks_of text.now first_line) }
     ensures shown { IfOk result (λ blocks. AllByRecursion IsShownBlock blocks) }
 {
-    let draft = read_all(alloc, false, None, first_line, text, Stands::Listing)?;
-    Ok(draft.blocks)
+    let state = read_all(alloc, false, None, first_line, text, Within::Listing)?;
+    Ok(state.blocks)
 }

@@ -59,12 +59,12 @@ in_order class (first ∷ classes) order none =
     let parts = none_after (first.number == class.number) first (class_in classes class.number) none in
     order_step (nat_lt first.number class.number) first class classes refl parts.0 order (in_order class classes order.1 parts.1)
 
-length_step : (b : Bool) (first class : Class) (classes : List Class) → length (inserted class classes) ≡ length classes + 1
+pub length_step : (b : Bool) (first class : Class) (classes : List Class) → length (inserted class classes) ≡ length classes + 1
     → length (if b then first ∷ inserted class classes else class ∷ first ∷ classes) ≡ length (first ∷ classes) + 1
 length_step true first class classes e = omega (arith, e)
 length_step false first class classes e = omega arith
 
-length_inserted : (class : Class) (classes : List Class) → length (inserted class classes) ≡ length classes + 1
+pub length_inserted : (class : Class) (classes : List Class) → length (inserted class classes) ≡ length classes + 1
 length_inserted class [] = refl
 length_inserted class (first ∷ classes) = length_step (nat_lt first.number class.number) first class classes (length_inserted class classes)
 

@@ -14,17 +14,6 @@ pub none_there : (found : Option Class) → is_some found ≡ false → found �
 none_there None e = refl
 none_there (Some class) e = absurd (cc)
 
-length_step : (b : Bool) (first class : Class) (classes : List Class)
-    → length (inserted class classes) ≡ length classes + 1
-    → length (if b then first ∷ inserted class classes else class ∷ first ∷ classes) ≡ length (first ∷ classes) + 1
-length_step true first class classes e = omega (arith, e)
-length_step false first class classes e = omega arith
-
-pub length_inserted : (class : Class) (classes : List Class) → length (inserted class classes) ≡ length classes + 1
-length_inserted class [] = refl
-length_inserted class (first ∷ classes) =
-    length_step (nat_lt first.number class.number) first class classes (length_inserted class classes)
-
 -- one more class is read
 pub class_read : (position : ℕ) (tables : List Members) (said : Members) (earlier classes : List Class)
     (all : Result (List Class) StyleFault)

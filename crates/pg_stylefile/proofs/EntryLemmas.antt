@@ -14,6 +14,7 @@ use Rattle.pg_stylefile.specs.declared.fault.StyleKind.{StyleKind}
 use Rattle.pg_stylefile.specs.declared.fault.StyleKind.TheVariants.{WrongKind, OutOfRange}
 use Rattle.pg_stylefile.specs.Faults.{◌>>=◌}
 use Rattle.pg_stylefile.specs.Values.{are_whole, whole_in, whole_of, each_entry, made_table, entries_of}
+use Rattle.pg_lemmas.proofs.Bools.{both_of}
 
 -- a turn of the loop over the elements
 pub whole_turn : (values : List Value) (i : ℕ) (value : Value) (b : Bool) → i < length values
@@ -76,21 +77,16 @@ counted_step (Ok entry) (Ok entries) n fails counted = omega (arith, counted)
 counted_step (Ok entry) (Err kind) n fails counted = counted
 counted_step (Err kind) rest n fails counted = fails
 
-both : (a b : Bool) → (a && b) ≡ true → (a ≡ true) × (b ≡ true)
-both true true e = (refl, refl)
-both true false e = absurd (cc)
-both false b e = absurd (cc)
-
 counted : (values : List Value) → are_whole (items_view values) ≡ true → Counted (length values)
     (each_entry (items_view values))
 unfolding whole_of
 counted [] whole = refl
 counted (value ∷ values) whole =
-    let parts = both (is_some (as_integer (view value))) (are_whole (items_view values)) whole in
+    let subtables = both_of (is_some (as_integer (view value))) (are_whole (items_view values)) whole in
     let more : length values + 1 ≡ length (value ∷ values) = omega arith in
     rw (← more)
     (counted_step (whole_of 0 100000000 (view value)) (each_entry (items_view values)) (length values)
-    (whole_fails (as_integer (view value)) parts.0) (counted values parts.1))
+    (whole_fails (as_integer (view value)) subtables.0) (counted values subtables.1))
 
 false_inside : (a b c : Bool) → b ≡ false → (a && (b && c)) ≡ false
 false_inside true b c e = rw e

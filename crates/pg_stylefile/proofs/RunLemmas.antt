@@ -41,12 +41,6 @@ pub run_refused : (height : ℤ) (position : ℕ) (tables : List Members) (membe
 run_refused height position tables members fault read all same there is = same
     ∙ rw (drop_at tables position members there, is)
 
--- every run is read
-pub runs_end : (height : ℤ) (position : ℕ) (tables : List Members) (read : List Run)
-    (all : Result (List Run) StyleFault)
-    → all ≡ behind read (runs_from height position (drop position tables)) → length tables ≤ position → all ≡ Ok read
-runs_end height position tables read all same past = same ∙ rw (drop_all position tables past, append-nil read)
-
 pub all_and : (P : Run → Type 0) (runs : List Run) (run : Run) → AllByRecursion P runs → P run
     → AllByRecursion P (runs ++ run ∷ [])
 all_and P [] run all one = (one, tt)

@@ -5,8 +5,8 @@ use Rattle.pg_stylefile.specs.declared.fault.StyleKind.TheVariants.{Toml, Missin
 use Rattle.pg_stylefile.specs.declared.fault.StyleKind.TheVariants.{OutOfRange, Decreasing, DuplicateClass, NoRun}
 use Rattle.pg_stylefile.specs.declared.fault.StyleKind.TheVariants.{Memory}
 use Rattle.pg_stylefile.specs.declared.fault.StyleFault.{StyleFault}
-use Rattle.pg_stylefile.specs.declared.fault.Place.{Place}
-use Rattle.pg_stylefile.specs.declared.fault.Place.TheVariants.{Root, Top, Bottom, Wide, FloatColumn, Run, Class}
+use Rattle.pg_stylefile.specs.declared.fault.TableName.{TableName}
+use Rattle.pg_stylefile.specs.declared.fault.TableName.TheVariants.{Root, Top, Bottom, Wide, FloatColumn, Run, Class}
 use Rattle.pg_stylefile.specs.declared.fault.Fault.{Fault}
 
 -- the number by which users are told of a fault
@@ -26,7 +26,7 @@ abbrev pub position_text : ℕ → List ℕ
 position_text position = decimal position ++ codes "]."
 
 -- the path of a table, as it stands in front of the table's keys
-unfoldable pub path_of : Place → List ℕ
+unfoldable pub path_of : TableName → List ℕ
 path_of Root = []
 path_of Top = codes "top."
 path_of Bottom = codes "bottom."
@@ -36,8 +36,8 @@ path_of (Run position) = codes "runs[" ++ position_text position
 path_of (Class position) = codes "classes[" ++ position_text position
 
 -- the fault of this kind at a key of a table
-unfoldable pub fault_at : StyleKind → Place → List ℕ → StyleFault
-fault_at kind place key = record { kind = kind; key = path_of place ++ key }
+unfoldable pub fault_at : StyleKind → TableName → List ℕ → StyleFault
+fault_at kind table_name key = record { kind = kind; key = path_of table_name ++ key }
 
 -- a fault of the text as a whole
 abbrev pub bare_fault : StyleKind → StyleFault
@@ -57,7 +57,7 @@ Err fault >>= f = Err fault
 -- a value, or a fault with its path, as the definitions say
 abbrev pub Tells : {A B : Type 0} → (A → B) → Result A Fault → Result B StyleFault → Type 0
 Tells view (Ok x) said = said ≡ Ok (view x)
-Tells view (Err fault) said = said ≡ Err (fault_at fault.kind fault.place fault.key.now)
+Tells view (Err fault) said = said ≡ Err (fault_at fault.kind fault.table_name fault.key.now)
 
 -- the value or the fault that the definitions say, unless there was no memory
 abbrev pub Gives : {A B : Type 0} → (A → B) → Result A StyleFault → Result B StyleFault → Type 0
@@ -67,4 +67,4 @@ Gives view (Err fault) said = UnlessMemory fault.kind (said ≡ Err fault)
 -- the list with one more element, or a fault with its path, as the definitions say
 abbrev pub Adds : {A : Type 0} → Result (Unit {0}) Fault → Result A StyleFault → A → Type 0
 Adds (Ok x) said new = said ≡ Ok new
-Adds (Err fault) said new = said ≡ Err (fault_at fault.kind fault.place fault.key.now)
+Adds (Err fault) said new = said ≡ Err (fault_at fault.kind fault.table_name fault.key.now)

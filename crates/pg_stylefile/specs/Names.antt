@@ -5,14 +5,14 @@ use Rattle.std.specs.Str.{bytes_eq}
 use Rattle.std.specs.Ordering.{nat_cmp, is_lt}
 use Rattle.std.specs.Cmp.Lexicographic.{slice_cmp}
 use Rattle.toml.specs.Data.{Members, no_members, member}
-use Rattle.pg_stylefile.specs.declared.fault.Place.{Place}
-use Rattle.pg_stylefile.specs.declared.fault.Place.TheVariants.{Root, Top, Bottom, Wide, FloatColumn, Run, Class}
+use Rattle.pg_stylefile.specs.declared.fault.TableName.{TableName}
+use Rattle.pg_stylefile.specs.declared.fault.TableName.TheVariants.{Root, Top, Bottom, Wide, FloatColumn, Run, Class}
 
 abbrev pub area_names : List (List ℕ)
 area_names = codes "count" ∷ codes "sep" ∷ codes "gap" ∷ []
 
 -- the keys that a table names
-unfoldable pub names_of : Place → List (List ℕ)
+unfoldable pub names_of : TableName → List (List ℕ)
 names_of Root =
     codes "version" ∷ codes "columns" ∷ codes "first" ∷ codes "height" ∷ codes "topskip" ∷ codes "maxdepth"
     ∷ codes "min_text" ∷ codes "tolerance" ∷ codes "line" ∷ codes "max_looseness" ∷ codes "fitness" ∷ codes "runs"

@@ -7,7 +7,7 @@ use Rattle.toml.specs.Data.{Members}
 use Rattle.toml.specs.Parse.{parse_document}
 use Rattle.pg_style.specs.Ranges.{AreRuns, IsHeight, IsAreaRule, IsColumnRule, AreClasses}
 use Rattle.pg_style.specs.Values.{StyleValue}
-use Rattle.pg_stylefile.specs.declared.fault.Place.TheVariants.{Root as AtRoot, Top, Bottom, Wide}
+use Rattle.pg_stylefile.specs.declared.fault.TableName.TheVariants.{Root as AtRoot, Top, Bottom, Wide}
 use Rattle.pg_stylefile.specs.declared.fault.StyleKind.TheVariants.{Toml}
 use Rattle.pg_stylefile.specs.declared.fault.StyleFault.{StyleFault}
 use Rattle.pg_stylefile.specs.declared.root.Head.{Head}
@@ -17,8 +17,8 @@ use Rattle.pg_stylefile.specs.declared.read.Root.{Root}
 use Rattle.pg_stylefile.specs.declared.read.Rules.{Rules}
 use Rattle.pg_stylefile.specs.Faults.{bare_fault, ◌>>=◌}
 use Rattle.pg_stylefile.specs.Keys.{named}
-use Rattle.pg_stylefile.specs.Root.{PartsValue, parts_view, head_of, lengths_of, limits_of, parts_of, IsHead}
-use Rattle.pg_stylefile.specs.Root.{AreLengths, AreLimits, ArePartsFew}
+use Rattle.pg_stylefile.specs.Root.{SubtablesValue, subtables_view, head_of, lengths_of, limits_of, subtables_of, IsHead}
+use Rattle.pg_stylefile.specs.Root.{AreLengths, AreLimits, AreSubtablesFew}
 use Rattle.pg_stylefile.specs.Tables.{runs_of, area_rule_of, column_rule_of, classes_of}
 
 -- the root table, with its tables still to be read
@@ -26,11 +26,11 @@ pub record RootValue : Type 0 where
   pub head : Head
   pub lengths : Lengths
   pub limits : Limits
-  pub parts : PartsValue
+  pub subtables : SubtablesValue
 
 abbrev pub root_view : Root → RootValue
 root_view root =
-    record { head = root.head; lengths = root.lengths; limits = root.limits; parts = parts_view root.parts }
+    record { head = root.head; lengths = root.lengths; limits = root.limits; subtables = subtables_view root.subtables }
 
 unfoldable pub root_of : Members → Result RootValue StyleFault
 root_of members = do
@@ -38,24 +38,24 @@ root_of members = do
   head ← head_of AtRoot members
   lengths ← lengths_of AtRoot members
   limits ← limits_of AtRoot head.version members
-  parts ← parts_of AtRoot head.version members
-  Ok (record { head = head; lengths = lengths; limits = limits; parts = parts })
+  subtables ← subtables_of AtRoot head.version members
+  Ok (record { head = head; lengths = lengths; limits = limits; subtables = subtables })
 
 pub record IsRoot (root : Root) : Type 0 where
   pub head_in : IsHead root.head
   pub lengths_in : AreLengths root.lengths
   pub limits_in : AreLimits root.head.version root.limits
-  pub parts_few : ArePartsFew root.head.version root.parts
+  pub subtables_few : AreSubtablesFew root.head.version root.subtables
 
 -- what the tables within the root table say, in the order of the root table's keys
-unfoldable pub rules_of : ℤ → PartsValue → Result Rules StyleFault
-rules_of height parts = do
-  runs ← runs_of height parts.runs
-  top ← area_rule_of Top parts.top
-  bottom ← area_rule_of Bottom parts.bottom
-  wide ← area_rule_of Wide parts.wide
-  float_column ← column_rule_of parts.float_column
-  classes ← classes_of parts.classes
+unfoldable pub rules_of : ℤ → SubtablesValue → Result Rules StyleFault
+rules_of height subtables = do
+  runs ← runs_of height subtables.runs
+  top ← area_rule_of Top subtables.top
+  bottom ← area_rule_of Bottom subtables.bottom
+  wide ← area_rule_of Wide subtables.wide
+  float_column ← column_rule_of subtables.float_column
+  classes ← classes_of subtables.classes
   Ok (record { runs = runs; top = top; bottom = bottom; wide = wide; float_column = float_column; classes = classes })
 
 pub record AreRules (version : ℕ) (height : ℤ) (rules : Rules) : Type 0 where
@@ -93,7 +93,7 @@ style_with root rules = record {
 unfoldable pub style_of : Members → Result StyleValue StyleFault
 style_of members = do
   root ← root_of members
-  rules ← rules_of root.lengths.height root.parts
+  rules ← rules_of root.lengths.height root.subtables
   Ok (style_with root rules)
 
 -- the root table of a text

@@ -8,8 +8,8 @@ use Rattle.pg_style.specs.declared.style.Kind.TheVariants as kind
 use Rattle.pg_style.specs.declared.style.Class.{Class}
 use Rattle.pg_style.specs.Classes.{class_in, inserted}
 use Rattle.pg_style.specs.Values.{AreaRuleValue, ColumnRuleValue}
-use Rattle.pg_stylefile.specs.declared.fault.Place.{Place}
-use Rattle.pg_stylefile.specs.declared.fault.Place.TheVariants as place
+use Rattle.pg_stylefile.specs.declared.fault.TableName.{TableName}
+use Rattle.pg_stylefile.specs.declared.fault.TableName.TheVariants as table_name
 use Rattle.pg_stylefile.specs.declared.fault.StyleFault.{StyleFault}
 use Rattle.pg_stylefile.specs.declared.fault.StyleKind.TheVariants.{DuplicateClass}
 use Rattle.pg_stylefile.specs.declared.values.Sort.{Sort}
@@ -19,33 +19,33 @@ use Rattle.pg_stylefile.specs.Values.{whole_of, dimension_of, length_of, area_of
 use Rattle.pg_stylefile.specs.Keys.{keyed, absent, named}
 
 -- the rules of an area
-unfoldable pub area_rule_of : Place → Members → Result AreaRuleValue StyleFault
-area_rule_of place members = do
-  _ ← named place members
-  count ← keyed place (codes "count") (whole_of 0 4) members
-  sep ← keyed place (codes "sep") length_of members
-  gap ← keyed place (codes "gap") length_of members
+unfoldable pub area_rule_of : TableName → Members → Result AreaRuleValue StyleFault
+area_rule_of table_name members = do
+  _ ← named table_name members
+  count ← keyed table_name (codes "count") (whole_of 0 4) members
+  sep ← keyed table_name (codes "sep") length_of members
+  gap ← keyed table_name (codes "gap") length_of members
   Ok (record { count = count; sep = sep; gap = gap })
 
 -- the rules of a column without text
 unfoldable pub column_rule_of : Members → Result ColumnRuleValue StyleFault
 column_rule_of members = do
-  _ ← named place.FloatColumn members
-  count ← keyed place.FloatColumn (codes "count") (whole_of 0 4) members
-  demerits ← keyed place.FloatColumn (codes "demerits") (whole_of 1 100000000) members
+  _ ← named table_name.FloatColumn members
+  count ← keyed table_name.FloatColumn (codes "count") (whole_of 0 4) members
+  demerits ← keyed table_name.FloatColumn (codes "demerits") (whole_of 1 100000000) members
   Ok (record { count = count; demerits = demerits })
 
 -- what a run adds to pages of this height, so that they have a height that is a dimension above 0
-unfoldable pub extra_at : ℤ → Place → Members → Result ℤ StyleFault
-extra_at height place members = keyed place (codes "extra")
+unfoldable pub extra_at : ℤ → TableName → Members → Result ℤ StyleFault
+extra_at height table_name members = keyed table_name (codes "extra")
     (dimension_of (pos 1 -ℤ height) (pos (2 ^ 30 - 1) -ℤ height)) members
 
 -- a run of pages of this height
 unfoldable pub run_of : ℤ → ℕ → Members → Result Run StyleFault
 run_of height position members = do
-  _ ← named (place.Run position) members
-  extra ← extra_at height (place.Run position) members
-  demerits ← keyed (place.Run position) (codes "demerits") (whole_of 0 100000000) members
+  _ ← named (table_name.Run position) members
+  extra ← extra_at height (table_name.Run position) members
+  demerits ← keyed (table_name.Run position) (codes "demerits") (whole_of 0 100000000) members
   Ok (record { extra = extra; demerits = demerits })
 
 -- the runs of these tables, the first of which stands at this position
@@ -58,41 +58,41 @@ unfoldable pub runs_of : ℤ → List Members → Result (List Run) StyleFault
 runs_of height tables = runs_from height 0 tables
 
 -- a class of notes
-unfoldable pub note_of : Place → Members → Result Kind StyleFault
-note_of place members = do
-  _ ← absent place (codes "area") members
-  _ ← absent place (codes "distance") members
-  skip ← keyed place (codes "skip") length_of members
-  limit ← keyed place (codes "limit") length_of members
+unfoldable pub note_of : TableName → Members → Result Kind StyleFault
+note_of table_name members = do
+  _ ← absent table_name (codes "area") members
+  _ ← absent table_name (codes "distance") members
+  skip ← keyed table_name (codes "skip") length_of members
+  limit ← keyed table_name (codes "limit") length_of members
   Ok (kind.Note skip limit)
 
 -- a class of floats
-unfoldable pub float_of : Place → Members → Result Kind StyleFault
-float_of place members = do
-  _ ← absent place (codes "limit") members
-  _ ← absent place (codes "skip") members
-  area ← keyed place (codes "area") area_of members
-  distance ← keyed place (codes "distance") distance_of members
+unfoldable pub float_of : TableName → Members → Result Kind StyleFault
+float_of table_name members = do
+  _ ← absent table_name (codes "limit") members
+  _ ← absent table_name (codes "skip") members
+  area ← keyed table_name (codes "area") area_of members
+  distance ← keyed table_name (codes "distance") distance_of members
   Ok (kind.Float area distance)
 
-abbrev pub kind_of : Sort → Place → Members → Result Kind StyleFault
-kind_of sort.Note place members = note_of place members
-kind_of sort.Float place members = float_of place members
+abbrev pub kind_of : Sort → TableName → Members → Result Kind StyleFault
+kind_of sort.Note table_name members = note_of table_name members
+kind_of sort.Float table_name members = float_of table_name members
 
 -- the class of a table
 unfoldable pub class_of : ℕ → Members → Result Class StyleFault
 class_of position members = do
-  _ ← named (place.Class position) members
-  number ← keyed (place.Class position) (codes "number") (whole_of 0 254) members
-  sort ← keyed (place.Class position) (codes "kind") sort_of members
-  kind ← kind_of sort (place.Class position) members
+  _ ← named (table_name.Class position) members
+  number ← keyed (table_name.Class position) (codes "number") (whole_of 0 254) members
+  sort ← keyed (table_name.Class position) (codes "kind") sort_of members
+  kind ← kind_of sort (table_name.Class position) members
   Ok (record { number = number; kind = kind })
 
 -- the earlier classes and one more, whose number none of them has
 abbrev pub with_class : ℕ → List Class → Class → Result (List Class) StyleFault
 with_class position earlier class =
     if is_some (class_in earlier class.number)
-    then Err (fault_at DuplicateClass (place.Class position) (codes "number")) else Ok (inserted class earlier)
+    then Err (fault_at DuplicateClass (table_name.Class position) (codes "number")) else Ok (inserted class earlier)
 
 -- the earlier classes and that of the next table
 unfoldable pub with_next : ℕ → Members → List Class → Result (List Class) StyleFault

@@ -5,18 +5,18 @@ ghost use Rattle.pg_style.specs.Ranges.{IsAreaRule, IsColumnRule};
 ghost use Rattle.pg_stylefile.specs.Faults.{Tells};
 ghost use Rattle.pg_stylefile.specs.Tables.{area_rule_of, column_rule_of};
 
-use crate::fault::{Fault, Place};
+use crate::fault::{Fault, TableName};
 use crate::keys::{Keys, MAX_DEMERITS};
 use pg_style::{AreaRule, ColumnRule};
 use toml::Table;
 
 /// The rules of an area.
 #[tactic(auto, unfolding(crate::specs::Tables::area_rule_of))]
-pub fn read_area<'t>(place: Place, table: &'t Table) -> Result<AreaRule, Fault<'t>>
-    ensures value { Tells (λ rule. rule) result (area_rule_of place (table_view table.now)) }
+pub fn read_area<'t>(table_name: TableName, table: &'t Table) -> Result<AreaRule, Fault<'t>>
+    ensures value { Tells (λ rule. rule) result (area_rule_of table_name (table_view table.now)) }
     ensures range { IfOk result IsAreaRule }
 {
-    let keys = Keys { place, table };
+    let keys = Keys { table_name, table };
     keys.named()?;
     let count = keys.whole("count", 0, 4)?;
     let sep = keys.length("sep")?;
@@ -35,7 +35,7 @@ pub fn read_column<'t>(table: &'t Table) -> Result<ColumnRule, Fault<'t>>
     ensures range { IfOk result IsColumnRule }
 {
     let keys = Keys {
-        place: Place::FloatColumn,
+        table_name: TableName::FloatColumn,
         table,
     };
     keys.named()?;

@@ -7,7 +7,7 @@ ghost use Rattle.pg_stylefile.specs.Faults.{Tells, Adds};
 ghost use Rattle.pg_stylefile.specs.Values.{tables_in};
 ghost use Rattle.pg_stylefile.specs.Tables.{note_of, float_of, kind_of, class_of, with_next, classes_of};
 
-use crate::fault::{Fault, Place, StyleKind};
+use crate::fault::{Fault, StyleKind, TableName};
 use crate::keys::Keys;
 use crate::tables::Tables;
 use crate::values::Sort;
@@ -17,7 +17,7 @@ use toml::Table;
 
 #[tactic(auto, unfolding(crate::specs::Tables::note_of))]
 fn read_note<'t>(keys: &Keys<'t>) -> Result<Kind, Fault<'t>>
-    ensures value { Tells (λ kind. kind) result (note_of keys.now.place (table_view keys.now.table.now)) }
+    ensures value { Tells (λ kind. kind) result (note_of keys.now.table_name (table_view keys.now.table.now)) }
     ensures range { IfOk result IsKind }
 {
     keys.absent("area")?;
@@ -29,7 +29,7 @@ fn read_note<'t>(keys: &Keys<'t>) -> Result<Kind, Fault<'t>>
 
 #[tactic(auto, unfolding(crate::specs::Tables::float_of))]
 fn read_float<'t>(alloc: Global, keys: &Keys<'t>) -> Result<Kind, Fault<'t>>
-    ensures value { Tells (λ kind. kind) result (float_of keys.now.place (table_view keys.now.table.now)) }
+    ensures value { Tells (λ kind. kind) result (float_of keys.now.table_name (table_view keys.now.table.now)) }
     ensures range { IfOk result IsKind }
 {
     keys.absent("limit")?;
@@ -40,7 +40,7 @@ fn read_float<'t>(alloc: Global, keys: &Keys<'t>) -> Result<Kind, Fault<'t>>
 }
 
 fn read_kind<'t>(alloc: Global, sort: Sort, keys: &Keys<'t>) -> Result<Kind, Fault<'t>>
-    ensures value { Tells (λ kind. kind) result (kind_of sort keys.now.place (table_view keys.now.table.now)) }
+    ensures value { Tells (λ kind. kind) result (kind_of sort keys.now.table_name (table_view keys.now.table.now)) }
     ensures range { IfOk result IsKind }
 {
     match sort {
@@ -56,7 +56,7 @@ fn read_class<'t>(alloc: Global, position: usize, table: &'t Table) -> Result<Cl
     ensures range { IfOk result IsClass }
 {
     let keys = Keys {
-        place: Place::Class { position },
+        table_name: TableName::Class { position },
         table,
     };
     keys.named()?;
@@ -76,7 +76,7 @@ fn has_number(classes: &Classes, number: u8) -> bool
 }
 
 // Reads one more class, whose number no earlier class may have.
-#[tactic(auto, using(crate::proofs::ClassLemmas::none_there, crate::proofs::ClassLemmas::length_inserted), unfolding(crate::specs::Tables::with_next))]
+#[tactic(auto, using(crate::proofs::ClassLemmas::none_there, pg_style::proofs::ClassLemmas::length_inserted), unfolding(crate::specs::Tables::with_next))]
 fn add_class<'t>(
     alloc: Global,
     position: usize,
@@ -91,7 +91,7 @@ fn add_class<'t>(
     if has_number(classes, class.number) {
         return Err(Fault {
             kind: StyleKind::DuplicateClass,
-            place: Place::Class { position },
+            table_name: TableName::Class { position },
             key: b"number",
         });
     }

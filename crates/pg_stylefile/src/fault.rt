@@ -57,7 +57,7 @@ impl StyleKind {
 
 /// A table of a style file.
 #[derive(Clone, Copy, Debug, PartialEq, Eq)]
-pub enum Place {
+pub enum TableName {
     Root,
     Top,
     Bottom,
@@ -71,7 +71,7 @@ pub enum Place {
 #[derive(Clone, Copy, Debug)]
 pub struct Fault<'t> {
     pub kind: StyleKind,
-    pub place: Place,
+    pub table_name: TableName,
     pub key: &'t [u8],
 }
 
@@ -85,20 +85,20 @@ fn push_position(position: usize, path: &mut Vec<u8>) -> Result<(), AllocError>
 
 /// Appends the path of a table, as it stands in front of the table's keys.
 #[tactic(auto, unfolding(crate::specs::Faults::path_of))]
-fn push_path(place: Place, path: &mut Vec<u8>) -> Result<(), AllocError>
-    ensures { OnOk result (path.new.items ≡ path.old.items ++ path_of place) }
+fn push_path(table_name: TableName, path: &mut Vec<u8>) -> Result<(), AllocError>
+    ensures { OnOk result (path.new.items ≡ path.old.items ++ path_of table_name) }
 {
-    match place {
-        Place::Root => Ok(()),
-        Place::Top => path.extend_from_slice(b"top."),
-        Place::Bottom => path.extend_from_slice(b"bottom."),
-        Place::Wide => path.extend_from_slice(b"wide."),
-        Place::FloatColumn => path.extend_from_slice(b"float_column."),
-        Place::Run { position } => {
+    match table_name {
+        TableName::Root => Ok(()),
+        TableName::Top => path.extend_from_slice(b"top."),
+        TableName::Bottom => path.extend_from_slice(b"bottom."),
+        TableName::Wide => path.extend_from_slice(b"wide."),
+        TableName::FloatColumn => path.extend_from_slice(b"float_column."),
+        TableName::Run { position } => {
             path.extend_from_slice(b"runs[")?;
             push_position(position, path)
         }
-        Place::Class { position } => {
+        TableName::Class { position } => {
             path.extend_from_slice(b"classes[")?;
             push_position(position, path)
         }
@@ -107,10 +107,10 @@ fn push_path(place: Place, path: &mut Vec<u8>) -> Result<(), AllocError>
 
 impl Fault<'_> {
     fn path(&self, alloc: Global) -> Result<Bytes, AllocError>
-        ensures { IfOk result (λ path. path ≡ path_of self.now.place ++ self.now.key.now) }
+        ensures { IfOk result (λ path. path ≡ path_of self.now.table_name ++ self.now.key.now) }
     {
         let mut path = Vec::new(alloc);
-        push_path(self.place, &mut path)?;
+        push_path(self.table_name, &mut path)?;
         path.extend_from_slice(self.key)?;
         Ok(Bytes::new(path))
     }
@@ -118,7 +118,7 @@ impl Fault<'_> {
     /// The fault with its path.
     #[tactic(auto, unfolding(crate::specs::Faults::fault_at))]
     pub fn told(&self, alloc: Global) -> StyleFault
-        ensures { UnlessMemory result.kind (result ≡ fault_at self.now.kind self.now.place self.now.key.now) }
+        ensures { UnlessMemory result.kind (result ≡ fault_at self.now.kind self.now.table_name self.now.key.now) }
     {
         match self.path(alloc) {
             Ok(key) => StyleFault {

@@ -9,7 +9,7 @@ ghost use Rattle.pg_stylefile.specs.Values.{tables_of, tables_in, distance_of};
 ghost use Rattle.pg_stylefile.specs.Keys.{due_at, keyed, absent, at_key, named, tables_if_any};
 
 use crate::distance::as_distance;
-use crate::fault::{Fault, Place, StyleKind};
+use crate::fault::{Fault, StyleKind, TableName};
 use crate::names::first_unnamed;
 use crate::tables::{Tables, as_tables};
 use crate::values::{Sort, as_area, as_dimension, as_first, as_sort, as_table, as_whole};
@@ -20,26 +20,26 @@ use toml::{Table, Value};
 /// The keys of a table, and which table it is.
 #[derive(Clone, Copy)]
 pub struct Keys<'t> {
-    pub place: Place,
+    pub table_name: TableName,
     pub table: &'t Table,
 }
 
 impl<'t> Keys<'t> {
     pub fn fault(&self, kind: StyleKind, key: &'t str) -> Fault<'t>
         ensures kind { result.kind ≡ kind }
-        ensures place { result.place ≡ self.now.place }
+        ensures table_name { result.table_name ≡ self.now.table_name }
         ensures key { result.key.now ≡ key.now }
     {
         Fault {
             kind,
-            place: self.place,
+            table_name: self.table_name,
             key: key.as_bytes(),
         }
     }
 
     #[tactic(auto, unfolding(crate::specs::Keys::due_at))]
     fn due(&self, key: &'t str) -> Result<&'t Value, Fault<'t>>
-        ensures { Tells (λ value. view value.now) result (due_at self.now.place key.now
+        ensures { Tells (λ value. view value.now) result (due_at self.now.table_name key.now
             (table_view self.now.table.now)) }
     {
         match self.table.get(key) {
@@ -57,7 +57,7 @@ impl<'t> Keys<'t> {
     /// A key that the table does not know here is not there.
     #[tactic(auto, unfolding(crate::specs::Keys::absent))]
     pub fn absent(&self, key: &'t str) -> Result<(), Fault<'t>>
-        ensures { Tells (λ x. x) result (absent self.now.place key.now (table_view self.now.table.now)) }
+        ensures { Tells (λ x. x) result (absent self.now.table_name key.now (table_view self.now.table.now)) }
     {
         if self.has(key) {
             return Err(self.fault(StyleKind::UnknownKey, key));
@@ -68,9 +68,9 @@ impl<'t> Keys<'t> {
     /// The table has no key but those that it names.
     #[tactic(auto, unfolding(crate::specs::Keys::named))]
     pub fn named(&self) -> Result<(), Fault<'t>>
-        ensures { Tells (λ x. x) result (named self.now.place (table_view self.now.table.now)) }
+        ensures { Tells (λ x. x) result (named self.now.table_name (table_view self.now.table.now)) }
     {
-        match first_unnamed(self.place.names(), self.table) {
+        match first_unnamed(self.table_name.names(), self.table) {
             Some(key) => Err(self.fault(StyleKind::UnknownKey, key)),
             None => Ok(()),
         }
@@ -78,7 +78,7 @@ impl<'t> Keys<'t> {
 
     // The fault of a value is one at its key.
     fn told<A>(&self, key: &'t str, found: Result<A, StyleKind>) -> Result<A, Fault<'t>>
-        ensures value { Tells (λ (x : A). x) result (at_key self.now.place key.now found) }
+        ensures value { Tells (λ (x : A). x) result (at_key self.now.table_name key.now found) }
     {
         match found {
             Ok(value) => Ok(value),
@@ -88,7 +88,7 @@ impl<'t> Keys<'t> {
 
     #[tactic(auto, unfolding(crate::specs::Keys::keyed))]
     pub fn whole(&self, key: &'t str, low: u32, high: u32) -> Result<u32, Fault<'t>>
-        ensures value { Tells (λ n. n) result (keyed self.now.place key.now (whole_of low high)
+        ensures value { Tells (λ n. n) result (keyed self.now.table_name key.now (whole_of low high)
             (table_view self.now.table.now)) }
         ensures low { IfOk result (λ n. low ≤ n) }
         ensures high { IfOk result (λ n. n ≤ high) }
@@ -99,7 +99,7 @@ impl<'t> Keys<'t> {
 
     #[tactic(auto, unfolding(crate::specs::Keys::keyed))]
     pub fn dimension(&self, key: &'t str, low: i32, high: i32) -> Result<i32, Fault<'t>>
-        ensures value { Tells (λ n. n) result (keyed self.now.place key.now (dimension_of low high)
+        ensures value { Tells (λ n. n) result (keyed self.now.table_name key.now (dimension_of low high)
             (table_view self.now.table.now)) }
         ensures low { IfOk result (λ n. low ≤ℤ n) }
         ensures high { IfOk result (λ n. n ≤ℤ high) }
@@ -109,7 +109,7 @@ impl<'t> Keys<'t> {
     }
 
     pub fn length(&self, key: &'t str) -> Result<i32, Fault<'t>>
-        ensures value { Tells (λ n. n) result (keyed self.now.place key.now length_of (table_view self.now.table.now)) }
+        ensures value { Tells (λ n. n) result (keyed self.now.table_name key.now length_of (table_view self.now.table.now)) }
         ensures range { IfOk result IsLength }
     {
         self.dimension(key, 0, MAX_DIMENSION)
@@ -117,7 +117,7 @@ impl<'t> Keys<'t> {
 
     #[tactic(auto, unfolding(crate::specs::Keys::keyed))]
     pub fn first(&self, key: &'t str) -> Result<First, Fault<'t>>
-        ensures { Tells (λ first. first) result (keyed self.now.place key.now first_of
+        ensures { Tells (λ first. first) result (keyed self.now.table_name key.now first_of
             (table_view self.now.table.now)) }
     {
         let value = self.due(key)?;
@@ -126,7 +126,7 @@ impl<'t> Keys<'t> {
 
     #[tactic(auto, unfolding(crate::specs::Keys::keyed))]
     pub fn sort(&self, key: &'t str) -> Result<Sort, Fault<'t>>
-        ensures { Tells (λ sort. sort) result (keyed self.now.place key.now sort_of (table_view self.now.table.now)) }
+        ensures { Tells (λ sort. sort) result (keyed self.now.table_name key.now sort_of (table_view self.now.table.now)) }
     {
         let value = self.due(key)?;
         self.told(key, as_sort(value))
@@ -134,7 +134,7 @@ impl<'t> Keys<'t> {
 
     #[tactic(auto, unfolding(crate::specs::Keys::keyed))]
     pub fn area(&self, key: &'t str) -> Result<Area, Fault<'t>>
-        ensures { Tells (λ area. area) result (keyed self.now.place key.now area_of (table_view self.now.table.now)) }
+        ensures { Tells (λ area. area) result (keyed self.now.table_name key.now area_of (table_view self.now.table.now)) }
     {
         let value = self.due(key)?;
         self.told(key, as_area(value))
@@ -142,7 +142,7 @@ impl<'t> Keys<'t> {
 
     #[tactic(auto, unfolding(crate::specs::Keys::keyed))]
     pub fn distance(&self, alloc: Global, key: &'t str) -> Result<Distance, Fault<'t>>
-        ensures value { Tells (λ distance. distance) result (keyed self.now.place key.now distance_of
+        ensures value { Tells (λ distance. distance) result (keyed self.now.table_name key.now distance_of
             (table_view self.now.table.now)) }
         ensures range { IfOk result IsDistance }
     {
@@ -155,7 +155,7 @@ impl<'t> Keys<'t> {
 
     #[tactic(auto, unfolding(crate::specs::Keys::keyed))]
     pub fn table(&self, key: &'t str) -> Result<&'t Table, Fault<'t>>
-        ensures { Tells (λ table. table_view table.now) result (keyed self.now.place key.now table_of
+        ensures { Tells (λ table. table_view table.now) result (keyed self.now.table_name key.now table_of
             (table_view self.now.table.now)) }
     {
         let value = self.due(key)?;
@@ -167,7 +167,7 @@ impl<'t> Keys<'t> {
 
     #[tactic(auto, unfolding(crate::specs::Keys::keyed))]
     pub fn tables(&self, key: &'t str) -> Result<Tables<'t>, Fault<'t>>
-        ensures { Tells (λ tables. tables_in tables.values.now) result (keyed self.now.place key.now tables_of
+        ensures { Tells (λ tables. tables_in tables.values.now) result (keyed self.now.table_name key.now tables_of
             (table_view self.now.table.now)) }
     {
         let value = self.due(key)?;
@@ -180,7 +180,7 @@ impl<'t> Keys<'t> {
     /// An array of tables that may be missing, which is then empty.
     #[tactic(auto, unfolding(crate::specs::Keys::tables_if_any))]
     pub fn tables_if_any(&self, key: &'t str) -> Result<Tables<'t>, Fault<'t>>
-        ensures { Tells (λ tables. tables_in tables.values.now) result (tables_if_any self.now.place key.now
+        ensures { Tells (λ tables. tables_in tables.values.now) result (tables_if_any self.now.table_name key.now
             (table_view self.now.table.now)) }
     {
         if self.has(key) {

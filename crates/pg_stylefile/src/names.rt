@@ -4,17 +4,17 @@ ghost use Rattle.std.specs.Option.{option_copied};
 ghost use Rattle.toml.specs.View.{table_view};
 ghost use Rattle.pg_stylefile.specs.Names.{names_of, is_named, keys_in, least_unnamed};
 
-use crate::fault::Place;
+use crate::fault::TableName;
 use toml::Table;
 
-impl Place {
+impl TableName {
     /// The keys that a table of this place names.
     #[tactic(auto, unfolding(crate::specs::Names::names_of))]
     pub fn names(self) -> &'static [&'static str]
         ensures { map (λ name. name.now) result.now ≡ names_of self }
     {
         match self {
-            Place::Root => &[
+            TableName::Root => &[
                 "version",
                 "columns",
                 "first",
@@ -33,10 +33,10 @@ impl Place {
                 "float_column",
                 "classes",
             ],
-            Place::Top | Place::Bottom | Place::Wide => &["count", "sep", "gap"],
-            Place::FloatColumn => &["count", "demerits"],
-            Place::Run { .. } => &["extra", "demerits"],
-            Place::Class { .. } => &["number", "kind", "skip", "limit", "area", "distance"],
+            TableName::Top | TableName::Bottom | TableName::Wide => &["count", "sep", "gap"],
+            TableName::FloatColumn => &["count", "demerits"],
+            TableName::Run { .. } => &["extra", "demerits"],
+            TableName::Class { .. } => &["number", "kind", "skip", "limit", "area", "distance"],
         }
     }
 }

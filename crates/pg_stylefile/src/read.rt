@@ -3,15 +3,17 @@ ghost use Rattle.std.specs.Prelude.{◌≡◌, ◌≤◌, ◌<◌, ◌^◌, pos,
 ghost use Rattle.toml.specs.View.{table_view};
 ghost use Rattle.pg_style.specs.Ranges.{IsStyle};
 ghost use Rattle.pg_stylefile.specs.Faults.{Tells, Gives, bare_fault};
-ghost use Rattle.pg_stylefile.specs.Root.{IsHead, AreLengths, AreLimits, ArePartsFew, parts_view};
+ghost use Rattle.pg_stylefile.specs.Root.{IsHead, AreLengths, AreLimits, AreSubtablesFew, subtables_view};
 ghost use Rattle.pg_stylefile.specs.Style.{AreRules, rules_of, root_of, root_view, IsRoot, style_with, style_of};
 ghost use Rattle.pg_stylefile.specs.Style.{table_of_text, style_of_text};
 
 use crate::areas::{read_area, read_column};
 use crate::classes::read_classes;
-use crate::fault::{Fault, Place, StyleFault, StyleKind};
+use crate::fault::{Fault, StyleFault, StyleKind, TableName};
 use crate::keys::Keys;
-use crate::root::{Head, Lengths, Limits, Parts, read_head, read_lengths, read_limits, read_parts};
+use crate::root::{
+    Head, Lengths, Limits, Subtables, read_head, read_lengths, read_limits, read_subtables,
+};
 use crate::runs::read_runs;
 use pg_style::{AreaRule, Classes, ColumnRule, Runs, Style};
 use std::alloc::Global;
@@ -23,7 +25,7 @@ pub struct Root<'t> {
     pub head: Head,
     pub lengths: Lengths,
     pub limits: Limits,
-    pub parts: Parts<'t>,
+    pub subtables: Subtables<'t>,
 }
 
 /// What the tables within the root table say.
@@ -43,19 +45,19 @@ fn read_root<'t>(table: &'t Table) -> Result<Root<'t>, Fault<'t>>
     ensures range { IfOk result IsRoot }
 {
     let keys = Keys {
-        place: Place::Root,
+        table_name: TableName::Root,
         table,
     };
     keys.named()?;
     let head = read_head(&keys)?;
     let lengths = read_lengths(&keys)?;
     let limits = read_limits(&keys, head.version)?;
-    let parts = read_parts(&keys, head.version)?;
+    let subtables = read_subtables(&keys, head.version)?;
     Ok(Root {
         head,
         lengths,
         limits,
-        parts,
+        subtables,
     })
 }
 
@@ -64,20 +66,20 @@ fn read_rules<'t>(
     alloc: Global,
     version: u8,
     height: i32,
-    parts: &Parts<'t>,
+    subtables: &Subtables<'t>,
 ) -> Result<Rules, Fault<'t>>
     requires some { pos 1 ≤ℤ height }
     requires limit { height <ℤ pos (2 ^ 30) }
-    requires few { ArePartsFew version parts.now }
-    ensures value { Tells (λ rules. rules) result (rules_of height (parts_view parts.now)) }
+    requires few { AreSubtablesFew version subtables.now }
+    ensures value { Tells (λ rules. rules) result (rules_of height (subtables_view subtables.now)) }
     ensures range { IfOk result (AreRules version height) }
 {
-    let runs = read_runs(alloc, height, &parts.runs)?;
-    let top = read_area(Place::Top, parts.top)?;
-    let bottom = read_area(Place::Bottom, parts.bottom)?;
-    let wide = read_area(Place::Wide, parts.wide)?;
-    let float_column = read_column(parts.float_column)?;
-    let classes = read_classes(alloc, &parts.classes)?;
+    let runs = read_runs(alloc, height, &subtables.runs)?;
+    let top = read_area(TableName::Top, subtables.top)?;
+    let bottom = read_area(TableName::Bottom, subtables.bottom)?;
+    let wide = read_area(TableName::Wide, subtables.wide)?;
+    let float_column = read_column(subtables.float_column)?;
+    let classes = read_classes(alloc, &subtables.classes)?;
     Ok(Rules {
         runs,
         top,
@@ -120,7 +122,12 @@ fn read_table<'t>(alloc: Global, table: &'t Table) -> Result<Style, Fault<'t>>
     ensures { Tells (λ style. style) result (style_of (table_view table.now)) }
 {
     let root = read_root(table)?;
-    let rules = read_rules(alloc, root.head.version, root.lengths.height, &root.parts)?;
+    let rules = read_rules(
+        alloc,
+        root.head.version,
+        root.lengths.height,
+        &root.subtables,
+    )?;
     Ok(style_from(&root, rules))
 }
 

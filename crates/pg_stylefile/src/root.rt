@@ -3,9 +3,9 @@ ghost use Rattle.std.specs.Prelude.{◌≡◌, ◌≤◌, length, IfOk};
 ghost use Rattle.toml.specs.View.{table_view};
 ghost use Rattle.pg_stylefile.specs.Faults.{Tells};
 ghost use Rattle.pg_stylefile.specs.Values.{tables_in};
-ghost use Rattle.pg_stylefile.specs.Root.{IsHead, AreLengths, AreLimits, ArePartsFew, parts_view, head_of};
+ghost use Rattle.pg_stylefile.specs.Root.{IsHead, AreLengths, AreLimits, AreSubtablesFew, subtables_view, head_of};
 ghost use Rattle.pg_stylefile.specs.Root.{lengths_of, fitness_of, limits_of, most_classes, run_tables, class_tables};
-ghost use Rattle.pg_stylefile.specs.Root.{parts_of, no_fitness_yet};
+ghost use Rattle.pg_stylefile.specs.Root.{subtables_of, no_fitness_yet};
 
 use crate::fault::{Fault, StyleKind};
 use crate::keys::{Keys, MAX_DEMERITS, MAX_DIMENSION};
@@ -41,7 +41,7 @@ pub struct Limits {
 
 /// The tables within the root table.
 #[derive(Clone, Copy)]
-pub struct Parts<'t> {
+pub struct Subtables<'t> {
     pub runs: Tables<'t>,
     pub top: &'t Table,
     pub bottom: &'t Table,
@@ -53,7 +53,7 @@ pub struct Parts<'t> {
 // Version 1 knows no fitness.
 #[tactic(auto, unfolding(crate::specs::Root::no_fitness_yet))]
 fn refuse_fitness<'t>(keys: &Keys<'t>, version: u32) -> Result<(), Fault<'t>>
-    ensures { Tells (λ x. x) result (no_fitness_yet keys.now.place version (table_view keys.now.table.now)) }
+    ensures { Tells (λ x. x) result (no_fitness_yet keys.now.table_name version (table_view keys.now.table.now)) }
 {
     if version == 1 {
         return keys.absent("fitness");
@@ -63,7 +63,7 @@ fn refuse_fitness<'t>(keys: &Keys<'t>, version: u32) -> Result<(), Fault<'t>>
 
 #[tactic(auto, unfolding(crate::specs::Root::head_of))]
 pub fn read_head<'t>(keys: &Keys<'t>) -> Result<Head, Fault<'t>>
-    ensures value { Tells (λ head. head) result (head_of keys.now.place (table_view keys.now.table.now)) }
+    ensures value { Tells (λ head. head) result (head_of keys.now.table_name (table_view keys.now.table.now)) }
     ensures range { IfOk result IsHead }
 {
     let version = keys.whole("version", 1, 2)?;
@@ -79,7 +79,7 @@ pub fn read_head<'t>(keys: &Keys<'t>) -> Result<Head, Fault<'t>>
 
 #[tactic(auto, unfolding(crate::specs::Root::lengths_of))]
 pub fn read_lengths<'t>(keys: &Keys<'t>) -> Result<Lengths, Fault<'t>>
-    ensures value { Tells (λ lengths. lengths) result (lengths_of keys.now.place (table_view keys.now.table.now)) }
+    ensures value { Tells (λ lengths. lengths) result (lengths_of keys.now.table_name (table_view keys.now.table.now)) }
     ensures range { IfOk result AreLengths }
 {
     let height = keys.dimension("height", 1, MAX_DIMENSION)?;
@@ -96,7 +96,7 @@ pub fn read_lengths<'t>(keys: &Keys<'t>) -> Result<Lengths, Fault<'t>>
 
 #[tactic(auto, unfolding(crate::specs::Root::fitness_of))]
 fn read_fitness<'t>(keys: &Keys<'t>, version: u8) -> Result<u32, Fault<'t>>
-    ensures value { Tells (λ fitness. fitness) result (fitness_of keys.now.place version
+    ensures value { Tells (λ fitness. fitness) result (fitness_of keys.now.table_name version
         (table_view keys.now.table.now)) }
     ensures range { IfOk result (λ fitness. fitness ≤ 100000000) }
     ensures first { IfOk result (λ fitness. version ≡ 1 → fitness ≡ 0) }
@@ -109,7 +109,7 @@ fn read_fitness<'t>(keys: &Keys<'t>, version: u8) -> Result<u32, Fault<'t>>
 
 #[tactic(auto, unfolding(crate::specs::Root::limits_of))]
 pub fn read_limits<'t>(keys: &Keys<'t>, version: u8) -> Result<Limits, Fault<'t>>
-    ensures value { Tells (λ limits. limits) result (limits_of keys.now.place version (table_view keys.now.table.now)) }
+    ensures value { Tells (λ limits. limits) result (limits_of keys.now.table_name version (table_view keys.now.table.now)) }
     ensures range { IfOk result (AreLimits version) }
 {
     let tolerance = keys.whole("tolerance", 0, 10000)?;
@@ -126,7 +126,7 @@ pub fn read_limits<'t>(keys: &Keys<'t>, version: u8) -> Result<Limits, Fault<'t>
 
 #[tactic(auto, unfolding(crate::specs::Root::run_tables))]
 fn read_run_tables<'t>(keys: &Keys<'t>) -> Result<Tables<'t>, Fault<'t>>
-    ensures value { Tells (λ tables. tables_in tables.values.now) result (run_tables keys.now.place
+    ensures value { Tells (λ tables. tables_in tables.values.now) result (run_tables keys.now.table_name
         (table_view keys.now.table.now)) }
     ensures some { IfOk result (λ tables. 1 ≤ length (tables_in tables.values.now)) }
     ensures few { IfOk result (λ tables. length (tables_in tables.values.now) ≤ 5) }
@@ -144,7 +144,7 @@ fn read_run_tables<'t>(keys: &Keys<'t>) -> Result<Tables<'t>, Fault<'t>>
 
 #[tactic(auto, unfolding(crate::specs::Root::class_tables))]
 fn read_class_tables<'t>(keys: &Keys<'t>, version: u8) -> Result<Tables<'t>, Fault<'t>>
-    ensures value { Tells (λ tables. tables_in tables.values.now) result (class_tables keys.now.place version
+    ensures value { Tells (λ tables. tables_in tables.values.now) result (class_tables keys.now.table_name version
         (table_view keys.now.table.now)) }
     ensures few { IfOk result (λ tables. length (tables_in tables.values.now) ≤ most_classes version) }
 {
@@ -156,10 +156,10 @@ fn read_class_tables<'t>(keys: &Keys<'t>, version: u8) -> Result<Tables<'t>, Fau
     Ok(tables)
 }
 
-#[tactic(auto, unfolding(crate::specs::Root::parts_of))]
-pub fn read_parts<'t>(keys: &Keys<'t>, version: u8) -> Result<Parts<'t>, Fault<'t>>
-    ensures value { Tells parts_view result (parts_of keys.now.place version (table_view keys.now.table.now)) }
-    ensures few { IfOk result (ArePartsFew version) }
+#[tactic(auto, unfolding(crate::specs::Root::subtables_of))]
+pub fn read_subtables<'t>(keys: &Keys<'t>, version: u8) -> Result<Subtables<'t>, Fault<'t>>
+    ensures value { Tells subtables_view result (subtables_of keys.now.table_name version (table_view keys.now.table.now)) }
+    ensures few { IfOk result (AreSubtablesFew version) }
 {
     let runs = read_run_tables(keys)?;
     let top = keys.table("top")?;
@@ -167,7 +167,7 @@ pub fn read_parts<'t>(keys: &Keys<'t>, version: u8) -> Result<Parts<'t>, Fault<'
     let wide = keys.table("wide")?;
     let float_column = keys.table("float_column")?;
     let classes = read_class_tables(keys, version)?;
-    Ok(Parts {
+    Ok(Subtables {
         runs,
         top,
         bottom,

@@ -7,7 +7,7 @@ ghost use Rattle.pg_stylefile.specs.Faults.{Tells};
 ghost use Rattle.pg_stylefile.specs.Values.{tables_in};
 ghost use Rattle.pg_stylefile.specs.Tables.{extra_at, run_of, runs_of};
 
-use crate::fault::{Fault, Place};
+use crate::fault::{Fault, TableName};
 use crate::keys::{Keys, MAX_DEMERITS, MAX_DIMENSION};
 use crate::tables::Tables;
 use pg_style::{Run, Runs};
@@ -19,7 +19,7 @@ use toml::Table;
 fn read_extra<'t>(height: i32, keys: &Keys<'t>) -> Result<i32, Fault<'t>>
     requires some { pos 1 ≤ℤ height }
     requires limit { height <ℤ pos (2 ^ 30) }
-    ensures value { Tells (λ extra. extra) result (extra_at height keys.now.place (table_view keys.now.table.now)) }
+    ensures value { Tells (λ extra. extra) result (extra_at height keys.now.table_name (table_view keys.now.table.now)) }
     ensures scaled { IfOk result IsScaled }
     ensures some { IfOk result (λ extra. pos 1 ≤ℤ (height +ℤ extra)) }
     ensures limit { IfOk result (λ extra. (height +ℤ extra) <ℤ pos (2 ^ 30)) }
@@ -39,7 +39,7 @@ fn read_run<'t>(height: i32, position: usize, table: &'t Table) -> Result<Run, F
     ensures height { IfOk result (IsHeight height) }
 {
     let keys = Keys {
-        place: Place::Run { position },
+        table_name: TableName::Run { position },
         table,
     };
     keys.named()?;

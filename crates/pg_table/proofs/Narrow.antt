@@ -8,17 +8,13 @@ use Rattle.std.specs.Cmp.Lexicographic.{slice_cmp}
 use Rattle.std.proofs.lemmas.Cmp.{by_ranked, int_ranked}
 use Rattle.std.proofs.lemmas.Int.{ints}
 use Rattle.pg_table.specs.Space.{Meaning, Lawful, Run, Undercuts, Simulates}
-use Rattle.pg_table.proofs.Runs.{own, better_itself}
+use Rattle.pg_table.proofs.Runs.{own, better_itself, split_le}
 use Rattle.pg_table.specs.Narrower.{narrowed, IsNarrower, Instead, BetteredBy}
 
 then_not_gt : (o p : Ordering) → is_gt o ≡ false → is_gt p ≡ false → is_gt (ordering_then o p) ≡ false
 then_not_gt Less p h k = refl
 then_not_gt Equal p h k = k
 then_not_gt Greater p h k = absurd cc
-
-split_le : (k l : ℤ) → k ≤ℤ l → (k <ℤ l) ⊎ (k ≡ l)
-split_le k l h = by_ranked (k <ℤ l) (k ≡ l) (l <ℤ k) (int_cmp k l) (int_ranked k l (int_cmp k l) refl)
-    (λ _ p. inl p) (λ _ p. inr p) (λ _ p. absurd (omega (arith, ints)))
 
 step : {M : Type 0} (order : M → M → Ordering) (d n l k i : ℤ) (m j : M) (rs ms : List M) →
     Undercuts order d rs n ms → l ≤ℤ k → (i <ℤ l) ⊎ ((i ≡ l) × (is_gt (order j m) ≡ false)) → Undercuts order

@@ -7,12 +7,12 @@ use Rattle.pg_table.specs.Below.{IsRightBelow}
 use Rattle.pg_table.specs.Narrower.{narrowed, IsNarrower, BetteredBy}
 use Rattle.pg_table.specs.Laws.{UndercutsDone, NoRunDone, AreUnbettered, BeginsWithStart}
 use Rattle.pg_table.specs.declared.table.Entry.{Entry}
-use Rattle.pg_table.proofs.Lists.{some_same}
 use Rattle.pg_table.proofs.BelowLemmas.{right_below_none}
 use Rattle.pg_table.proofs.BestLemmas.{best_of_runs, none_of_runs}
 use Rattle.pg_table.proofs.FirstEntry.{first_is_start}
 use Rattle.pg_table.proofs.Narrow.{bettered}
 use Rattle.pg_table.proofs.Top.{best_wide, none_wide, label_unbettered, unbettered_label}
+use Rattle.std.proofs.lemmas.Option.{same_Some}
 
 module _ {S M K : Type 0} (eq : K → K → Bool) (sp : Meaning S M K) (law : Lawful eq sp)
     (es : List (Entry S M)) (table : IsTable sp es) where
@@ -33,7 +33,7 @@ module _ {S M K : Type 0} (eq : K → K → Bool) (sp : Meaning S M K) (law : La
   pub best_undercuts : (i : ℕ) → IsBestOf sp es es i → UndercutsDone sp es i
   best_undercuts i b = record {
     undercuts = λ e ms r at of run done.
-        let same : e ≡ b.entry = some_same e b.entry (sym at ∙ b.is) in
+        let same : e ≡ b.entry = same_Some e b.entry (sym at ∙ b.is) in
         subst (λ x. RunOf es x ms → Undercuts sp.order x.cost ms r.cost r.moves) (sym same)
         (best_of_runs eq sp law es table i b r run done ms) of;
   }
@@ -61,7 +61,7 @@ module _ {S M K : Type 0} (eq : K → K → Bool) (big : Meaning S M K) (law : L
     pub wide_best : (i : ℕ) → IsBestOf (narrowed big Narrow) es es i → UndercutsDone big es i
     wide_best i b = record {
       undercuts = λ e ms r at of run done.
-          let same : e ≡ b.entry = some_same e b.entry (sym at ∙ b.is) in
+          let same : e ≡ b.entry = same_Some e b.entry (sym at ∙ b.is) in
           subst (λ x. RunOf es x ms → Undercuts big.order x.cost ms r.cost r.moves) (sym same)
           (best_wide eq big law Narrow narrow es table i b r run done ms) of;
     }

@@ -10,13 +10,13 @@ use Rattle.std.specs.declared.cmp.Reverse.{Reverse}
 use Rattle.std.specs.declared.vec.Vec.{Vec}
 use Rattle.std.specs.declared.alloc.Global.{Global}
 use Rattle.std.proofs.lemmas.Cmp.{by_ranked, ranked}
-use Rattle.std.proofs.lemmas.Option.{slice_get_within}
+use Rattle.std.proofs.lemmas.Option.{slice_get_within, same_Some}
 use Rattle.pg_table.specs.Space.{Meaning, Lawful}
 use Rattle.pg_table.specs.Searching.{Taken, weight}
 use Rattle.pg_table.specs.Pending.{IsHeld, IsClosed, Exact, Stored, load, turn_order}
 use Rattle.pg_table.specs.declared.table.Entry.{Entry}
 use Rattle.pg_table.specs.declared.pending.Turn.{Turn}
-use Rattle.pg_table.proofs.Lists.{some_same, set_same, set_other}
+use Rattle.pg_table.proofs.Lists.{set_same, set_other}
 use Rattle.pg_table.proofs.Store.{stored_done, load_done, stored_taken, taken_held, load_taken, held_open, held_closed, stored_closed, load_closed}
 use Rattle.pg_table.proofs.Turns.{exact_done}
 
@@ -27,7 +27,7 @@ pub filled_bucket : {S M : Type 0} (bs : List (Vec (Entry S M) Global)) (ts : Li
 filled_bucket {S} {M} bs ts x t among b bat =
     let f : (d : Vec (Entry S M) Global) × ((slice_get bs t.0.place ≡ Some d) × (0 < length d.items)) =
     x.filled t among in
-    let same : f.0 ≡ b = some_same f.0 b (sym f.1.0 ∙ bat) in
+    let same : f.0 ≡ b = same_Some f.0 b (sym f.1.0 ∙ bat) in
     subst (λ z. 0 < length z.items) same f.1.1
 
 pub turn_within : {S M : Type 0} (bs : List (Vec (Entry S M) Global)) (ts : List (Reverse Turn)) →
@@ -38,7 +38,7 @@ pub not_closed : {S M : Type 0} (bs : List (Vec (Entry S M) Global)) (i : ℕ) (
     (r : Bool) → i < length bs → slice_get (set bs i c) i ≡ Some a → r ≡ (a.len == 0) → r ≡ false →
     c.len ≡ length c.items → 0 < length c.items
 not_closed bs i a c r within at e f ok =
-    let same : a ≡ c = some_same a c (sym at ∙ set_same bs i c within) in
+    let same : a ≡ c = same_Some a c (sym at ∙ set_same bs i c within) in
     by_ranked (length c.items < 0) (length c.items ≡ 0) (0 < length c.items) (nat_cmp (length c.items) 0)
     (ranked (length c.items) 0 (nat_cmp (length c.items) 0) refl)
     (λ _ h. absurd (omega arith))
@@ -49,7 +49,7 @@ pub is_closed : {S M : Type 0} (bs : List (Vec (Entry S M) Global)) (i : ℕ) (a
     (r : Bool) → i < length bs → slice_get (set bs i c) i ≡ Some a → r ≡ (a.len == 0) → r ≡ true →
     c.len ≡ length c.items → length c.items ≡ 0
 is_closed bs i a c r within at e f ok =
-    let same : a ≡ c = some_same a c (sym at ∙ set_same bs i c within) in
+    let same : a ≡ c = same_Some a c (sym at ∙ set_same bs i c within) in
     sym ok ∙ (sym (ap (λ v. v.len) same) ∙ eqb-true a.len 0 (sym e ∙ f))
 
 taken_alike : {S M K : Type 0} (sp : Meaning S M K) (es : List (Entry S M)) (y : Entry S M)

@@ -11,13 +11,14 @@ use Rattle.std.proofs.lemmas.Cmp.{by_ranked, ranked}
 use Rattle.std.proofs.lemmas.List.Elements.{Contains-append_right, Contains-append_cases}
 use Rattle.std.proofs.lemmas.List.Sums.{sum_by-append, sum_by_push}
 use Rattle.std.proofs.lemmas.List.Sorted.{Contains-permutation, IsPermutation-sym, sum_by_popped, sum_by_pushed}
-use Rattle.std.proofs.lemmas.Option.{slice_get_within}
+use Rattle.std.proofs.lemmas.Option.{slice_get_within, same_Some}
 use Rattle.pg_table.specs.Space.{Meaning}
 use Rattle.pg_table.specs.Label.{PrunedAmong, BetterLabel}
 use Rattle.pg_table.specs.Pending.{Placed, HasTurn, Exact, turns_at}
 use Rattle.pg_table.specs.declared.table.Entry.{Entry}
 use Rattle.pg_table.specs.declared.pending.Turn.{Turn}
-use Rattle.pg_table.proofs.Lists.{none_among, some_same, slice_get_grow, set_same, set_other, some_length}
+use Rattle.pg_table.proofs.Lists.{slice_get_grow, set_same, set_other, some_length}
+use Rattle.pg_lemmas.proofs.Lists.{none_among}
 
 abbrev at : ℕ → Reverse Turn → ℕ
 at i t = if t.0.place == i then 1 else 0
@@ -147,7 +148,7 @@ module _ {S M : Type 0} (bs : List (Vec (Entry S M) Global)) (ts : List (Reverse
             elsewhere t h = λ e.
                 let f : (d : Vec (Entry S M) Global) × ((slice_get bs t.0.place ≡ Some d) ×
                 (0 < length d.items)) = x.filled t h in
-                let same : f.0 ≡ b = some_same f.0 b (sym f.1.0 ∙ (ap (slice_get bs) e ∙ bat)) in
+                let same : f.0 ≡ b = same_Some f.0 b (sym f.1.0 ∙ (ap (slice_get bs) e ∙ bat)) in
                 let n : length f.0.items ≡ length b.items = ap (λ z. length z.items) same in
                 omega (arith, f.1.1)
 

@@ -5,8 +5,8 @@ ghost use Rattle.pg_flat.specs.Rigid.{AreRigid};
 
 use crate::rows::equal_lines;
 use pg_list::{Block, Item};
-use pg_pagespace::{Outcome, PageSpace, solve};
 use pg_showbox::read_galley;
+use pg_space::{Outcome, PageSpace, solve};
 use pg_steps::Steps;
 use pg_style::plain_style;
 use pg_table::Table;

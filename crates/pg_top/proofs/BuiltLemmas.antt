@@ -16,16 +16,14 @@ use Rattle.pg_style.specs.declared.style.First.{First}
 use Rattle.pg_style.specs.declared.style.First.TheVariants.{Left, Right, Single}
 use Rattle.pg_top.specs.Galleys.{is_built_item, is_built_block}
 use Rattle.pg_top.specs.Styles.{is_single, is_built_style}
-
-both : (a b : Bool) → (a && b) ≡ true → (a ≡ true) × (b ≡ true)
-both true b e = (refl, e)
-both false b e = absurd (cc)
+use Rattle.pg_lemmas.proofs.Bools.{both_of}
+use Rattle.std.proofs.lemmas.Bool.{eqb-true}
 
 rigid_item : (item : Item) → is_built_item item ≡ true → IsRigid item
 rigid_item (BoxItem height depth body) e = tt
 rigid_item (Rule height depth body) e = absurd (cc)
 rigid_item (Glue width stretch order shrink body) e =
-    let tests = both (int_eq stretch (pos 0)) (int_eq shrink (pos 0)) e in
+    let tests = both_of (int_eq stretch (pos 0)) (int_eq shrink (pos 0)) e in
     ((Decides-int_eq stretch (pos 0)).0 tests.0, (Decides-int_eq shrink (pos 0)).0 tests.1)
 rigid_item (Kern width body) e = absurd (cc)
 rigid_item (Penalty value body) e = absurd (cc)
@@ -39,7 +37,7 @@ rigid_block (Choice variants) e = absurd (cc)
 pub are_rigid : (blocks : List Block) → list_all is_built_block blocks ≡ true → AreRigid blocks
 are_rigid [] e = tt
 are_rigid (block ∷ blocks) e =
-    let tests = both (is_built_block block) (list_all is_built_block blocks) e in
+    let tests = both_of (is_built_block block) (list_all is_built_block blocks) e in
     (rigid_block block tests.0, are_rigid blocks tests.1)
 
 pub on_true : {P : Type 0} → (b : Bool) → (b ≡ true → P) → OnTrue b P
@@ -56,18 +54,15 @@ empty_list [] e = refl
 empty_list (x ∷ xs) e = let long : 0 < length (x ∷ xs) = omega arith in
     let none : length (x ∷ xs) ≡ 0 = grind (arith, nat_tests) in absurd (omega (arith, long, none))
 
-same_number : (a b : ℕ) → (a == b) ≡ true → a ≡ b
-same_number a b e = grind (arith, nat_tests)
-
 pub plain_built : (style : StyleValue) → is_built_style style ≡ true → IsPlainStyle style
 plain_built style e =
-    let a = both (style.columns == 1) _ e in
-    let b = both (is_single style.first) _ a.1 in
-    let d = both (length style.runs == 1) _ b.1 in
-    let f = both (length style.classes == 0) _ d.1 in
+    let a = both_of (style.columns == 1) _ e in
+    let b = both_of (is_single style.first) _ a.1 in
+    let d = both_of (length style.runs == 1) _ b.1 in
+    let f = both_of (length style.classes == 0) _ d.1 in
     record {
-      one_column = same_number style.columns 1 a.0;
+      one_column = eqb-true style.columns 1 a.0;
       single_sides = single_side style.first b.0;
-      one_run = same_number (length style.runs) 1 d.0;
+      one_run = eqb-true (length style.runs) 1 d.0;
       no_classes = empty_list style.classes f.0;
     }

@@ -10,32 +10,32 @@ use Rattle.pg_style.specs.Values.{StyleValue}
 use Rattle.pg_style.specs.Classes.{class_in}
 
 -- the class of an insert, where the style does not have it
-abbrev pub strange_class : StyleValue → Item → Option ℕ
-strange_class style (Insert class size body) = if is_some (class_in style.classes class) then None else Some class
-strange_class style _ = None
+abbrev pub unknown_class : StyleValue → Item → Option ℕ
+unknown_class style (Insert class size body) = if is_some (class_in style.classes class) then None else Some class
+unknown_class style _ = None
 
 abbrev pub or_else : Option ℕ → Option ℕ → Option ℕ
 or_else None other = other
 or_else (Some class) other = Some class
 
 -- the first class of the items that the style does not have
-abbrev pub strange_items : StyleValue → List Item → Option ℕ
-strange_items style [] = None
-strange_items style (item ∷ items) = or_else (strange_class style item) (strange_items style items)
+abbrev pub unknown_items : StyleValue → List Item → Option ℕ
+unknown_items style [] = None
+unknown_items style (item ∷ items) = or_else (unknown_class style item) (unknown_items style items)
 
-abbrev pub strange_variants : StyleValue → List Variant → Option ℕ
-strange_variants style [] = None
-strange_variants style (variant ∷ variants) =
-    or_else (strange_items style variant.items) (strange_variants style variants)
+abbrev pub unknown_variants : StyleValue → List Variant → Option ℕ
+unknown_variants style [] = None
+unknown_variants style (variant ∷ variants) =
+    or_else (unknown_items style variant.items) (unknown_variants style variants)
 
-abbrev pub strange_block : StyleValue → Block → Option ℕ
-strange_block style (One item) = strange_class style item
-strange_block style (Choice variants) = strange_variants style variants
+abbrev pub unknown_block : StyleValue → Block → Option ℕ
+unknown_block style (One item) = unknown_class style item
+unknown_block style (Choice variants) = unknown_variants style variants
 
 -- the class of the first insert of a galley, in its order, that the style does not have
-abbrev pub strange_in : StyleValue → List Block → Option ℕ
-strange_in style [] = None
-strange_in style (block ∷ blocks) = or_else (strange_block style block) (strange_in style blocks)
+abbrev pub unknown_in : StyleValue → List Block → Option ℕ
+unknown_in style [] = None
+unknown_in style (block ∷ blocks) = or_else (unknown_block style block) (unknown_in style blocks)
 
 -- a box, or a glue that neither stretches nor shrinks
 abbrev pub is_built_item : Item → Bool

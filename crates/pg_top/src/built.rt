@@ -5,14 +5,14 @@ ghost use Rattle.std.specs.List.{list_all};
 ghost use Rattle.pg_flat.specs.Rigid.{AreRigid};
 ghost use Rattle.pg_plain.specs.Plain.{IsPlainStyle};
 ghost use Rattle.pg_top.specs.Styles.{is_single as is_single_test, is_built_style as is_built_style_test};
-ghost use Rattle.pg_top.specs.Galleys.{strange_class as strange_class_of, strange_items as strange_items_of, strange_variants as strange_variants_of, strange_block as strange_block_of, strange_in, is_built_item as is_built_item_test, is_built_block as is_built_block_test};
+ghost use Rattle.pg_top.specs.Galleys.{unknown_class as unknown_class_of, unknown_items as unknown_items_of, unknown_variants as unknown_variants_of, unknown_block as unknown_block_of, unknown_in, is_built_item as is_built_item_test, is_built_block as is_built_block_test};
 
 use pg_list::{Block, Item, Variant};
 use pg_style::{First, Style};
 
 // The class of an insert, where the style does not have it.
-fn strange_class(style: &Style, item: &Item) -> Option<u8>
-    ensures { result ≡ strange_class_of style.now item.now }
+fn unknown_class(style: &Style, item: &Item) -> Option<u8>
+    ensures { result ≡ unknown_class_of style.now item.now }
 {
     match item {
         Item::Insert { class, .. } => {
@@ -26,12 +26,12 @@ fn strange_class(style: &Style, item: &Item) -> Option<u8>
     }
 }
 
-fn strange_items(style: &Style, items: &[Item]) -> Option<u8>
-    ensures { result ≡ strange_items_of style.now items.now }
+fn unknown_items(style: &Style, items: &[Item]) -> Option<u8>
+    ensures { result ≡ unknown_items_of style.now items.now }
 {
     let mut rest = items;
     'items: while let [item, after @ ..] = rest {
-        if let Some(class) = strange_class(style, item) {
+        if let Some(class) = unknown_class(style, item) {
             return Some(class);
         }
         rest = after;
@@ -39,12 +39,12 @@ fn strange_items(style: &Style, items: &[Item]) -> Option<u8>
     None
 }
 
-fn strange_variants(style: &Style, variants: &[Variant]) -> Option<u8>
-    ensures { result ≡ strange_variants_of style.now variants.now }
+fn unknown_variants(style: &Style, variants: &[Variant]) -> Option<u8>
+    ensures { result ≡ unknown_variants_of style.now variants.now }
 {
     let mut rest = variants;
     'variants: while let [variant, after @ ..] = rest {
-        if let Some(class) = strange_items(style, variant.items.as_slice()) {
+        if let Some(class) = unknown_items(style, variant.items.as_slice()) {
             return Some(class);
         }
         rest = after;
@@ -52,23 +52,23 @@ fn strange_variants(style: &Style, variants: &[Variant]) -> Option<u8>
     None
 }
 
-fn strange_block(style: &Style, block: &Block) -> Option<u8>
-    ensures { result ≡ strange_block_of style.now block.now }
+fn unknown_block(style: &Style, block: &Block) -> Option<u8>
+    ensures { result ≡ unknown_block_of style.now block.now }
 {
     match block {
-        Block::One(item) => strange_class(style, item),
-        Block::Choice(choice) => strange_variants(style, choice.variants()),
+        Block::One(item) => unknown_class(style, item),
+        Block::Choice(choice) => unknown_variants(style, choice.variants()),
     }
 }
 
 /// The class of the first insert of a galley, in its order, that the style does not have. None
 /// exactly where it has all.
-pub fn first_strange_class(style: &Style, blocks: &[Block]) -> Option<u8>
-    ensures { result ≡ strange_in style.now blocks.now }
+pub fn first_unknown_class(style: &Style, blocks: &[Block]) -> Option<u8>
+    ensures { result ≡ unknown_in style.now blocks.now }
 {
     let mut rest = blocks;
     'each: while let [block, after @ ..] = rest {
-        if let Some(class) = strange_block(style, block) {
+        if let Some(class) = unknown_block(style, block) {
             return Some(class);
         }
         rest = after;

@@ -9,7 +9,7 @@ ghost use Rattle.pg_top.specs.declared.status.Status.TheVariants.{Usage};
 ghost use Rattle.pg_top.specs.Lines.{status_of, line_of};
 ghost use Rattle.pg_top.specs.Course.{EndsBy, BeginsBy, RunGalley, RunCourse, UnreadFile, opened, Ended, EndedBefore, OnSettled, OnReadFault, OnWriteFault, OnMemory, ReadLine, Shows, ShowsBefore};
 
-use crate::built::{are_built, first_strange_class};
+use crate::built::{are_built, first_unknown_class};
 use crate::event::Event;
 use crate::open::{open_galley, open_style};
 use crate::shown::{Found, show};
@@ -73,8 +73,8 @@ fn run_galley<'a, O: Sink, L: Ledger>(
     ensures no_usage { status_of result ≢ Usage }
 {
     let blocks = galley.blocks().as_slice();
-    if let Some(class) = first_strange_class(style, blocks) {
-        return Event::StrangeClass(class);
+    if let Some(class) = first_unknown_class(style, blocks) {
+        return Event::UnknownClass(class);
     }
     if !are_built(blocks) {
         return Event::NotBuilt(name);

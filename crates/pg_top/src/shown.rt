@@ -4,10 +4,10 @@ ghost use Rattle.pg_flat.specs.Rigid.{AreRigid};
 ghost use Rattle.pg_plain.specs.Plain.{IsPlainStyle};
 ghost use Rattle.pg_top.specs.Out.{Out, end_of};
 
-use pg_legal::legal_pages_are_plain;
+use pg_legal_laws::legal_pages_are_plain;
 use pg_list::Galley;
 use pg_pages::{print_none, print_pages};
-use pg_pagespace::{Outcome, solve};
+use pg_space::{Outcome, solve};
 use pg_steps::Steps;
 use pg_style::Style;
 use std::alloc::{AllocError, Global};

@@ -4,8 +4,8 @@ ghost use Rattle.std.specs.Option.{option_map};
 ghost use Rattle.std.specs.String.{string_bytes};
 ghost use Rattle.pg_top.specs.Words.{command_in, command_of, texts_of, height_of, wrap_of, is_name, is_option as is_option_word, with_option as one_more, no_options, options_in, run_named, show_named, IsHeight, HasHeight};
 
-use pg_lines::whole_word;
 use pg_scaled::{Front, read_scaled};
+use pg_scan::whole_word;
 
 /// Which style a run takes.
 #[derive(Clone, Copy)]

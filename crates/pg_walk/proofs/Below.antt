@@ -21,75 +21,75 @@ use Rattle.pg_walk.specs.declared.end.End.{End}
 use Rattle.pg_walk.specs.Ends.{IsBefore}
 use Rattle.pg_walk.specs.Walk.{badness_at, end_penalty, is_over_at, is_passable_at, is_end_at, is_tolerable_at, keeps_at, end_at, ends_below}
 
-range-more : (a n : ℕ) → range_with_len a (suc n) ≡ range_with_len a n ++ (a + n) ∷ []
-range-more a zero = let here : a ≡ a + 0 = omega arith in ap (λ (k : ℕ). k ∷ []) here
-range-more a (suc n) =
+range_more : (a n : ℕ) → range_with_len a (suc n) ≡ range_with_len a n ++ (a + n) ∷ []
+range_more a zero = let here : a ≡ a + 0 = omega arith in ap (λ (k : ℕ). k ∷ []) here
+range_more a (suc n) =
     let next : a + 1 + n ≡ a + suc n = omega arith in
-    ap (λ (ks : List ℕ). a ∷ ks) (range-more (a + 1) n ∙ ap (λ (k : ℕ). range_with_len (a + 1) n ++ k ∷ []) next)
+    ap (λ (ks : List ℕ). a ∷ ks) (range_more (a + 1) n ∙ ap (λ (k : ℕ). range_with_len (a + 1) n ++ k ∷ []) next)
 
-stop-fails : (a b c d : Bool) → c ≡ false → (a && (b && (c && d))) ≡ false
-stop-fails false b c d e = refl
-stop-fails true false c d e = refl
-stop-fails true true true d e = absurd cc
-stop-fails true true false d e = refl
+stop_fails : (a b c d : Bool) → c ≡ false → (a && (b && (c && d))) ≡ false
+stop_fails false b c d e = refl
+stop_fails true false c d e = refl
+stop_fails true true true d e = absurd cc
+stop_fails true true false d e = refl
 
-last-fails : (a b c d : Bool) → d ≡ false → (a && (b && (c && d))) ≡ false
-last-fails false b c d e = refl
-last-fails true false c d e = refl
-last-fails true true false d e = refl
-last-fails true true true d e = e
+last_fails : (a b c d : Bool) → d ≡ false → (a && (b && (c && d))) ≡ false
+last_fails false b c d e = refl
+last_fails true false c d e = refl
+last_fails true true false d e = refl
+last_fails true true true d e = e
 
-no-box : (b x : Bool) → (not (b && false) || x) ≡ true
-no-box true x = refl
-no-box false x = refl
+no_box : (b x : Bool) → (not (b && false) || x) ≡ true
+no_box true x = refl
+no_box false x = refl
 
-not-both : (b : Bool) → b ≡ true → b ≡ false → {X : Type 0} → X
-not-both b e f = absurd cc
+not_both : (b : Bool) → b ≡ true → b ≡ false → {X : Type 0} → X
+not_both b e f = absurd cc
 
-filter-one : {X : Type 0} (p : X → Bool) (x : X) (b : Bool) → p x ≡ b → filter p (x ∷ []) ≡ (if b then x ∷ [] else [])
-filter-one p x b e = rw e refl
+filter_one : {X : Type 0} (p : X → Bool) (x : X) (b : Bool) → p x ≡ b → filter p (x ∷ []) ≡ (if b then x ∷ [] else [])
+filter_one p x b e = rw e refl
 
-none-of : (b : Bool) (o : Option ℤ) → (if b then o else None) ≡ None → (b && is_some o) ≡ false
-none-of true None e = refl
-none-of true (Some p) e = absurd cc
-none-of false o e = refl
+none_of : (b : Bool) (o : Option ℤ) → (if b then o else None) ≡ None → (b && is_some o) ≡ false
+none_of true None e = refl
+none_of true (Some p) e = absurd cc
+none_of false o e = refl
 
-some-of : (b : Bool) (o : Option ℤ) (p : ℤ) → (if b then o else None) ≡ Some p → (b ≡ true) × (o ≡ Some p)
-some-of true o p e = (refl, e)
-some-of false o p e = absurd cc
+some_of : (b : Bool) (o : Option ℤ) (p : ℤ) → (if b then o else None) ≡ Some p → (b ≡ true) × (o ≡ Some p)
+some_of true o p e = (refl, e)
+some_of false o p e = absurd cc
 
-first-fails : (a b : Bool) → a ≡ false → (a && b) ≡ false
-first-fails a b e = rw e refl
+first_fails : (a b : Bool) → a ≡ false → (a && b) ≡ false
+first_fails a b e = rw e refl
 
-passable-none : (b s x : Bool) → (b && s) ≡ false → (not (s && b) || x) ≡ true
-passable-none true true x e = absurd cc
-passable-none true false x e = refl
-passable-none false true x e = refl
-passable-none false false x e = refl
+passable_none : (b s x : Bool) → (b && s) ≡ false → (not (s && b) || x) ≡ true
+passable_none true true x e = absurd cc
+passable_none true false x e = refl
+passable_none false true x e = refl
+passable_none false false x e = refl
 
-over-fails : (e over tolerable rest : Bool) → over ≡ true → (e && ((not over && tolerable) && rest)) ≡ false
-over-fails true over tolerable rest is = rw is refl
-over-fails false over tolerable rest is = refl
+over_fails : (e over tolerable rest : Bool) → over ≡ true → (e && ((not over && tolerable) && rest)) ≡ false
+over_fails true over tolerable rest is = rw is refl
+over_fails false over tolerable rest is = refl
 
-over-stops : (b s f over : Bool) → (b && s) ≡ true → over ≡ true → (not (s && b) || not (f || over)) ≡ false
-over-stops true true true over e is = refl
-over-stops true true false over e is = rw is refl
-over-stops true false f over e is = absurd cc
-over-stops false s f over e is = absurd cc
+over_stops : (b s f over : Bool) → (b && s) ≡ true → over ≡ true → (not (s && b) || not (f || over)) ≡ false
+over_stops true true true over e is = refl
+over_stops true true false over e is = rw is refl
+over_stops true false f over e is = absurd cc
+over_stops false s f over e is = absurd cc
 
-under-keeps : (e over tolerable passes text : Bool) → e ≡ true → over ≡ false → passes ≡ true → text ≡ true →
+under_keeps : (e over tolerable passes text : Bool) → e ≡ true → over ≡ false → passes ≡ true → text ≡ true →
     (e && ((not over && tolerable) && (passes && text))) ≡ tolerable
-under-keeps e over true passes text a b c d = rw (a, b, c, d) refl
-under-keeps e over false passes text a b c d = rw (a, b) refl
+under_keeps e over true passes text a b c d = rw (a, b, c, d) refl
+under_keeps e over false passes text a b c d = rw (a, b) refl
 
-under-passable : (b s f over : Bool) → (b && s) ≡ true → over ≡ false → not f ≡ (not (s && b) || not (f || over))
-under-passable true true true over e is = refl
-under-passable true true false over e is = rw is refl
-under-passable true false f over e is = absurd cc
-under-passable false s f over e is = absurd cc
+under_passable : (b s f over : Bool) → (b && s) ≡ true → over ≡ false → not f ≡ (not (s && b) || not (f || over))
+under_passable true true true over e is = refl
+under_passable true true false over e is = rw is refl
+under_passable true false f over e is = absurd cc
+under_passable false s f over e is = absurd cc
 
-cmp-less : (a b : ℕ) → a < b → nat_cmp a b ≡ Less
-cmp-less a b less = sym (nat_cmp_is a b Less less)
+cmp_less : (a b : ℕ) → a < b → nat_cmp a b ≡ Less
+cmp_less a b less = sym (nat_cmp_is a b Less less)
 
 module _ (style : StyleValue) (room : ℤ) (items : List Item) (block : ℕ) where
   -- ---- one offset more
@@ -100,7 +100,7 @@ module _ (style : StyleValue) (room : ℤ) (items : List Item) (block : ℕ) whe
   unfolding ends_below
   step n =
       ap (λ (ks : List ℕ). map (end_at style room items block) (filter (keeps_at style room items) ks))
-      (range-more 0 n)
+      (range_more 0 n)
       ∙ ap (map (end_at style room items block))
       (filter-append (keeps_at style room items) (range_with_len 0 n) ((0 + n) ∷ []))
       ∙ map-append (end_at style room items block) (filter (keeps_at style room items) (range_with_len 0 n))
@@ -120,13 +120,13 @@ module _ (style : StyleValue) (room : ℤ) (items : List Item) (block : ℕ) whe
       ≡ ends_below style room items block n ++ end_at style room items block n ∷ []
   one-more n kept = step n
       ∙ ap (λ (ks : List ℕ). ends_below style room items block n ++ map (end_at style room items block) ks)
-      (filter-one (keeps_at style room items) n true kept)
+      (filter_one (keeps_at style room items) n true kept)
 
   pub no-more : (n : ℕ) → keeps_at style room items n ≡ false →
       ends_below style room items block (suc n) ≡ ends_below style room items block n
   no-more n broken = step n
       ∙ ap (λ (ks : List ℕ). ends_below style room items block n ++ map (end_at style room items block) ks)
-      (filter-one (keeps_at style room items) n false broken)
+      (filter_one (keeps_at style room items) n false broken)
       ∙ append-nil (ends_below style room items block n)
 
   -- ---- inner breaks
@@ -152,13 +152,13 @@ module _ (style : StyleValue) (room : ℤ) (items : List Item) (block : ℕ) whe
       list_all-append (is_passable_at style room items) (range_with_len 1 m) ((1 + m) ∷ [])
       ∙ rw (front, here') refl in
       ap (λ (k : ℕ). list_all (is_passable_at style room items) (range_with_len 1 k)) more
-      ∙ (ap (list_all (is_passable_at style room items)) (range-more 1 m) ∙ all)
+      ∙ (ap (list_all (is_passable_at style room items)) (range_more 1 m) ∙ all)
 
   -- past an offset that may not be passed no column keeps the rules
   blocked : (j m : ℕ) → is_passable_at style room items j ≡ false → j < m → keeps_at style room items m ≡ false
   unfolding keeps_at
-  blocked zero m stop less = not-both (is_passable_at style room items 0)
-      (no-box (is_some (break_penalty items 0)) (not (is_forced items 0 || is_over_at style room items 0))) stop
+  blocked zero m stop less = not_both (is_passable_at style room items 0)
+      (no_box (is_some (break_penalty items 0)) (not (is_forced items 0 || is_over_at style room items 0))) stop
   blocked (suc i) m stop less =
       let next : 1 + i ≡ suc i = omega arith in
       let count = length-range_with_len 1 (m - 1) in
@@ -167,7 +167,7 @@ module _ (style : StyleValue) (room : ℤ) (items : List Item) (block : ℕ) whe
       let fails : passes_between items (is_over_at style room items) m ≡ false =
       list_all_at (is_passable_at style room items) (range_with_len 1 (m - 1)) i 0 (omega (arith, less, count))
       (ap (is_passable_at style room items) at ∙ stop) in
-      stop-fails (is_end_at items m) (is_tolerable_at style room items m)
+      stop_fails (is_end_at items m) (is_tolerable_at style room items m)
       (passes_between items (is_over_at style room items) m)
       (int_le style.min_text room) fails
 
@@ -195,22 +195,22 @@ module _ (style : StyleValue) (room : ℤ) (items : List Item) (block : ℕ) whe
   end-step n false broken = no-more n broken ∙ sym (append-nil (ends_below style room items block n))
 
   -- no break behind a box
-  pub not-end : (n : ℕ) → end_penalty items n ≡ None →
+  pub not_end : (n : ℕ) → end_penalty items n ≡ None →
       (ends_below style room items block (suc n) ≡ ends_below style room items block n) ×
       (is_passable_at style room items n ≡ true)
   unfolding keeps_at
-  not-end n none =
-      let t = none-of (list_any is_box (take n items)) (break_penalty items n) none in (
-        no-more n (first-fails (is_end_at items n) _ t),
-        passable-none (list_any is_box (take n items)) (is_some (break_penalty items n)) _ t,
+  not_end n none =
+      let t = none_of (list_any is_box (take n items)) (break_penalty items n) none in (
+        no-more n (first_fails (is_end_at items n) _ t),
+        passable_none (list_any is_box (take n items)) (is_some (break_penalty items n)) _ t,
       )
 
   pub end-some : (n : ℕ) (penalty : ℤ) → end_penalty items n ≡ Some penalty → break_penalty items n ≡ Some penalty
-  end-some n penalty some = (some-of (list_any is_box (take n items)) (break_penalty items n) penalty some).1
+  end-some n penalty some = (some_of (list_any is_box (take n items)) (break_penalty items n) penalty some).1
 
   is-end : (n : ℕ) (penalty : ℤ) → end_penalty items n ≡ Some penalty → is_end_at items n ≡ true
   is-end n penalty some =
-      let t = some-of (list_any is_box (take n items)) (break_penalty items n) penalty some in
+      let t = some_of (list_any is_box (take n items)) (break_penalty items n) penalty some in
       rw (t.0, t.1) refl
 
   -- a break behind a box at which the column is over
@@ -219,10 +219,10 @@ module _ (style : StyleValue) (room : ℤ) (items : List Item) (block : ℕ) whe
       (is_passable_at style room items n ≡ false)
   unfolding keeps_at
   over-end n penalty some over = (
-    no-more n (over-fails (is_end_at items n) (is_over_at style room items n)
+    no-more n (over_fails (is_end_at items n) (is_over_at style room items n)
         (is_forced items n || nat_le (badness_at style room items n) style.tolerance)
         (passes_between items (is_over_at style room items) n && int_le style.min_text room) over),
-    over-stops (list_any is_box (take n items)) (is_some (break_penalty items n)) (is_forced items n)
+    over_stops (list_any is_box (take n items)) (is_some (break_penalty items n)) (is_forced items n)
         (is_over_at style room items n) (is-end n penalty some) over,
   )
 
@@ -238,12 +238,12 @@ module _ (style : StyleValue) (room : ℤ) (items : List Item) (block : ℕ) whe
   unfolding keeps_at
   under-end n penalty forced some under passes text is = (
     end-step n (forced || nat_le (badness_at style room items n) style.tolerance)
-        (under-keeps (is_end_at items n) (is_over_at style room items n)
+        (under_keeps (is_end_at items n) (is_over_at style room items n)
         (is_forced items n || nat_le (badness_at style room items n) style.tolerance)
         (passes_between items (is_over_at style room items) n) (int_le style.min_text room)
         (is-end n penalty some) under passes text
         ∙ ap (λ (b : Bool). b || nat_le (badness_at style room items n) style.tolerance) (sym is)),
-    ap not is ∙ under-passable (list_any is_box (take n items)) (is_some (break_penalty items n))
+    ap not is ∙ under_passable (list_any is_box (take n items)) (is_some (break_penalty items n))
         (is_forced items n) (is_over_at style room items n) (is-end n penalty some) under,
   )
 
@@ -252,7 +252,7 @@ module _ (style : StyleValue) (room : ℤ) (items : List Item) (block : ℕ) whe
   unfolding keeps_at
   low-room low zero = none-below
   low-room low (suc m) =
-      no-more m (last-fails (is_end_at items m) (is_tolerable_at style room items m)
+      no-more m (last_fails (is_end_at items m) (is_tolerable_at style room items m)
       (passes_between items (is_over_at style room items) m) (int_le style.min_text room) low)
       ∙ low-room low m
 
@@ -309,7 +309,7 @@ module _ (style : StyleValue) (room : ℤ) (items : List Item) (block : ℕ) whe
   -- the ends stand in order of their places
   is-before : (i m : ℕ) → i < m → IsBefore (end_at style room items block i) (end_at style room items block m)
   is-before i m less =
-      let first : nat_cmp (block + i) (block + m) ≡ Less = cmp-less (block + i) (block + m) (omega (arith, less)) in
+      let first : nat_cmp (block + i) (block + m) ≡ Less = cmp_less (block + i) (block + m) (omega (arith, less)) in
       inl (rw first refl)
 
   pub ordered : (m : ℕ) → AllPairs IsBefore (ends_below style room items block m)

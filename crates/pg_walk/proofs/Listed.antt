@@ -21,21 +21,21 @@ use Rattle.pg_rules.specs.History.{column_fitness}
 use Rattle.pg_rules.specs.ColumnRules.{text_fitness}
 use Rattle.pg_rules.specs.IsState.{IsPlace}
 use Rattle.pg_plain.specs.Plain.{AreSingle, single_items, IsPlainStyle}
-use Rattle.pg_places.proofs.Among.{both_of}
-use Rattle.pg_places.proofs.Tests.{same_place}
 use Rattle.pg_walk.specs.declared.end.End.{End}
 use Rattle.pg_walk.specs.Ends.{AreEnds, HasEnd, IsColumnIn, IsEndOf}
 use Rattle.pg_walk.specs.Walk.{cost_at, end_at, ends_below, is_end_at, keeps_at}
 use Rattle.pg_walk.proofs.Below.{IsListed, contained, listed, ordered}
-use Rattle.pg_walk.proofs.Columns.{badness-is, demerits-are, end-of-size, fit-is, goal, items, keeps, no-pick-demerits, size-of-kept, size-to, total-is}
+use Rattle.pg_walk.proofs.Columns.{badness_is, demerits-are, end-of-size, kept_fitness_is, goal, items, keeps, no-pick-demerits, size-of-kept, size-to, the_total_is}
+use Rattle.pg_lemmas.proofs.Bools.{both_of}
+use Rattle.pg_flat.proofs.Places.{same_place}
 
 -- ---- places of single items
 
-one-item : (blocks : List Block) (k v i : ℕ) → AreSingle blocks →
+one_item : (blocks : List Block) (k v i : ℕ) → AreSingle blocks →
     i < length (unwrap_or (option_map (λ (block : Block). picked_items block v) (slice_get blocks k)) []) →
     (k < length blocks) × ((v ≡ 0) × (i ≡ 0))
-one-item [] k v i single less = absurd (omega (arith, less))
-one-item (One item ∷ blocks) zero v i single less = elim (cases_Bool (v == 0)) [
+one_item [] k v i single less = absurd (omega (arith, less))
+one_item (One item ∷ blocks) zero v i single less = elim (cases_Bool (v == 0)) [
   | inl first ↦
       let here : i < length (item ∷ []) = subst (λ (b : Bool). i < length (if b then item ∷ [] else [])) first less in
       (omega arith, (grind (arith, nat_tests), omega (arith, here)))
@@ -44,42 +44,42 @@ one-item (One item ∷ blocks) zero v i single less = elim (cases_Bool (v == 0))
       subst (λ (b : Bool). i < length (if b then item ∷ [] else [])) other less in
       absurd (omega (arith, none))
 ]
-one-item (One item ∷ blocks) (suc k) v i single less =
-    let t = one-item blocks k v i single.1 less in (omega (arith, t.0), t.1)
-one-item (Choice variants ∷ blocks) k v i single less = absurd single.0
+one_item (One item ∷ blocks) (suc k) v i single less =
+    let t = one_item blocks k v i single.1 less in (omega (arith, t.0), t.1)
+one_item (Choice variants ∷ blocks) k v i single less = absurd single.0
 
 made : (b v i : ℕ) → v ≡ 0 → i ≡ 0 → ◌≡◌ {A = Place} (record { block = b; variant = v; index = i }) (place b 0 0)
 made b v i p q = cc
 
 -- each place is that of a block, or the end
-pub front-of : (blocks : List Block) (at : Place) → AreSingle blocks → IsPlace blocks at →
+pub front_of : (blocks : List Block) (at : Place) → AreSingle blocks → IsPlace blocks at →
     (at ≡ place at.block 0 0) × (at.block ≤ length blocks)
-front-of blocks at single is = elim is.within [
+front_of blocks at single is = elim is.within [
   | inl last ↦
       let same : at ≡ place (length blocks) 0 0 = same_place at (end_of blocks) last in
       let there : at.block ≡ length blocks = ap (λ (p : Place). p.block) same in
       (same ∙ ap (λ (k : ℕ). place k 0 0) (sym there), omega (arith, there))
   | inr inside ↦
-      let t = one-item blocks at.block at.variant at.index single inside in
+      let t = one_item blocks at.block at.variant at.index single inside in
       (made at.block at.variant at.index t.1.0 t.1.1, omega (arith, t.0))
 ]
 
 -- ---- the numbers of an end
 
-penalty-some : (o : Option ℤ) → is_some o ≡ true → Some (unwrap_or o (pos 0)) ≡ o
-penalty-some None e = absurd cc
-penalty-some (Some p) e = refl
+penalty_some : (o : Option ℤ) → is_some o ≡ true → Some (unwrap_or o (pos 0)) ≡ o
+penalty_some None e = absurd cc
+penalty_some (Some p) e = refl
 
-fitness-of : (it : ColumnContext) (n : ℕ) → size_of it ≡ Some n → column_fitness it ≡ text_fitness it n
-fitness-of it n size = ap (λ (o : Option ℕ). option_map_or (text_fitness it) o 2) size
+fitness_of : (it : ColumnContext) (n : ℕ) → size_of it ≡ Some n → column_fitness it ≡ text_fitness it n
+fitness_of it n size = ap (λ (o : Option ℕ). option_map_or (text_fitness it) o 2) size
 
 module _ (it : ColumnContext) (block : ℕ) (single : AreSingle it.document.blocks)
     (plain : IsPlainStyle it.document.style) (starts : it.column.from ≡ place block 0 0)
-    (text : is_text it ≡ true) (height : ℤ) (height-is : room it ≡ height) where
+    (text : is_text it ≡ true) (height : ℤ) (its_height_is : room it ≡ height) where
   -- no other picks fit
   least : it.column.picks ≡ [] → IsLeast it
   least none = record {
-    least = λ picks text' kept fit.
+    least = λ picks text' kept fitness.
         let empty : picks ≡ [] = (size-of-kept (with_picks it picks) block single plain starts kept).1.1 in
         let same : with_picks it it.column.picks ≡ with_picks it picks = ap (with_picks it) (none ∙ sym empty) in
         inr (
@@ -101,18 +101,18 @@ module _ (it : ColumnContext) (block : ℕ) (single : AreSingle it.document.bloc
       let ended : is_end_at xs n ≡ true = (both_of (is_end_at xs n) _ kept).0 in
       let some = (both_of (list_any is_box (take n xs)) (is_some (break_penalty xs n)) ended).1 in
       record {
-        keeps = keeps it block single plain starts n height size text height-is none ∙ kept;
+        keeps = keeps it block single plain starts n height size text its_height_is none ∙ kept;
         least = least none;
         size = n;
         size_is = size;
         numbers = record {
-          goal = sym (goal it block single plain starts n height size text height-is);
-          total = sym (total-is it block single plain starts n height size text height-is);
-          badness = sym (badness-is it block single plain starts n height size text height-is);
-          fit = sym (fit-is it block single plain starts n height size text height-is);
-          penalty = penalty-some (break_penalty xs n) some
+          goal = sym (goal it block single plain starts n height size text its_height_is);
+          total = sym (the_total_is it block single plain starts n height size text its_height_is);
+          badness = sym (badness_is it block single plain starts n height size text its_height_is);
+          fitness = sym (kept_fitness_is it block single plain starts n height size text its_height_is);
+          penalty = penalty_some (break_penalty xs n) some
               ∙ ap (λ (them : List Item). break_penalty them n) (sym (items it block single plain starts));
-          demerits = sym (demerits-are it block single plain starts n height size text height-is);
+          demerits = sym (demerits-are it block single plain starts n height size text its_height_is);
         };
         pick_demerits = sym (no-pick-demerits it block single plain starts);
       }
@@ -128,13 +128,13 @@ module _ (it : ColumnContext) (block : ℕ) (single : AreSingle it.document.bloc
       let xs = drop block (single_items it.document.blocks) in
       let e = end-of-size it block single plain starts onward n t.1.0 in
       let kept' : keeps_at it.document.style height xs n ≡ true =
-      sym (keeps it block single plain starts n height t.1.0 text height-is t.1.1) ∙ kept in
+      sym (keeps it block single plain starts n height t.1.0 text its_height_is t.1.1) ∙ kept in
       record {
         end = end_at it.document.style height xs block n;
         listed = contained it.document.style height xs block (suc (length it.document.blocks - block)) n
             (omega (arith, e.1)) kept';
         to = sym e.0;
-        fit = sym (fitness-of it n t.1.0 ∙ fit-is it block single plain starts n height t.1.0 text height-is);
+        fitness = sym (fitness_of it n t.1.0 ∙ kept_fitness_is it block single plain starts n height t.1.0 text its_height_is);
       }
 
 -- ---- the whole list
@@ -146,7 +146,7 @@ all_ends doc from height = ends_below doc.style height (drop from.block (single_
 module _ (doc : Document) (single : AreSingle doc.blocks) (plain : IsPlainStyle doc.style) (from : Place)
     (is-place : IsPlace doc.blocks from) (height : ℤ) where
   front : (from ≡ place from.block 0 0) × (from.block ≤ length doc.blocks)
-  front = front-of doc.blocks from single is-place
+  front = front_of doc.blocks from single is-place
 
   sound : (end : End) (it : ColumnContext) → Contains (all_ends doc from height) end → IsColumnIn doc from height it →
       it.column.to ≡ end.to → it.column.picks ≡ end.picks → IsEndOf it end

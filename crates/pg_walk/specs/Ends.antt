@@ -24,7 +24,7 @@ pub record AreNumbers (it : ColumnContext) (n : ℕ) (numbers : TextCost) : Type
   pub goal : numbers.goal ≡ text_goal it n
   pub total : numbers.total ≡ text_total it n
   pub badness : numbers.badness ≡ text_badness it n
-  pub fit : numbers.fit ≡ text_fitness it n
+  pub fitness : numbers.fitness ≡ text_fitness it n
   pub penalty : Some numbers.penalty ≡ break_penalty (items_of it) n
   pub demerits : numbers.demerits ≡ text_demerits it n
 
@@ -42,11 +42,11 @@ pub record HasEnd (ends : List End) (it : ColumnContext) : Type 0 where
   pub end : End
   pub listed : Contains ends end
   pub to : end.to ≡ it.column.to
-  pub fit : end.cost.fit ≡ column_fitness it
+  pub fitness : end.cost.fitness ≡ column_fitness it
 
 -- by place, and at one place by fitness
 abbrev pub IsBefore : End → End → Type 0
-IsBefore a b = (place_cmp a.to b.to ≡ Less) ⊎ ((a.to ≡ b.to) × (a.cost.fit < b.cost.fit))
+IsBefore a b = (place_cmp a.to b.to ≡ Less) ⊎ ((a.to ≡ b.to) × (a.cost.fitness < b.cost.fitness))
 
 -- the ends of the columns of text from a place in a room: each place and fitness at which one keeps the rules on its
 -- text, once, in order

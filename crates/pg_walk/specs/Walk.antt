@@ -64,8 +64,8 @@ keeps_at style room items n =
     is_end_at items n && (is_tolerable_at style room items n
     && (passes_between items (is_over_at style room items) n && int_le style.min_text room))
 
-abbrev pub fit_at : StyleValue → ℤ → List Item → ℕ → ℕ
-fit_at style room items n =
+abbrev pub fitness_at : StyleValue → ℤ → List Item → ℕ → ℕ
+fitness_at style room items n =
     if style.version == 1 then 2 else fitness_by (total_at style items n) room (badness_at style room items n)
 
 abbrev pub demerits_at : StyleValue → ℤ → List Item → ℕ → ℤ
@@ -79,7 +79,7 @@ cost_at style room items n =
       goal = room;
       total = total_at style items n;
       badness = badness_at style room items n;
-      fit = fit_at style room items n;
+      fitness = fitness_at style room items n;
       penalty = unwrap_or (break_penalty items n) (pos 0);
       demerits = demerits_at style room items n;
     }

@@ -73,7 +73,7 @@ pub fn cost_of(style: &Style, room: i64, sums: &Sums, is_spent: bool, penalty: i
         goal: room,
         total,
         badness,
-        fit: fitness(style, total, room, badness),
+        fitness: fitness(style, total, room, badness),
         penalty,
         demerits: plus(demerits(style.line, badness), penalty_demerits(penalty)),
     }

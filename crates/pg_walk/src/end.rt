@@ -14,7 +14,7 @@ pub struct TextCost {
     pub goal: i64,
     pub total: i64,
     pub badness: u16,
-    pub fit: u8,
+    pub fitness: u8,
     pub penalty: i32,
     pub demerits: i64,
 }

@@ -1,6 +1,6 @@
 use Rattle.std.proofs.Common.{arith}
-use Rattle.pg_floats.proofs.Areas.{sum-few}
+use Rattle.pg_floats.proofs.Areas.{sum_few}
 use Rattle.pg_floats.proofs.area.together.Goals as goal
 
 pub returns-clause-size : goal.returns-clause-size
-returns-clause-size c = omega (arith, sum-few c.args.callouts.now c.requires.range, c.summed.ensures)
+returns-clause-size c = omega (arith, sum_few c.args.callouts.now c.requires.range, c.summed.ensures)

@@ -5,7 +5,7 @@ use Rattle.pg_floats.specs.declared.callouts.Callout.{Callout}
 use Rattle.pg_floats.specs.FloatsValue.{ClassFloatsValue}
 use Rattle.pg_floats.specs.Callouts.{callouts_from}
 use Rattle.pg_floats.specs.Places.{places_from}
-use Rattle.pg_floats.proofs.Called.{above-is, before-is}
+use Rattle.pg_floats.proofs.Called.{above_is, before_is}
 use Rattle.pg_floats.proofs.list.called_in.Goals as goal
 
 pub returns : goal.returns
@@ -20,7 +20,7 @@ returns c = λ blocks number all own.
     c.as_slice.ensures.items ∙ ap (λ (v : ClassFloatsValue). v.callouts) is in
     let places-same : c.as_slice-2.result.now ≡ places_from number 0 blocks =
     c.as_slice-2.ensures.value ∙ ap (λ (v : ClassFloatsValue). v.places) is in
-    before-is number c.called_above-above.result c.inserts_before-within.result blocks c.args.place
-    (above-is number c.args.place.block c.called_above-above.result blocks all
+    before_is number c.called_above-above.result c.inserts_before-within.result blocks c.args.place
+    (above_is number c.args.place.block c.called_above-above.result blocks all
     (subst Q same c.called_above-above.ensures.within) (subst P same c.called_above-above.ensures.point))
     (c.inserts_before-within.ensures.value blocks number places-same)

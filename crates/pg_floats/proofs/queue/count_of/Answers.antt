@@ -1,11 +1,11 @@
 use Rattle.std.proofs.Common.{◌∙◌, ap, List}
 use Rattle.pg_style.specs.declared.style.Class.{Class}
 use Rattle.pg_floats.specs.QueueValue.{float_count_in}
-use Rattle.pg_floats.proofs.Queues.{count-is}
+use Rattle.pg_floats.proofs.Queues.{the_count_is}
 use Rattle.pg_floats.proofs.queue.count_of.Goals as goal
 
 pub returns-clause-value : goal.returns-clause-value
 returns-clause-value c =
     c.count_floats.ensures.value
     ∙ (ap (λ (classes : List Class). float_count_in classes) c.classes_of.ensures.classes
-    ∙ count-is c.args.style.now c.classes_of.ensures.range)
+    ∙ the_count_is c.args.style.now c.classes_of.ensures.range)

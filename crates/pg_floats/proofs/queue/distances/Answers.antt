@@ -1,11 +1,11 @@
 use Rattle.std.proofs.Common.{◌∙◌, ap, List}
 use Rattle.pg_style.specs.declared.style.Class.{Class}
 use Rattle.pg_floats.specs.QueueValue.{table_in}
-use Rattle.pg_floats.proofs.Queues.{tables-are}
+use Rattle.pg_floats.proofs.Queues.{tables_are}
 use Rattle.pg_floats.proofs.queue.distances.Goals as goal
 
 pub returns : goal.returns
 returns c =
     c.table_at.ensures.table
     ∙ (ap (λ (classes : List Class). table_in classes c.args.slot) c.classes_of.ensures.classes
-    ∙ tables-are c.args.style.now c.args.slot c.classes_of.ensures.range)
+    ∙ tables_are c.args.style.now c.args.slot c.classes_of.ensures.range)

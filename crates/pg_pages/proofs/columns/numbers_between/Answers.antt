@@ -7,9 +7,9 @@ use Rattle.pg_list.proofs.Sizes.{blocks_le}
 use Rattle.pg_plain.specs.Plain.{single_items, items_between}
 use Rattle.pg_pages.specs.PlainText.{numbers_from}
 use Rattle.pg_plain.specs.Plain.{not_over}
-use Rattle.pg_plain.proofs.Singles.{rigid-single}
-use Rattle.pg_plain.proofs.Tails.{spent-from}
-use Rattle.pg_pages.proofs.Numbers.{between-items}
+use Rattle.pg_plain.proofs.Singles.{rigid_single}
+use Rattle.pg_plain.proofs.Tails.{spent_from}
+use Rattle.pg_pages.proofs.Numbers.{between_items}
 use Rattle.pg_pages.proofs.columns.numbers_between.Goals as goal
 
 pub numbers_of-requires-clause-few : goal.numbers_of-requires-clause-few
@@ -26,15 +26,15 @@ pub numbers_of-requires-clause-fits : goal.numbers_of-requires-clause-fits
 numbers_of-requires-clause-fits c =
     let here = c.as_slice.ensures.blocks ∙ c.blocks-2.ensures.blocks in
     let items = ap (λ (blocks : List Block). single_items (take (c.args.to - c.args.from) (drop c.args.from blocks))) here
-    ∙ between-items c.args.galley.now.blocks c.args.from c.args.to (rigid-single c.args.galley.now.blocks c.requires.rigid) in
+    ∙ between_items c.args.galley.now.blocks c.args.from c.args.to (rigid_single c.args.galley.now.blocks c.requires.rigid) in
     ap (not_over c.args.style.now) items ∙ c.requires.fits
 
 pub returns : goal.returns
 returns c =
     let blocks = c.args.galley.now.blocks in
     let here = c.as_slice.ensures.blocks ∙ c.blocks-2.ensures.blocks in
-    let single = rigid-single blocks c.requires.rigid in
-    let items = ap (λ (them : List Block). single_items (take (c.args.to - c.args.from) (drop c.args.from them))) here ∙ between-items blocks c.args.from c.args.to single in
-    let last = ap (λ (n : ℕ). nat_le n c.args.to) c.solid.ensures ∙ sym (spent-from blocks c.args.to single) in
+    let single = rigid_single blocks c.requires.rigid in
+    let items = ap (λ (them : List Block). single_items (take (c.args.to - c.args.from) (drop c.args.from them))) here ∙ between_items blocks c.args.from c.args.to single in
+    let last = ap (λ (n : ℕ). nat_le n c.args.to) c.solid.ensures ∙ sym (spent_from blocks c.args.to single) in
     c.numbers_of.ensures ∙ ap (numbers_from c.args.style.now (nat_le c.solid.result c.args.to)) items
     ∙ ap (λ (is_last : Bool). numbers_from c.args.style.now is_last (items_between blocks c.args.from c.args.to)) last

@@ -14,10 +14,10 @@ pub returns : goal.returns
 returns c =
     let style = c.args.style.now in
     let items = single_items c.args.blocks.now in
-    let goal-is = to_z-of_z w64 c.room-goal.result (record { sfits = search rules })
+    let goal_is = to_z-of_z w64 c.room-goal.result (record { sfits = search rules })
     ∙ c.room-goal.ensures.value in
     let line : c.style.inside.line ≡ style.line = search rules in
-    numbers_are style c.args.is_last items _ _ _ c.page_badness-badness.result goal-is
+    numbers_are style c.args.is_last items _ _ _ c.page_badness-badness.result goal_is
     (to_z-of_z w64 c.total.result (record { sfits = search rules }) ∙ size_is style _ _ c.total.result items (search rules) (search rules) (c.total.ensures.sums _ _ items c.sums_of-sums.ensures))
-    (badness_is style _ _ _ c.args.is_last c.page_badness-badness.result items (search rules) (search rules) goal-is (c.page_badness-badness.ensures _ _ items c.sums_of-sums.ensures))
+    (badness_is style _ _ _ c.args.is_last c.page_badness-badness.result items (search rules) (search rules) goal_is (c.page_badness-badness.ensures _ _ items c.sums_of-sums.ensures))
     (to_z-of_z w64 c.demerits.result (record { sfits = search rules }) ∙ c.demerits.ensures ∙ ap (λ (n : ℕ). square (pos (n + c.page_badness-badness.result))) line)

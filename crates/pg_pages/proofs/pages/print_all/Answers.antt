@@ -8,14 +8,14 @@ use Rattle.pg_plan.specs.Order.{columns_of}
 use Rattle.pg_rules.specs.Legal.{document}
 use Rattle.pg_pages.specs.PageText.{head_line, columns_text, page_text}
 use Rattle.pg_pages.specs.PlainText.{ArePlainPages, text_of_page}
-use Rattle.pg_pages.proofs.PlainPages.{all-at, all-take, page-more}
+use Rattle.pg_pages.proofs.PlainPages.{all_at, all_take, page_more}
 use Rattle.pg_pages.proofs.Singles.{one_more, grows_on, take_whole}
 use Rattle.pg_pages.proofs.pages.print_all.Goals as goal
 
 pub print_page-requires-clause-page : goal.print_page-requires-clause-page
 print_page-requires-clause-page c =
     let doc = document c.args.galley.now c.args.style.now in
-    all-at doc c.as_slice-pages.result.now c.loop-page.page-index c.page-item.result c.loop-page-test.true c.page-item.is
+    all_at doc c.as_slice-pages.result.now c.loop-page.page-index c.page-item.result c.loop-page-test.true c.page-item.is
     (subst (λ (pages : List Page). ArePlainPages doc pages) (sym c.as_slice-pages.ensures) c.requires.pages)
 
 pub loop-page-preserved : goal.loop-page-preserved
@@ -28,8 +28,8 @@ loop-page-preserved c =
     let old = c.args.out.now.items in
     let head = head_line (length pages) (to_z w128 (of_z w128 c.args.cost)) c.args.galley.now.width in
     let all = subst (λ (them : List Page). ArePlainPages doc them) (sym c.as_slice-pages.ensures) c.requires.pages in
-    let is = all-at doc pages i page c.loop-page-test.true c.page-item.is all in
-    let more = page-more doc c.requires.plain c.requires.rigid done page (all-take doc i pages all) is in
+    let is = all_at doc pages i page c.loop-page-test.true c.page-item.is all in
+    let more = page_more doc c.requires.plain c.requires.rigid done page (all_take doc i pages all) is in
     let taken = length-take i pages in
     let number : c.loop-page.number + 1 ≡ length done + 1 = omega (arith, taken, c.loop-page.invariant.number, c.loop-page-test.true) in
     let longer = ap (λ (them : List Page). columns_text doc (columns_of (reverse them))) (one_more pages i page c.loop-page-test.true c.page-item.is) ∙ more in

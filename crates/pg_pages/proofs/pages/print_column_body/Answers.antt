@@ -5,8 +5,8 @@ use Rattle.pg_flat.specs.Totals.{trimmed}
 use Rattle.pg_plain.specs.Plain.{single_items, items_between}
 use Rattle.pg_rules.specs.Legal.{document}
 use Rattle.pg_pages.specs.PlainText.{numbers_text, numbers_between, text_between, text_of_items}
-use Rattle.pg_plain.proofs.Singles.{rigid-single}
-use Rattle.pg_pages.proofs.Numbers.{between-items}
+use Rattle.pg_plain.proofs.Singles.{rigid_single}
+use Rattle.pg_pages.proofs.Numbers.{between_items}
 use Rattle.pg_pages.proofs.Singles.{on_ok, two_parts}
 use Rattle.pg_pages.proofs.pages.print_column_body.Goals as goal
 
@@ -17,7 +17,7 @@ returns-clause-ok c =
     let to = c.args.to in
     let here = c.as_slice.ensures.blocks ∙ c.blocks-2.ensures.blocks in
     let items = ap (λ (blocks : List Block). single_items (take (to - from) (drop from blocks))) here
-    ∙ between-items doc.blocks from to (rigid-single doc.blocks c.requires.rigid) in
+    ∙ between_items doc.blocks from to (rigid_single doc.blocks c.requires.rigid) in
     let topskip : to_z w32 (of_z w32 c.style.inside.topskip) ≡ doc.style.topskip = search rules in
     let numbers = c.in_ok-print_numbers.ensures.ok
     ∙ ap (λ it. c.args.out.now.items ++ numbers_text it) c.numbers_between.ensures in

@@ -1,7 +1,7 @@
 use Rattle.std.proofs.Common.{◌≡◌, length}
 use Rattle.std.specs.Cmp.Lexicographic.{slice_cmp}
 use Rattle.pg_plan.specs.Order.{column_cmp, plan_cmp}
-use Rattle.pg_plan.specs.Back.{moves_left}
+use Rattle.pg_plan.specs.Backwards.{moves_left}
 use Rattle.pg_plan.proofs.comparing.compare.Given as goal
 
 abbrev pub invariant-columns : goal.invariant-columns

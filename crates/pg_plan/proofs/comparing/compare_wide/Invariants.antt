@@ -1,6 +1,6 @@
 use Rattle.std.proofs.Common.{◌≡◌, length}
 use Rattle.pg_plan.specs.Order.{counts_cmp}
-use Rattle.pg_plan.specs.Back.{wide_of}
+use Rattle.pg_plan.specs.Backwards.{wide_of}
 use Rattle.pg_plan.proofs.comparing.compare_wide.Given as goal
 
 abbrev pub invariant-counts : goal.invariant-counts

@@ -1,6 +1,6 @@
 use Rattle.std.proofs.Common.{◌≡◌, ◌∙◌, ap, sym, arith, length, nat_eq, true, List, ◌∷◌, ℕ}
 use Rattle.std.proofs.lemmas.Bool.Decides.{nat_tests}
-use Rattle.pg_lines.specs.Lines.{raw_lines, joined}
+use Rattle.pg_scan.specs.Lines.{raw_lines, joined}
 use Rattle.pg_showbox.specs.Reading.{run, line_read}
 use Rattle.std.specs.Prelude.{Err}
 use Rattle.pg_showbox.proofs.RunLemmas.{run_more, run_fault, run_end, no_raw_lines, joined_none, err_runs}
@@ -10,7 +10,7 @@ pub returns-in-Ok-None-clause-run : goal.returns-in-Ok-None-clause-run
 returns-in-Ok-None-clause-run c =
     let none = rw c.in-Ok-None.field-0-is at c.in-Ok-None.ensures.line in
     c.lines.invariant.said
-    ∙ run_end c.args.is_file c.lines.draft (joined c.args.wrap c.lines.number (raw_lines c.lines.rest.now))
+    ∙ run_end c.args.is_file c.lines.state (joined c.args.wrap c.lines.number (raw_lines c.lines.rest.now))
     (joined_none c.args.wrap c.lines.number (raw_lines c.lines.rest.now) none)
 
 pub returns-in-Err-read_line-clause-run : goal.returns-in-Err-read_line-clause-run
@@ -22,11 +22,11 @@ returns-in-Err-read_line-clause-run c =
     } ∷ joined c.args.wrap c.in-Ok-Some.found.1 (raw_lines c.in-Ok-Some.found.0.now) =
     more ∙ ap (λ (text : List ℕ). record { number = c.lines.number; text = text } ∷ joined c.args.wrap
     c.in-Ok-Some.found.1 (raw_lines c.in-Ok-Some.found.0.now)) (sym c.deref.ensures.value) in
-    err_runs c.in-Err-read_line.kind (line_read c.args.is_file c.lines.draft c.deref.result.now) c.read_line.new.draft
-    (run c.args.is_file c.args.draft.now (joined c.args.wrap c.args.first (raw_lines c.args.text.now))
+    err_runs c.in-Err-read_line.kind (line_read c.args.is_file c.lines.state c.deref.result.now) c.read_line.new.state
+    (run c.args.is_file c.args.state.now (joined c.args.wrap c.args.first (raw_lines c.args.text.now))
     ≡ Err (record { line = c.lines.number; kind = c.in-Err-read_line.kind }))
     c.in-Err-read_line.ensures.step
-    (λ e. c.lines.invariant.said ∙ run_fault c.args.is_file c.lines.draft
+    (λ e. c.lines.invariant.said ∙ run_fault c.args.is_file c.lines.state
     (joined c.args.wrap c.lines.number (raw_lines c.lines.rest.now))
     (joined c.args.wrap c.in-Ok-Some.found.1 (raw_lines c.in-Ok-Some.found.0.now)) c.lines.number
     c.deref.result.now c.in-Err-read_line.kind lines e)
@@ -43,7 +43,7 @@ lines-preserved c =
     more ∙ ap (λ (text : List ℕ). record { number = c.lines.number; text = text } ∷ joined c.args.wrap
     c.in-Ok-Some.found.1 (raw_lines c.in-Ok-Some.found.0.now)) (sym c.deref.ensures.value) in
     record {
-      said = c.lines.invariant.said ∙ run_more c.args.is_file c.lines.draft c.read_line.new.draft
+      said = c.lines.invariant.said ∙ run_more c.args.is_file c.lines.state c.read_line.new.state
           (joined c.args.wrap c.lines.number (raw_lines c.lines.rest.now))
           (joined c.args.wrap c.in-Ok-Some.found.1 (raw_lines c.in-Ok-Some.found.0.now)) c.lines.number
           c.deref.result.now lines c.in-Ok.ensures.step;
@@ -57,7 +57,7 @@ returns-clause-run c =
     let test : nat_eq (length c.lines.rest.now) 0 ≡ true = sym c.is_empty.ensures ∙ c.lines-test.false in
     let empty : length c.lines.rest.now ≡ 0 = grind (arith, nat_tests) in
     c.lines.invariant.said
-    ∙ run_end c.args.is_file c.lines.draft (joined c.args.wrap c.lines.number (raw_lines c.lines.rest.now))
+    ∙ run_end c.args.is_file c.lines.state (joined c.args.wrap c.lines.number (raw_lines c.lines.rest.now))
     (joined_none c.args.wrap c.lines.number (raw_lines c.lines.rest.now) (no_raw_lines c.lines.rest.now empty))
 
 pub returns-clause-last : goal.returns-clause-last

@@ -9,7 +9,7 @@ use Rattle.pg_stylefile.proofs.classes.read_classes.Goals as goal
 pub returns-in_err-add_class-clause-value : goal.returns-in_err-add_class-clause-value
 returns-in_err-add_class-clause-value c =
     let fault =
-    fault_at c.in_err-add_class.field-0.0.kind c.in_err-add_class.field-0.0.place c.in_err-add_class.field-0.0.key.now in
+    fault_at c.in_err-add_class.field-0.0.kind c.in_err-add_class.field-0.0.table_name c.in_err-add_class.field-0.0.key.now in
     let refused : classes_of (tables_in c.args.tables.now.values.now) ≡ Err fault =
     class_refused c.loop-position.position (tables_in c.args.tables.now.values.now)
     (table_view c.at.result.now) c.loop-position.classes fault _

@@ -12,7 +12,7 @@ returns-in_err-first-clause-value c =
     let same : to_z w32 (of_z w32 c.args.height) ≡ c.args.height =
     to_z-of_z {w = w32} {z = c.args.height} (record { sfits = c.ranges.height.sfits }) in
     let fault =
-    fault_at c.in_err-first.field-0.0.kind c.in_err-first.field-0.0.place c.in_err-first.field-0.0.key.now in
+    fault_at c.in_err-first.field-0.0.kind c.in_err-first.field-0.0.table_name c.in_err-first.field-0.0.key.now in
     let refused : runs_of c.args.height (tables_in c.args.tables.now.values.now) ≡ Err fault =
     first_refused c.args.height (tables_in c.args.tables.now.values.now)
     (table_view c.at.result.now) fault c.at.ensures (rw same at c.in_err-first.ensures.value) in
@@ -22,7 +22,7 @@ pub returns-in_err-run-clause-value : goal.returns-in_err-run-clause-value
 returns-in_err-run-clause-value c =
     let same : to_z w32 (of_z w32 c.args.height) ≡ c.args.height =
     to_z-of_z {w = w32} {z = c.args.height} (record { sfits = c.ranges.height.sfits }) in
-    let fault = fault_at c.in_err-run.field-0.0.kind c.in_err-run.field-0.0.place c.in_err-run.field-0.0.key.now in
+    let fault = fault_at c.in_err-run.field-0.0.kind c.in_err-run.field-0.0.table_name c.in_err-run.field-0.0.key.now in
     let refused : runs_of c.args.height (tables_in c.args.tables.now.values.now) ≡ Err fault =
     run_refused c.args.height c.loop-position.position (tables_in c.args.tables.now.values.now)
     (table_view c.at-in-loop-position.result.now) fault c.loop-position.runs _

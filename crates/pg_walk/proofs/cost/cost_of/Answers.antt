@@ -5,7 +5,7 @@ use Rattle.pg_flat.specs.Badness.{page_badness}
 use Rattle.pg_flat.specs.Totals.{total, trimmed}
 use Rattle.pg_flat.specs.Whole.{square}
 use Rattle.pg_rules.specs.ColumnRules.{fitness_by}
-use Rattle.pg_walk.proofs.Items.{costs-are}
+use Rattle.pg_walk.proofs.Items.{costs_are}
 use Rattle.pg_walk.proofs.cost.cost_of.Goals as goal
 
 pub returns : goal.returns
@@ -24,7 +24,7 @@ returns c = λ items n sums spent penalty.
     ∙ ap (λ (k : ℕ). square (pos (k + c.page_badness-badness.result))) line)
     ∙ ap (λ (z : ℤ). square (pos (style.line + c.page_badness-badness.result)) +ℤ z)
     (to_z-of_z w64 c.penalty_demerits.result (record { sfits = search rules }) ∙ c.penalty_demerits.ensures.value) in
-    costs-are style c.args.room items n _ _ _ _ _ _ goal
+    costs_are style c.args.room items n _ _ _ _ _ _ goal
     (to_z-of_z w64 c.total-total.result (record { sfits = search rules })
     ∙ c.total-total.ensures.sums _ _ (take n items) sums)
     badness

@@ -3,26 +3,26 @@ use Rattle.std.proofs.lemmas.Int.{to_z-of_z}
 use Rattle.pg_flat.specs.Badness.{is_over}
 use Rattle.pg_flat.specs.Totals.{shrink, total, trimmed}
 use Rattle.pg_walk.specs.Walk.{cost_at, items_from, is_over_at}
-use Rattle.pg_walk.proofs.Below.{end-some, not-end, over-end, under-end}
-use Rattle.pg_walk.proofs.Step.{joined-ends, kept-end, penalty-is}
+use Rattle.pg_walk.proofs.Below.{end-some, not_end, over-end, under-end}
+use Rattle.pg_walk.proofs.Step.{joined_ends, kept_end, penalty_is}
 use Rattle.pg_walk.proofs.walk.try_end.Goals as goal
 
 pub returns-in_default-clause-ends : goal.returns-in_default-clause-ends
 returns-in_default-clause-ends c =
     let blocks = c.args.galley.now.blocks in
-    let none = sym (penalty-is blocks c.rest_of.result.now c.args.start.block c.args.index _ _ c.args.sums.now
+    let none = sym (penalty_is blocks c.rest_of.result.now c.args.start.block c.args.index _ _ c.args.sums.now
     c.end_penalty.result c.requires.single c.rest_of.ensures.blocks c.requires.sums c.end_penalty.ensures)
     ∙ c.in_default.is in
-    c.requires.ends ∙ sym (not-end c.args.style.now c.args.start.room
+    c.requires.ends ∙ sym (not_end c.args.style.now c.args.start.room
     (items_from blocks c.args.start.block) c.args.start.block c.args.index none).0
 
 pub returns-in_default-clause-passable : goal.returns-in_default-clause-passable
 returns-in_default-clause-passable c =
     let blocks = c.args.galley.now.blocks in
-    let none = sym (penalty-is blocks c.rest_of.result.now c.args.start.block c.args.index _ _ c.args.sums.now
+    let none = sym (penalty_is blocks c.rest_of.result.now c.args.start.block c.args.index _ _ c.args.sums.now
     c.end_penalty.result c.requires.single c.rest_of.ensures.blocks c.requires.sums c.end_penalty.ensures)
     ∙ c.in_default.is in
-    sym (not-end c.args.style.now c.args.start.room
+    sym (not_end c.args.style.now c.args.start.room
     (items_from blocks c.args.start.block) c.args.start.block c.args.index none).1
 
 pub returns-then-over-clause-ends : goal.returns-then-over-clause-ends
@@ -30,7 +30,7 @@ returns-then-over-clause-ends c =
     let blocks = c.args.galley.now.blocks in
     let style = c.args.style.now in
     let items = items_from blocks c.args.start.block in
-    let some = sym (penalty-is blocks c.rest_of.result.now c.args.start.block c.args.index _ _ c.args.sums.now
+    let some = sym (penalty_is blocks c.rest_of.result.now c.args.start.block c.args.index _ _ c.args.sums.now
     c.end_penalty.result c.requires.single c.rest_of.ensures.blocks c.requires.sums c.end_penalty.ensures)
     ∙ c.in-Some.is in
     let room = to_z-of_z w64 c.args.start.room (record { sfits = search rules }) in
@@ -46,7 +46,7 @@ returns-then-over-clause-passable c =
     let blocks = c.args.galley.now.blocks in
     let style = c.args.style.now in
     let items = items_from blocks c.args.start.block in
-    let some = sym (penalty-is blocks c.rest_of.result.now c.args.start.block c.args.index _ _ c.args.sums.now
+    let some = sym (penalty_is blocks c.rest_of.result.now c.args.start.block c.args.index _ _ c.args.sums.now
     c.end_penalty.result c.requires.single c.rest_of.ensures.blocks c.requires.sums c.end_penalty.ensures)
     ∙ c.in-Some.is in
     let room = to_z-of_z w64 c.args.start.room (record { sfits = search rules }) in
@@ -61,7 +61,7 @@ pub is_forced_at-is_forced-requires-clause-penalty :
 is_forced_at-is_forced-requires-clause-penalty c =
     let blocks = c.args.galley.now.blocks in
     let items = items_from blocks c.args.start.block in
-    let some = sym (penalty-is blocks c.rest_of.result.now c.args.start.block c.args.index _ _ c.args.sums.now
+    let some = sym (penalty_is blocks c.rest_of.result.now c.args.start.block c.args.index _ _ c.args.sums.now
     c.end_penalty.result c.requires.single c.rest_of.ensures.blocks c.requires.sums c.end_penalty.ensures)
     ∙ c.in-Some.is in
     end-some c.args.style.now c.args.start.room items c.args.start.block c.args.index c.in-Some.penalty some
@@ -72,7 +72,7 @@ returns-clause-ends c =
     let blocks = c.args.galley.now.blocks in
     let style = c.args.style.now in
     let items = items_from blocks c.args.start.block in
-    let some = sym (penalty-is blocks c.rest_of.result.now c.args.start.block c.args.index _ _ c.args.sums.now
+    let some = sym (penalty_is blocks c.rest_of.result.now c.args.start.block c.args.index _ _ c.args.sums.now
     c.end_penalty.result c.requires.single c.rest_of.ensures.blocks c.requires.sums c.end_penalty.ensures)
     ∙ c.in-Some.is in
     let room = to_z-of_z w64 c.args.start.room (record { sfits = search rules }) in
@@ -87,17 +87,17 @@ returns-clause-ends c =
     let ended = end-some style c.args.start.room items c.args.start.block c.args.index c.in-Some.penalty some
     ∙ ap Some (sym price) in
     let cost = c.cost_of-cost.ensures items c.args.index c.requires.sums c.is_spent_from-is_spent.ensures ended in
-    let added = kept-end style c.args.start.room items c.args.start.block c.args.index
+    let added = kept_end style c.args.start.room items c.args.start.block c.args.index
     c.is_forced_at-is_forced.result c.cost_of-cost.result
     (cost ∙ ap (λ (z : ℤ). cost_at style z items c.args.index) room) in
-    joined-ends _ _ _ _ _ _ c.in_ok-if_tolerable.ensures c.requires.ends added step.0
+    joined_ends _ _ _ _ _ _ c.in_ok-if_tolerable.ensures c.requires.ends added step.0
 
 pub returns-clause-passable : goal.returns-clause-passable
 returns-clause-passable c =
     let blocks = c.args.galley.now.blocks in
     let style = c.args.style.now in
     let items = items_from blocks c.args.start.block in
-    let some = sym (penalty-is blocks c.rest_of.result.now c.args.start.block c.args.index _ _ c.args.sums.now
+    let some = sym (penalty_is blocks c.rest_of.result.now c.args.start.block c.args.index _ _ c.args.sums.now
     c.end_penalty.result c.requires.single c.rest_of.ensures.blocks c.requires.sums c.end_penalty.ensures)
     ∙ c.in-Some.is in
     let room = to_z-of_z w64 c.args.start.room (record { sfits = search rules }) in

@@ -4,7 +4,7 @@ use Rattle.pg_flat.specs.Break.{passes_between}
 use Rattle.pg_sums.specs.AreSums.{AreSums}
 use Rattle.pg_walk.specs.Walk.{ends_below, is_over_at, items_from}
 use Rattle.pg_walk.proofs.Below.{none-below, passes-more, stopped}
-use Rattle.pg_walk.proofs.Step.{next-sums}
+use Rattle.pg_walk.proofs.Step.{next_sums}
 use Rattle.pg_walk.proofs.walk.walk.Goals as goal
 
 pub loop-index-init : goal.loop-index-init
@@ -63,7 +63,7 @@ loop-index-preserved c =
     let next : suc c.loop-index.index ≡ c.loop-index.index + 1 = omega arith in
     record {
       sums = subst (λ (k : ℕ). AreSums style.topskip style.maxdepth (take k items) c.add_block.new.sums) next
-          (next-sums blocks c.rest_of-blocks.result.now c.args.start.block c.loop-index.index
+          (next_sums blocks c.rest_of-blocks.result.now c.args.start.block c.loop-index.index
           c.index-blocks-index.result style.topskip style.maxdepth c.loop-index.sums c.add_block.new.sums
           c.requires.single c.rest_of-blocks.ensures.blocks c.loop-index-test.true c.index-blocks-index.is
           c.loop-index.invariant.sums c.add_block.ensures);

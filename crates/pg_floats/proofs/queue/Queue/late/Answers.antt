@@ -1,8 +1,8 @@
 use Rattle.std.proofs.Common.{◌≡◌, ◌∙◌, ap, sym, subst, length, List, ℕ}
 use Rattle.std.specs.Prelude.{sum}
-use Rattle.pg_rules.specs.Legal.{distance_table}
+use Rattle.pg_rules.specs.Floats.{distance_table}
 use Rattle.pg_floats.specs.QueueValue.{QueueValue, late_by, late_of}
-use Rattle.pg_floats.proofs.Queues.{small, none-is}
+use Rattle.pg_floats.proofs.Queues.{small, none_is}
 use Rattle.pg_floats.proofs.queue.Queue.late.Goals as goal
 
 pub returns-clause-small : goal.returns-clause-small
@@ -18,4 +18,4 @@ returns-clause-small c = λ none.
     ∙ (ap (λ (xs : List ℕ). late_by f 0 c.self.inside.waiting xs) c.as_slice-2.ensures
     ∙ ap (λ (q : QueueValue). late_of style q) c.self.view_is)) in
     small style c.args.self.now c.late_in_queue.ensures.range waits
-    (sym value ∙ none-is c.late_in_queue.result none)
+    (sym value ∙ none_is c.late_in_queue.result none)

@@ -2,7 +2,7 @@ use Rattle.std.proofs.Common.{◌≡◌, ◌∙◌, ap, sym, subst, List, ℕ, [
 use Rattle.std.specs.Prelude.{replicate}
 use Rattle.pg_rules.specs.Floats.{float_numbers}
 use Rattle.pg_floats.specs.QueueValue.{IsOf}
-use Rattle.pg_floats.proofs.Queues.{of-none}
+use Rattle.pg_floats.proofs.Queues.{of_none}
 use Rattle.pg_floats.proofs.queue.Queue.start.Goals as goal
 
 pub returns-clause-of : goal.returns-clause-of
@@ -15,5 +15,5 @@ returns-clause-of c =
     let Q : List ℕ → Type 0 =
     λ xs. IsOf style (record { placed = c.zeros.result; waiting = c.zeros-2.result; ages = xs }) in
     let start : IsOf style (record { placed = c.zeros.result; waiting = zeros; ages = [] }) =
-    record { slots = (of-none style).slots; young = (of-none style).young } in
+    record { slots = (of_none style).slots; young = (of_none style).young } in
     subst Q (sym c.new.ensures) (subst P waiting start)

@@ -1,6 +1,6 @@
 use Rattle.std.proofs.Common.{sym, subst, List, ℕ}
 use Rattle.pg_floats.specs.QueueValue.{IsOf, QueueValue, turned}
-use Rattle.pg_floats.proofs.Queues.{of-turned}
+use Rattle.pg_floats.proofs.Queues.{of_turned}
 use Rattle.pg_floats.proofs.queue.Queue.turn_page.Goals as goal
 
 pub returns-clause-of : goal.returns-clause-of
@@ -15,4 +15,4 @@ returns-clause-of c = λ old.
           ages;
     }) in
     subst Q (sym c.rise.ensures)
-    (subst P (sym c.self.view_is) (of-turned style c.args.self.now old.slots (sym c.in_default.ensures.value)))
+    (subst P (sym c.self.view_is) (of_turned style c.args.self.now old.slots (sym c.in_default.ensures.value)))

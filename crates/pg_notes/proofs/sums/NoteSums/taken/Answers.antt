@@ -3,7 +3,7 @@ use Rattle.std.specs.List.{sum_by}
 use Rattle.pg_style.specs.declared.style.Class.{Class}
 use Rattle.pg_notes.specs.declared.sums.NoteSum.{NoteSum}
 use Rattle.pg_notes.specs.NotesValue.{heights, NotesValue}
-use Rattle.pg_notes.proofs.Kept.{heights-few}
+use Rattle.pg_notes.proofs.Kept.{heights_few}
 use Rattle.pg_notes.proofs.sums.NoteSums.taken.Goals as goal
 
 few : (n count s h : ℕ) → n ≤ 8 → count ≤ 2 ^ 20 → s ≤ 2 ^ 30 * count → h ≤ 2 ^ 30 * n + s → h < 2 ^ 51
@@ -16,7 +16,7 @@ heights-requires c =
     let h = few (length classes) c.self.inside.count (sum_by (λ (sum : NoteSum). sum.size) c.self.inside.sums)
     (heights classes c.self.inside.sums)
     c.classes_of.ensures.range.few c.self.invariant.few c.self.invariant.bounded
-    (heights-few classes c.self.inside.sums c.classes_of.ensures.range.each) in
+    (heights_few classes c.self.inside.sums c.classes_of.ensures.range.each) in
     subst P (sym c.classes_of.ensures.classes) (omega (arith, h))
 
 pub returns-clause-value : goal.returns-clause-value
@@ -30,7 +30,7 @@ returns-clause-size c =
     let h = few (length classes) c.self.inside.count (sum_by (λ (sum : NoteSum). sum.size) c.self.inside.sums)
     (heights classes c.self.inside.sums)
     c.classes_of.ensures.range.few c.self.invariant.few c.self.invariant.bounded
-    (heights-few classes c.self.inside.sums c.classes_of.ensures.range.each) in
+    (heights_few classes c.self.inside.sums c.classes_of.ensures.range.each) in
     let e = c.heights.ensures
     ∙ ap (λ (list : List Class). heights list c.self.inside.sums) c.classes_of.ensures.classes in
     omega (arith, h, e)

@@ -12,4 +12,4 @@ pub returns-in-None : goal.returns-in-None
 unfolding due_at
 returns-in-None c =
     let found = table_get c.get.result c.args.key.now c.args.self.now.table.now.entries c.get.ensures.value in
-    rw (← rw c.in-None.is at found, c.fault.ensures.kind, c.fault.ensures.place, c.fault.ensures.key)
+    rw (← rw c.in-None.is at found, c.fault.ensures.kind, c.fault.ensures.table_name, c.fault.ensures.key)

@@ -1,0 +1,3 @@
+pub mod Stands
+pub mod FollowsToo
+pub mod Laws

@@ -1,4 +1,0 @@
-pub mod Stands
-pub mod FollowsToo
-pub mod Ranges
-pub mod Laws

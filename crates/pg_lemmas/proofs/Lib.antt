@@ -1,0 +1,4 @@
+pub mod Bools
+pub mod Numbers
+pub mod Lists
+pub mod Orders

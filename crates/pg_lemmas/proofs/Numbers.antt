@@ -1,0 +1,32 @@
+-- Numbers and their tests.
+use Rattle.std.proofs.Common.{◌≡◌, ◌≤◌, ◌<◌, ◌+◌, ℕ, suc, arith, subst, true, false, Bool}
+use Rattle.std.specs.Prelude.{◌==◌, nat_lt, nat_le, if◌then◌else◌, ℤ, pos, ◌≤ℤ◌, unsigned_abs}
+use Rattle.std.proofs.lemmas.Int.{ints}
+use Rattle.std.proofs.lemmas.Bool.Decides.{nat_tests}
+
+pub eq_refl : (a : ℕ) → (a == a) ≡ true
+eq_refl a = grind (arith, nat_tests)
+
+-- numbers that a test tells apart are not equal
+pub eq_not : (a b : ℕ) → (a == b) ≡ false → a ≡ b → ⊥
+eq_not a b f e = let t : (a == b) ≡ true = subst (λ (z : ℕ). (a == z) ≡ true) e (eq_refl a) in absurd cc
+
+pub less_of : (a b : ℕ) → a < b → nat_lt a b ≡ true
+less_of a b h = grind (arith, nat_tests)
+
+-- a number behind another is not 0
+pub suc_not : (j : ℕ) → (suc j == 0) ≡ false
+suc_not j = grind (arith, nat_tests)
+
+-- a number behind one that is not 0 is not 1
+pub not_first : (n : ℕ) → 1 ≤ n → (n + 1 == 1) ≡ false
+not_first n h = grind (arith, nat_tests)
+
+-- a bound on either is one on the chosen one
+pub few_if : (b : Bool) (x y n : ℕ) → x ≤ n → y ≤ n → (if b then x else y) ≤ n
+few_if true x y n h k = h
+few_if false x y n h k = k
+
+-- a number that is not negative is its size
+pub length_is : (z : ℤ) → pos 0 ≤ℤ z → z ≡ pos (unsigned_abs z)
+length_is z h = omega (arith, ints)

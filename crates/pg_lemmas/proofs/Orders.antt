@@ -1,0 +1,17 @@
+-- Orders.
+use Rattle.std.proofs.Common.{◌≡◌, refl, true, false, ap}
+use Rattle.std.specs.declared.cmp.Ordering.{Ordering}
+use Rattle.std.specs.declared.cmp.Ordering.TheVariants.{Less, Equal, Greater}
+use Rattle.std.specs.Ordering.{ordering_then, ordering_reverse, is_gt}
+
+-- where one is above the other, the other is not above the one
+pub not_gt_back : (o p : Ordering) → o ≡ ordering_reverse p → is_gt p ≡ true → is_gt o ≡ false
+not_gt_back o Greater e h = ap is_gt e
+not_gt_back o Less e h = cc
+not_gt_back o Equal e h = cc
+
+-- two orders, one after the other, say equal only where both do
+pub then_equal : (o p : Ordering) → ordering_then o p ≡ Equal → (o ≡ Equal) × (p ≡ Equal)
+then_equal Less p e = absurd cc
+then_equal Equal p e = (refl, e)
+then_equal Greater p e = absurd cc

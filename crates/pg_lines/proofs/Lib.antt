@@ -1,4 +1,0 @@
-pub mod LineLemmas
-pub mod WholeLemmas
-pub mod WholeReads
-pub mod CleanLines

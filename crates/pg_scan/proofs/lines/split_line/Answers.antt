@@ -1,0 +1,22 @@
+use Rattle.std.proofs.Common.{◌≡◌, ◌≤◌, ℕ, length, subst, add-one, ◌+◌, arith, sym, ◌∙◌, nat_eq, true, false}
+use Rattle.std.proofs.lemmas.Bool.Decides.{nat_tests}
+use Rattle.std.proofs.lemmas.List.{take_rest}
+use Rattle.pg_scan.proofs.LineLemmas.{no_line, last_line, a_line, nil_from_length}
+use Rattle.pg_scan.proofs.lines.split_line.Goals as goal
+
+pub returns-then-is_empty-clause-lines : goal.returns-then-is_empty-clause-lines
+returns-then-is_empty-clause-lines c =
+    let test : nat_eq (length c.args.text.now) 0 ≡ true = sym c.is_empty.ensures ∙ c.if-is_empty.true in
+    let empty : length c.args.text.now ≡ 0 = grind (arith, nat_tests) in
+    rw (nil_from_length c.args.text.now empty) no_line
+
+pub returns-then-len-text-clause-lines : goal.returns-then-len-text-clause-lines
+returns-then-len-text-clause-lines c =
+    let test : nat_eq (length c.args.text.now) 0 ≡ false = sym c.is_empty.ensures ∙ c.if-is_empty.false in
+    last_line c.args.text.now (grind (arith, nat_tests))
+    (subst (λ (n : ℕ). length c.args.text.now ≤ n) c.line_len-len.ensures c.if-len-text.true)
+
+pub returns-clause-lines : goal.returns-clause-lines
+returns-clause-lines c =
+    rw (take_rest c.args.text.now (c.line_len-len.result + 1), add-one)
+    (a_line c.args.text.now c.line_len-len.result c.line_len-len.ensures c.if-len-text.false)

@@ -1,0 +1,14 @@
+//! Any text, scanned: its lines, its parts between separators, fixed texts, names, and numbers.
+//!
+//! Proved: each line comes with its number, without the carriage returns at its end, and joined with what follows it
+//! where it is of the full width; no part is lost where a text is cut at a byte; a fixed text, a name or a number is
+//! found in front exactly where its definition says so. The definitions are in `specs/Lines` and `specs/Parts`.
+#![tactic(auto)]
+
+mod lines;
+mod numbers;
+mod parts;
+
+pub use lines::take_line;
+pub use numbers::{capped_value, whole_word};
+pub use parts::{letter_first, named, skip, skip_if, split_part};

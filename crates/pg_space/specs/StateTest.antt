@@ -1,0 +1,36 @@
+-- The test of a state under a plain style.
+use Rattle.std.specs.Prelude.{ℕ, Bool, true, false, ◌==◌, ◌&&◌, ◌||◌, not, nat_le, nat_lt, List, [], ◌∷◌, length, Option, Some, None}
+use Rattle.std.specs.Option.{option_map_or}
+use Rattle.pg_list.specs.declared.blocks.Block.{Block}
+use Rattle.pg_list.specs.declared.galley.Place.{Place}
+use Rattle.pg_list.specs.Places.{items_around}
+use Rattle.pg_plan.specs.declared.states.State.{State}
+use Rattle.pg_style.specs.Values.{StyleValue}
+use Rattle.pg_flat.specs.Flat.{end_of, is_same_place}
+use Rattle.pg_rules.specs.IsState.{not_first}
+use Rattle.pg_rules.specs.NoWorse.{is_same_side}
+use Rattle.pg_plan.specs.declared.states.Side.TheVariants.{S}
+
+-- an item stands there, or it is the end; the front of a choice has variant 0
+abbrev pub has_place : List Block → Place → Bool
+has_place blocks at = (is_same_place at (end_of blocks) || nat_lt at.index (length (items_around blocks at)))
+    && (not (at.index == 0) || (at.variant == 0))
+
+abbrev pub is_absent : {X : Type 0} → Option X → Bool
+is_absent None = true
+is_absent (Some x) = false
+
+abbrev pub is_empty_list : {X : Type 0} → List X → Bool
+is_empty_list [] = true
+is_empty_list (x ∷ xs) = false
+
+-- nothing but a place and a fitness
+abbrev pub has_plain_fields : State → Bool
+has_plain_fields u = (u.column == 1) && (is_same_side u.side S && (is_absent u.run && (is_absent u.wide
+    && (is_empty_list u.placed && is_empty_list u.ages))))
+
+abbrev pub has_fitness : StyleValue → Option ℕ → Bool
+has_fitness style fitness = option_map_or (λ (f : ℕ). not_first style.version && nat_le f 3) fitness true
+
+abbrev pub is_plain_state : List Block → StyleValue → State → Bool
+is_plain_state blocks style u = has_place blocks u.place && (has_plain_fields u && has_fitness style u.fitness)
