@@ -1,4 +1,5 @@
 -- No fault is found exactly where each column stands.
+use Rattle.std.specs.Option.{option_or}
 use Rattle.std.proofs.Common.{◌≡◌, refl, ℕ, ◌+◌, List, [], ◌∷◌, length, Bool, true, false, Option, Some, None}
 use Rattle.std.specs.Prelude.{◌&&◌}
 use Rattle.std.specs.List.{AllByRecursion}
@@ -8,7 +9,7 @@ use Rattle.pg_rules.specs.Room.{Document}
 use Rattle.pg_flat.specs.Flat.{is_same_place}
 use Rattle.pg_rules.specs.ColumnRules.{does_fit, is_well_formed, is_tolerable, passes_breaks, has_room, has_counts, keeps_note_limits, keeps_looseness}
 use Rattle.pg_rules.specs.History.{next_column, next_run, place_of, placed_of, context}
-use Rattle.pg_rules.specs.Legal.{or_else, unless, first_at_fault, faults_with, first_breach, misfilled, is_chained, is_near, has_wide_counts, deals_floats, has_callouts, has_run}
+use Rattle.pg_rules.specs.Legal.{unless, first_at_fault, faults_with, first_breach, misfilled, is_chained, is_near, has_wide_counts, deals_floats, has_callouts, has_run}
 use Rattle.pg_column_laws.specs.Stands.{Stand}
 use Rattle.pg_lemmas.proofs.Bools.{both_of, both}
 
@@ -16,11 +17,11 @@ abbrev pub EachKeeps : (PageMove → List PageMove → Bool) → List PageMove �
 EachKeeps keeps [] = Unit {0}
 EachKeeps keeps (m ∷ ms) = (keeps m ms ≡ true) × EachKeeps keeps ms
 
-pub or_none : (a b : Option ℕ) → or_else a b ≡ None → (a ≡ None) × (b ≡ None)
+pub or_none : (a b : Option ℕ) → option_or a b ≡ None → (a ≡ None) × (b ≡ None)
 or_none None b e = (refl, e)
 or_none (Some n) b e = absurd cc
 
-pub none_or : (a b : Option ℕ) → a ≡ None → b ≡ None → or_else a b ≡ None
+pub none_or : (a b : Option ℕ) → a ≡ None → b ≡ None → option_or a b ≡ None
 none_or None b p q = q
 none_or (Some n) b p q = absurd cc
 

@@ -16,6 +16,7 @@ pub record FlatItem : Type 0 where
   pub item : Item
   pub is_front : Bool
 
+-- the items of a variant behind its front
 abbrev pub later_flat_items : ℕ → ℕ → ℕ → List Item → List FlatItem
 later_flat_items block variant index [] = []
 later_flat_items block variant index (item ∷ items) =
@@ -38,12 +39,15 @@ flat_items_from n (Choice variants ∷ blocks) [] =
 flat_items_from n (Choice variants ∷ blocks) (pick ∷ picks) =
     variant_flat_items n pick (picked_items (Choice variants) pick) ++ flat_items_from (n + 1) blocks picks
 
+-- the items of all blocks with these picks, with their places
 abbrev pub flat_items : List Block → List ℕ → List FlatItem
 flat_items blocks picks = flat_items_from 0 blocks picks
 
+-- these items without their places
 abbrev pub flat : List Block → List ℕ → List Item
 flat blocks picks = map (λ (flat_item : FlatItem). flat_item.item) (flat_items blocks picks)
 
+-- equal in block, variant and index
 abbrev pub is_same_place : Place → Place → Bool
 is_same_place a b = (a.block == b.block) && (a.variant == b.variant) && (a.index == b.index)
 

@@ -25,11 +25,13 @@ full_size (Glue width stretch order shrink body) = width
 full_size (Kern width body) = width
 full_size _ = pos 0
 
+-- the height of a box or rule
 abbrev pub height_of : Item → ℤ
 height_of (BoxItem height depth body) = height
 height_of (Rule height depth body) = height
 height_of _ = pos 0
 
+-- the depth of a box or rule
 abbrev pub depth_of : Item → ℤ
 depth_of (BoxItem height depth body) = depth
 depth_of (Rule height depth body) = depth
@@ -57,6 +59,7 @@ abbrev pub total : ℤ → ℤ → List Item → ℤ
 total topskip maxdepth items =
     (top_glue topskip items +ℤ whole_sum_by full_size items) -ℤ depth maxdepth items
 
+-- equal orders of infinity
 abbrev pub is_same_order : Order → Order → Bool
 is_same_order Finite Finite = true
 is_same_order Fil Fil = true
@@ -64,16 +67,20 @@ is_same_order Fill Fill = true
 is_same_order Filll Filll = true
 is_same_order _ _ = false
 
+-- the stretch of glue, where it is of this order
 abbrev pub stretch_of : Order → Item → ℤ
 stretch_of order (Glue width amount own shrink body) = if is_same_order order own then amount else pos 0
 stretch_of order _ = pos 0
 
+-- the shrink of glue
 abbrev pub shrink_of : Item → ℤ
 shrink_of (Glue width stretch order amount body) = amount
 shrink_of _ = pos 0
 
+-- the stretch of this order in all
 abbrev pub stretch : Order → List Item → ℤ
 stretch order items = whole_sum_by (stretch_of order) items
 
+-- the shrink in all
 abbrev pub shrink : List Item → ℤ
 shrink items = whole_sum_by shrink_of items

@@ -1,4 +1,5 @@
 -- The callouts that are kept, and the floats of the definition.
+use Rattle.std.specs.Option.{option_or}
 use Rattle.std.proofs.Common.{◌≡◌, refl, sym, ap, ◌∙◌, ℕ, suc, ◌+◌, ◌*◌, ◌<◌, ◌≤◌, List, [], ◌∷◌, ◌++◌, length}
 use Rattle.std.proofs.Common.{length-append, map, arith, Bool, true, false, Option, Some, None, ℤ, pos}
 use Rattle.std.specs.Prelude.{◌==◌, if◌then◌else◌, option_map, is_none, unsigned_abs, Result, Ok, Err}
@@ -21,7 +22,6 @@ use Rattle.pg_style.specs.Ranges.{AreClasses}
 use Rattle.pg_style.specs.Values.{StyleValue}
 use Rattle.pg_style.specs.declared.style.Class.{Class}
 use Rattle.pg_rules.specs.Floats.{sizes_of, insert_size, float_numbers}
-use Rattle.pg_rules.specs.Legal.{or_else}
 use Rattle.pg_place_laws.proofs.Measures.{variant_items}
 use Rattle.pg_place_laws.proofs.Places.{begins}
 use Rattle.pg_floats.proofs.Numbers.{numbers_are}
@@ -150,12 +150,12 @@ total_few blocks (class ∷ classes) all =
 
 -- ---- the first strange insert
 
-find_append : (p : ℕ → Bool) (xs ys : List ℕ) → find p (xs ++ ys) ≡ or_else (find p xs) (find p ys)
+find_append : (p : ℕ → Bool) (xs ys : List ℕ) → find p (xs ++ ys) ≡ option_or (find p xs) (find p ys)
 find_append p [] ys = refl
 find_append p (x ∷ xs) ys = by (p x) (find_append p xs ys)
   where
-    by : (t : Bool) → find p (xs ++ ys) ≡ or_else (find p xs) (find p ys) →
-        (if t then Some x else find p (xs ++ ys)) ≡ or_else (if t then Some x else find p xs) (find p ys)
+    by : (t : Bool) → find p (xs ++ ys) ≡ option_or (find p xs) (find p ys) →
+        (if t then Some x else find p (xs ++ ys)) ≡ option_or (if t then Some x else find p xs) (find p ys)
     by true e = refl
     by false e = e
 
@@ -163,7 +163,7 @@ pub strange_is : (classes : List Class) (blocks : List Block) →
     unknown_blocks classes blocks ≡ unknown_among classes (first_items blocks)
 strange_is classes [] = refl
 strange_is classes (block ∷ blocks) =
-    ap (or_else (unknown_among classes (picked_items block 0))) (strange_is classes blocks)
+    ap (option_or (unknown_among classes (picked_items block 0))) (strange_is classes blocks)
     ∙ sym (ap (find (λ number. is_none (class_in classes number)))
     (filter_map-append insert_class (picked_items block 0) (first_items blocks))
     ∙ find_append (λ number. is_none (class_in classes number)) (filter_map insert_class (picked_items block 0))

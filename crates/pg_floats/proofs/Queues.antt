@@ -3,7 +3,7 @@ use Rattle.std.proofs.Common.{◌≡◌, ◌≢◌, refl, sym, ap, ◌∙◌, su
 use Rattle.std.proofs.Common.{◌++◌, length, map, take, drop, get_or, set, add-one, arith, Bool, true, false, Option}
 use Rattle.std.proofs.Common.{Some, None, length-drop}
 use Rattle.std.specs.Prelude.{◌==◌, if◌then◌else◌, nat_le, slice_get, sum, replicate, IsNone}
-use Rattle.std.specs.Option.{option_map_or}
+use Rattle.std.specs.Option.{option_map_or, option_or}
 use Rattle.std.specs.List.{AllByRecursion, filter, insert, remove}
 use Rattle.std.proofs.lemmas.Bool.Decides.{nat_tests}
 use Rattle.std.proofs.lemmas.List.{take-append-drop}
@@ -18,7 +18,7 @@ use Rattle.pg_style.specs.declared.style.Kind.TheVariants.{Note, Float}
 use Rattle.pg_rules.specs.Floats.{float_kind, float_numbers}
 use Rattle.pg_rules.specs.Floats.{distance_table}
 use Rattle.pg_floats.specs.declared.queue.Late.{Late}
-use Rattle.pg_floats.specs.QueueValue.{AreYoung, IsOf, IsQueue, QueueValue, none, late_in, late_by, late_of, or_late}
+use Rattle.pg_floats.specs.QueueValue.{AreYoung, IsOf, IsQueue, QueueValue, none, late_in, late_by, late_of}
 use Rattle.pg_floats.specs.QueueValue.{next_table, table_in, float_count_in, with_callout, with_placed}
 use Rattle.pg_floats.proofs.Numbers.{numbers_are}
 
@@ -132,9 +132,9 @@ late_same : (f g : ℕ → ℕ) → ((n : ℕ) → f n ≡ g n) → (slot : ℕ)
     late_by f slot waiting ages ≡ late_by g slot waiting ages
 late_same f g same slot [] ages = refl
 late_same f g same slot (count ∷ waiting) ages =
-    ap (λ n. or_late (late_in n slot (take count ages)) (late_by f (slot + 1) waiting (drop count ages)))
+    ap (λ n. option_or (late_in n slot (take count ages)) (late_by f (slot + 1) waiting (drop count ages)))
     (same slot)
-    ∙ ap (or_late (late_in (g slot) slot (take count ages)))
+    ∙ ap (option_or (late_in (g slot) slot (take count ages)))
     (late_same f g same (slot + 1) waiting (drop count ages))
 
 pub late_is : (style : StyleValue) (queue : QueueValue) → AreClasses style.classes →
@@ -171,7 +171,7 @@ none_by f slot (count ∷ waiting) ages e =
     let two = by (late_in (f slot) slot (take count ages)) (late_by f (slot + 1) waiting (drop count ages)) e in
     (none_in (f slot) slot (take count ages) two.0, none_by f (slot + 1) waiting (drop count ages) two.1)
   where
-    by : (o p : Option Late) → or_late o p ≡ None → (o ≡ None) × (p ≡ None)
+    by : (o p : Option Late) → option_or o p ≡ None → (o ≡ None) × (p ≡ None)
     by None p e = (refl, e)
     by (Some l) p e = absurd (cc)
 

@@ -1,4 +1,5 @@
 -- The callouts of a class, block by block.
+use Rattle.std.specs.Option.{option_or}
 use Rattle.std.specs.Prelude.{ℕ, ◌+◌, List, [], ◌∷◌, ◌++◌, map, Option, Some, None, option_map, is_none, ℤ}
 use Rattle.std.specs.Prelude.{unsigned_abs}
 use Rattle.std.specs.List.{filter, filter_map, find}
@@ -9,7 +10,6 @@ use Rattle.pg_list.specs.Places.{picked_items}
 use Rattle.pg_style.specs.Classes.{class_in, is_float_class}
 use Rattle.pg_style.specs.declared.style.Class.{Class}
 use Rattle.pg_rules.specs.Floats.{insert_size}
-use Rattle.pg_rules.specs.Legal.{or_else}
 use Rattle.pg_floats.specs.declared.callouts.Callout.{Callout}
 use Rattle.pg_floats.specs.FloatsValue.{ClassFloatsValue}
 use Rattle.pg_floats.specs.Places.{places_from}
@@ -58,4 +58,4 @@ lists_from blocks classes =
 abbrev pub unknown_blocks : List Class → List Block → Option ℕ
 unknown_blocks classes [] = None
 unknown_blocks classes (block ∷ blocks) =
-    or_else (unknown_among classes (picked_items block 0)) (unknown_blocks classes blocks)
+    option_or (unknown_among classes (picked_items block 0)) (unknown_blocks classes blocks)

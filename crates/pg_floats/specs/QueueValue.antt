@@ -1,4 +1,5 @@
 -- The floats that are placed and that wait, by class, and the ages of these.
+use Rattle.std.specs.Option.{option_or}
 use Rattle.std.specs.Prelude.{◌≡◌, ℕ, ◌+◌, ◌-◌, ◌<◌, ◌≤◌, ◌^◌, nat_le, ◌==◌, if◌then◌else◌, List, [], ◌∷◌, length}
 use Rattle.std.specs.Prelude.{map, sum, take, drop, slice_index, slice_set, replicate, Option, Some, None}
 use Rattle.std.specs.List.{insert, remove, AllByRecursion}
@@ -72,15 +73,11 @@ late_in limit slot [] = None
 late_in limit slot (age ∷ ages) =
     if nat_le limit (age + 1) then Some (record { slot = slot; age = limit }) else late_in limit slot ages
 
-abbrev pub or_late : Option Late → Option Late → Option Late
-or_late (Some late) other = Some late
-or_late None other = other
-
 -- the first by class and number, where each slot has a limit
 abbrev pub late_by : (ℕ → ℕ) → ℕ → List ℕ → List ℕ → Option Late
 late_by limit slot [] ages = None
 late_by limit slot (count ∷ waiting) ages =
-    or_late (late_in (limit slot) slot (take count ages)) (late_by limit (slot + 1) waiting (drop count ages))
+    option_or (late_in (limit slot) slot (take count ages)) (late_by limit (slot + 1) waiting (drop count ages))
 
 -- the float that would have waited too long
 abbrev pub late_of : StyleValue → QueueValue → Option Late

@@ -1,4 +1,5 @@
 //! The callouts of the floats of one class.
+ghost use Rattle.pg_list.specs.Counts.{item_limit};
 ghost use Rattle.std.specs.Prelude.{◌≡◌, ◌<◌, ◌≤◌, ◌+◌, ◌^◌, ◌++◌, ◌∷◌, [], OnOk, OnErr, IfOk, IfSome, length};
 ghost use Rattle.std.specs.Prelude.{slice_get};
 ghost use Rattle.std.specs.List.{AllByRecursion};
@@ -130,7 +131,7 @@ pub fn first_items_of(block: &Block) -> &[Item]
 /// The callouts of a class in a galley.
 pub fn callouts_of(alloc: Global, blocks: &[Block], number: u8) -> Result<Callouts, AllocError>
     requires shape { AllByRecursion IsBlock blocks.now }
-    requires few { length blocks.now ≤ 2 ^ 20 }
+    requires few { length blocks.now ≤ item_limit }
     ensures { IfOk result (λ callouts. callouts ≡ callouts_from number 0 blocks.now) }
 {
     let mut callouts = Callouts::new(alloc);

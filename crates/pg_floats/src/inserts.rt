@@ -2,7 +2,7 @@
 ghost use Rattle.std.specs.Prelude.{◌≡◌, ◌≤◌, ◌+◌, ◌^◌, ◌++◌, ℕ, List, OnOk, IfOk, length, take, true, false, is_some};
 ghost use Rattle.std.specs.List.{sum_by};
 ghost use Rattle.std.specs.List.Sorted.{IsPartitionedBy, IsPartitionPoint};
-ghost use Rattle.pg_list.specs.Counts.{block_size, item_count};
+ghost use Rattle.pg_list.specs.Counts.{block_size, item_count, item_limit};
 ghost use Rattle.pg_list.specs.Places.{items_around};
 ghost use Rattle.pg_list.specs.declared.blocks.Block.{Block as ABlock};
 ghost use Rattle.pg_list.specs.declared.variants.Variant.{Variant as AVariant};
@@ -31,7 +31,7 @@ fn push_places(
     number: u8,
     first: Place,
 ) -> Result<(), AllocError>
-    requires { first.index + length items.now ≤ 2 ^ 20 }
+    requires { first.index + length items.now ≤ item_limit }
     ensures { OnOk result (out.new.items
         ≡ out.old.items ++ places_in number first.block first.variant first.index items.now) }
 {
@@ -55,7 +55,7 @@ fn push_variants(
     block: u32,
 ) -> Result<(), AllocError>
     requires variants { length variants.now ≤ 5 }
-    requires items { sum_by (λ (variant : AVariant). length variant.items) variants.now ≤ 2 ^ 20 }
+    requires items { sum_by (λ (variant : AVariant). length variant.items) variants.now ≤ item_limit }
     ensures { OnOk result (out.new.items ≡ out.old.items ++ places_among number block 0 variants.now) }
 {
     let mut rest = variants;
@@ -75,7 +75,7 @@ fn push_variants(
 
 // Adds the places of a class's inserts in a block.
 fn push_block(out: &mut Vec<Place>, block: &Block, number: u8, index: u32) -> Result<(), AllocError>
-    requires { block_size block.now ≤ 2 ^ 20 }
+    requires { block_size block.now ≤ item_limit }
     ensures { OnOk result (out.new.items ≡ out.old.items ++ places_of_block number index block.now) }
 {
     match block {
@@ -93,8 +93,8 @@ fn push_block(out: &mut Vec<Place>, block: &Block, number: u8, index: u32) -> Re
 
 /// The places of a class's inserts in every variant of a galley, in order.
 pub fn places_of(alloc: Global, blocks: &[Block], number: u8) -> Result<Vec<Place>, AllocError>
-    requires blocks { length blocks.now ≤ 2 ^ 20 }
-    requires items { item_count blocks.now ≤ 2 ^ 20 }
+    requires blocks { length blocks.now ≤ item_limit }
+    requires items { item_count blocks.now ≤ item_limit }
     ensures { IfOk result (λ places. places.items ≡ places_from number 0 blocks.now) }
 {
     let mut places = Vec::new(alloc);

@@ -4,7 +4,7 @@ ghost use Rattle.std.specs.Prelude.{IfOk, IfSome, MatchOption, length, true, fal
 ghost use Rattle.std.specs.Prelude.{option_copied};
 ghost use Rattle.std.specs.List.{AllByRecursion};
 ghost use Rattle.std.specs.List.Sorted.{IsPartitionedBy, IsPartitionPoint};
-ghost use Rattle.pg_list.specs.Counts.{item_count};
+ghost use Rattle.pg_list.specs.Counts.{item_count, item_limit};
 ghost use Rattle.pg_list.specs.Shapes.{IsBlock};
 ghost use Rattle.pg_list.specs.declared.blocks.Block.{Block as ABlock};
 ghost use Rattle.pg_style.specs.Values.{StyleValue};
@@ -104,7 +104,7 @@ fn push_class(
     class: &Class,
 ) -> Result<(), AllocError>
     requires shape { AllByRecursion IsBlock blocks.now }
-    requires few { item_count blocks.now ≤ 2 ^ 20 }
+    requires few { item_count blocks.now ≤ item_limit }
     ensures { OnOk result (out.new.items ≡ out.old.items ++ lists_from blocks.now (class.now ∷ [])) }
 {
     if let Kind::Float { .. } = &class.kind {
@@ -125,7 +125,7 @@ fn lists_of(
     classes: &[Class],
 ) -> Result<Vec<ClassFloats>, AllocError>
     requires shape { AllByRecursion IsBlock blocks.now }
-    requires few { item_count blocks.now ≤ 2 ^ 20 }
+    requires few { item_count blocks.now ≤ item_limit }
     ensures { IfOk result (λ lists. lists.items ≡ lists_from blocks.now classes.now) }
 {
     let mut lists = Vec::new(alloc);
@@ -169,7 +169,7 @@ fn limited(lists: Vec<ClassFloats>) -> Result<FloatList, FloatFault>
 // The lists of classes that are in order.
 fn listed(alloc: Global, blocks: &[Block], classes: &[Class]) -> Result<FloatList, FloatFault>
     requires shape { AllByRecursion IsBlock blocks.now }
-    requires few { item_count blocks.now ≤ 2 ^ 20 }
+    requires few { item_count blocks.now ≤ item_limit }
     requires classes { length classes.now ≤ 8 }
     ensures { IsWithinLimit result (lists_from blocks.now classes.now) }
 {
@@ -183,7 +183,7 @@ fn listed(alloc: Global, blocks: &[Block], classes: &[Class]) -> Result<FloatLis
 fn blocks_of(galley: &Galley) -> &[Block]
     ensures blocks { result.now ≡ galley.now.blocks }
     ensures shape { AllByRecursion IsBlock galley.now.blocks }
-    ensures few { item_count galley.now.blocks ≤ 2 ^ 20 }
+    ensures few { item_count galley.now.blocks ≤ item_limit }
 {
     galley.blocks().as_slice()
 }

@@ -1,7 +1,7 @@
 -- The numbers that a galley keeps.
 use Rattle.std.specs.Prelude.{◌≡◌, ◌≤◌, ℕ, ℤ, List}
 use Rattle.pg_list.specs.declared.blocks.Block.{Block}
-use Rattle.pg_list.specs.Ranges.{IsScaled}
+use Rattle.pg_scaled.specs.Ranges.{IsScaled}
 use Rattle.pg_list.specs.Counts.{item_count, item_limit}
 use Rattle.pg_list.specs.Places.{tail, solid}
 

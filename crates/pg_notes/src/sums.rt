@@ -1,7 +1,8 @@
 //! The sums of notes by class.
 ghost use Rattle.std.specs.Prelude.{◌≡◌, ◌==◌, ℕ, List, ◌++◌, ◌∷◌, [], ◌+◌, ◌*◌, ◌<◌, ◌≤◌, ◌^◌, length, nat_abs, is_none, pos, ◌≤ℤ◌};
 ghost use Rattle.std.specs.List.{position, sum_by};
-ghost use Rattle.pg_list.specs.Ranges.{IsItemInRange, IsScaled};
+ghost use Rattle.pg_list.specs.Ranges.{IsItemInRange};
+ghost use Rattle.pg_scaled.specs.Ranges.{IsScaled};
 ghost use Rattle.pg_list.specs.declared.item.Item.{Item as AnItem};
 ghost use Rattle.pg_style.specs.Values.{StyleValue};
 ghost use Rattle.pg_style.specs.Ranges.{AreClasses, AreInOrder, IsStyle};

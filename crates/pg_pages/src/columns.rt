@@ -4,7 +4,7 @@ ghost use Rattle.std.specs.Int.{int_max};
 ghost use Rattle.std.specs.Option.{option_map_or};
 ghost use Rattle.std.specs.List.{AllByRecursion};
 ghost use Rattle.pg_list.specs.Shapes.{IsBlock};
-ghost use Rattle.pg_list.specs.Ranges.{IsScaled};
+ghost use Rattle.pg_scaled.specs.Ranges.{IsScaled};
 ghost use Rattle.pg_list.specs.declared.item.Item.{Item as AnItem};
 ghost use Rattle.pg_flat.specs.Rigid.{AreRigid};
 ghost use Rattle.pg_flat.specs.Totals.{top_glue, trimmed};

@@ -1,7 +1,7 @@
 //! The pages of a pagination.
 ghost use Rattle.std.specs.Prelude.{◌≡◌, ◌≤◌, ◌^◌, ◌++◌, ◌∷◌, [], OnOk, OnErr, length, decimal, codes, true};
 ghost use Rattle.std.specs.List.{AllByRecursion};
-ghost use Rattle.pg_list.specs.Ranges.{IsScaled};
+ghost use Rattle.pg_scaled.specs.Ranges.{IsScaled};
 ghost use Rattle.pg_list.specs.Shapes.{IsBlock};
 ghost use Rattle.pg_flat.specs.Rigid.{AreRigid};
 ghost use Rattle.pg_plan.specs.declared.states.Side.TheVariants.{S};

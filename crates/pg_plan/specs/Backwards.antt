@@ -9,6 +9,7 @@ use Rattle.pg_plan.specs.Order.{columns_of, page_moves}
 abbrev pub wide_of : Bool → List ℕ → List ℕ
 wide_of is_first counts = map (λ (n : ℕ). if is_first then n else 0) counts
 
+-- what is seen of a column, as a move
 abbrev pub move_of : MoveView → PageMove
 move_of seen = record { column = seen.column.now; run = seen.run; wide = wide_of seen.is_first seen.wide.now }
 

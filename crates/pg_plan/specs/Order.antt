@@ -9,15 +9,19 @@ use Rattle.pg_plan.specs.declared.pages.Page.{Page}
 use Rattle.pg_plan.specs.declared.pages.PageMove.{PageMove}
 use Rattle.pg_plan.specs.declared.pages.Pagination.{Pagination}
 
+-- places by block, variant, index
 abbrev pub place_cmp : Place → Place → Ordering
 place_cmp a b = ordering_then (nat_cmp a.block b.block) (ordering_then (nat_cmp a.variant b.variant) (nat_cmp a.index b.index))
 
+-- counts entry by entry from the first
 abbrev pub counts_cmp : List ℕ → List ℕ → Ordering
 counts_cmp = slice_cmp nat_cmp
 
+-- picks entry by entry from the last
 abbrev pub picks_cmp : List ℕ → List ℕ → Ordering
 picks_cmp a b = slice_cmp nat_cmp (reverse a) (reverse b)
 
+-- columns by end, start, run, wide counts, bottom counts, top counts, picks
 abbrev pub column_cmp : PageMove → PageMove → Ordering
 column_cmp a b =
     ordering_then (place_cmp a.column.to b.column.to)
@@ -32,6 +36,7 @@ column_cmp a b =
 abbrev pub no_floats : List ℕ → List ℕ
 no_floats counts = map (λ (_ : ℕ). 0) counts
 
+-- the columns of a page in order, the wide counts at the first alone
 abbrev pub page_moves : Page → List Column → List PageMove
 page_moves page [] = []
 page_moves page (column ∷ columns) =

@@ -12,6 +12,7 @@ use Rattle.pg_rules.specs.Room.{ColumnContext, is_text}
 abbrev pub with_picks : ColumnContext → List ℕ → ColumnContext
 with_picks it picks = record it { column = record it.column { picks = picks } }
 
+-- the move with other picks of its column
 abbrev pub repicked : PageMove → List ℕ → PageMove
 repicked m picks = record m { column = record m.column { picks = picks } }
 

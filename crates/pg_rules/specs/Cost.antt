@@ -21,18 +21,22 @@ abbrev pub penalty_demerits : ℤ → ℤ
 penalty_demerits (pos p) = square (pos p)
 penalty_demerits (negsuc p) = if int_lt (negsuc 9999) (negsuc p) then pos 0 -ℤ square (negsuc p) else pos 0
 
+-- what the first n items as a text cost: the square of line and badness, and what the penalty at their end adds
 abbrev pub text_demerits : ColumnContext → ℕ → ℤ
 text_demerits it n = square (pos (it.document.style.line + text_badness it n))
     +ℤ option_map_or penalty_demerits (break_penalty (items_of it) n) (pos 0)
 
+-- what a column costs by itself, with text or without
 abbrev pub column_demerits : ColumnContext → ℤ
 column_demerits it =
     if is_text it then option_map_or (text_demerits it) (size_of it) (pos 0)
     else pos it.document.style.float_column.demerits
 
+-- what the variants that the column picks cost
 abbrev pub pick_demerits : ColumnContext → ℤ
 pick_demerits it = whole_sum_by (λ (variant : Variant). pos variant.demerits) (column_variants it)
 
+-- what a page of this run costs; a run that does not exist costs nothing
 abbrev pub run_demerits : StyleValue → ℕ → ℤ
 run_demerits style run = option_map_or (λ (it : Run). pos it.demerits) (slice_get style.runs run) (pos 0)
 
@@ -41,9 +45,11 @@ abbrev pub float_demerits : StyleValue → (ℕ × ℕ → ℕ) → List (ℕ ×
 float_demerits style wait floats =
     whole_sum_by (λ (float : ℕ × ℕ). pos (slice_index (distance_table style float.0) (wait float))) floats
 
+-- two texts next to one another that are more than one step of fitness apart
 abbrev pub differs : ℕ → ℕ → Bool
 differs a b = not (nat_le a (b + 1) && nat_le b (a + 1))
 
+-- what a text pays for differing from the last text before it
 abbrev pub fitness_demerits : Option ℕ → ColumnContext → ℤ
 fitness_demerits fitness it = option_map_or (λ (last : ℕ). if is_text it && differs last (column_fitness it)
     then pos it.document.style.fitness else pos 0) fitness (pos 0)
@@ -55,11 +61,13 @@ column_cost it column fitness wait floats =
     +ℤ (((if column == 1 then run_demerits it.document.style it.run else pos 0)
     +ℤ float_demerits it.document.style wait floats) +ℤ fitness_demerits fitness it)
 
+-- what all columns add, each behind those before it
 abbrev pub cost_of : Document → List PageMove → ℤ
 cost_of doc [] = pos 0
 cost_of doc (m ∷ ms) = cost_of doc ms
     +ℤ column_cost (context doc m ms) (next_column doc.style ms) (fitness_of doc ms) (distance doc m ms)
     (added doc (placed_of doc.style ms) m)
 
+-- the cost of a pagination
 unfoldable pub cost : GalleyValue → StyleValue → Pagination → ℤ
 cost galley style plan = cost_of (document galley style) (columns plan)

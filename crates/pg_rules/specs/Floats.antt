@@ -16,6 +16,7 @@ use Rattle.pg_flat.specs.Flat.{flat, items_before}
 use Rattle.pg_list.specs.declared.galley.Place.{Place}
 use Rattle.pg_flat.specs.Whole.{whole_sum_by}
 
+-- the class of a number
 abbrev pub class_of : StyleValue → ℕ → Option Class
 class_of style number = find (λ (class : Class). class.number == number) style.classes
 
@@ -24,6 +25,7 @@ abbrev pub float_kind : Kind → Option (Area × List ℕ)
 float_kind (Note skip limit) = None
 float_kind (Float area distance) = Some (area, distance)
 
+-- the area and the distance table of the class of a number, where it is one of floats
 abbrev pub float_class : StyleValue → ℕ → Option (Area × List ℕ)
 float_class style number = option_map_or (λ (class : Class). float_kind class.kind) (class_of style number) None
 
@@ -38,6 +40,7 @@ abbrev pub insert_size : ℕ → Item → Option ℤ
 insert_size number (Insert class size body) = if class == number then Some size else None
 insert_size number _ = None
 
+-- the sizes of the inserts of a class, in order
 abbrev pub sizes_of : ℕ → List Item → List ℤ
 sizes_of number items = filter_map (insert_size number) items
 
@@ -76,6 +79,7 @@ dealt_from slot [] before counts = []
 dealt_from slot (own ∷ floats) before counts =
     take (entry counts slot) (drop (entry before slot) own) ++ dealt_from (slot + 1) floats before counts
 
+-- the next floats that counts deal out, where these counts were dealt out before
 abbrev pub dealt : {X : Type 0} → List (List X) → List ℕ → List ℕ → List X
 dealt floats before counts = dealt_from 0 floats before counts
 
@@ -86,13 +90,17 @@ has_all_from slot (sizes ∷ floats) before counts =
     ((entry counts slot == 0) || nat_le (entry before slot + entry counts slot) (length sizes))
     && has_all_from (slot + 1) floats before counts
 
+-- no class deals out a float that it has not, where these counts were dealt out before
 abbrev pub has_all : List (List ℤ) → List ℕ → List ℕ → Bool
 has_all floats before counts = has_all_from 0 floats before counts
 
+-- the height of an area with floats of these sizes: the sizes, what stands between them, and one gap; 0 without
+-- floats
 abbrev pub area_height : AreaRuleValue → List ℤ → ℤ
 area_height rule [] = pos 0
 area_height rule (size ∷ sizes) = (whole_sum_by (λ (z : ℤ). z) (size ∷ sizes) +ℤ (rule.sep *ℤ pos (length sizes))) +ℤ rule.gap
 
+-- all counts together
 abbrev pub total_count : List ℕ → ℕ
 total_count counts = sum_by (λ (n : ℕ). n) counts
 
@@ -109,20 +117,24 @@ is_area_allowed style takes limit counts =
     (float_class style number) false) (slice_get (float_numbers style) slot) true)
     (range_with_len 0 (length counts))
 
+-- floats of which area may stand at the top of a text
 abbrev pub takes_top : Area → Bool
 takes_top Top = true
 takes_top Both = true
 takes_top _ = false
 
+-- floats of which area may stand at the bottom of a text
 abbrev pub takes_bottom : Area → Bool
 takes_bottom Bottom = true
 takes_bottom Both = true
 takes_bottom _ = false
 
+-- floats of which area may stand across a page
 abbrev pub takes_wide : Area → Bool
 takes_wide Wide = true
 takes_wide _ = false
 
+-- floats of which area may stand in a column without text
 abbrev pub takes_in_column : Area → Bool
 takes_in_column Wide = false
 takes_in_column _ = true

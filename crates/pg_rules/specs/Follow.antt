@@ -19,6 +19,7 @@ use Rattle.pg_rules.specs.Room.{Document, ColumnContext}
 abbrev pub wide_in : Document → State → PageMove → Option ℤ
 wide_in doc u m = if u.column == 1 then made_wide doc u.placed m.wide else u.wide
 
+-- the column in the context that the state gives it
 abbrev pub context_in : Document → State → PageMove → ColumnContext
 context_in doc u m = context_with doc (wide_in doc u m) u.placed m
 
@@ -26,6 +27,7 @@ context_in doc u m = context_with doc (wide_in doc u m) u.placed m
 abbrev pub waiting_in : Document → State → List (ℕ × ℕ)
 waiting_in doc u = floats_between doc.style u.placed (called doc.blocks doc.style u.place)
 
+-- a float is known by its slot and its number
 abbrev pub is_same_float : ℕ × ℕ → ℕ × ℕ → Bool
 is_same_float a b = (a.0 == b.0) && (a.1 == b.1)
 
@@ -43,11 +45,13 @@ age_in doc u float = if is_called doc u.place float then age_among (waiting_in d
 abbrev pub fills_page : StyleValue → State → Bool
 fills_page style u = u.column == style.columns
 
+-- the side of the next page
 abbrev pub other_side : Side → Side
 other_side L = R
 other_side R = L
 other_side S = S
 
+-- a left page hands its run on to the right page of its spread
 abbrev pub keeps_run : Side → ℕ → Option ℕ
 keeps_run L run = Some run
 keeps_run _ run = None
@@ -60,6 +64,7 @@ waiting_behind doc u m = floats_between doc.style (placed_after doc.style u.plac
 abbrev pub turns : StyleValue → State → ℕ
 turns style u = if fills_page style u then 1 else 0
 
+-- the state behind the column
 abbrev pub next_state : Document → State → PageMove → State
 next_state doc u m = record {
   place = m.column.to;

@@ -25,18 +25,22 @@ abbrev pub next_page : StyleValue → List PageMove → ℕ
 next_page style [] = 1
 next_page style (m ∷ ms) = if next_column style ms == style.columns then next_page style ms + 1 else next_page style ms
 
+-- the side of a page by its number, where the first page has this side
 abbrev pub side_of : First → ℕ → Side
 side_of Single page = S
 side_of Left page = if page % 2 == 1 then L else R
 side_of Right page = if page % 2 == 1 then R else L
 
+-- a right page
 abbrev pub is_right : Side → Bool
 is_right R = true
 is_right _ = false
 
+-- the side of the next column's page
 abbrev pub next_side : StyleValue → List PageMove → Side
 next_side style ms = side_of style.first (next_page style ms)
 
+-- the run of the last column's page
 abbrev pub last_run : List PageMove → Option ℕ
 last_run [] = None
 last_run (m ∷ ms) = Some m.run
@@ -58,6 +62,7 @@ place_of (m ∷ ms) = m.column.to
 abbrev pub with_wide : StyleValue → List ℕ → PageMove → List ℕ
 with_wide style placed m = plus_counts style placed m.wide
 
+-- the counts with all floats of a column added: wide, top and bottom
 abbrev pub placed_after : StyleValue → List ℕ → PageMove → List ℕ
 placed_after style placed m = plus_counts style (plus_counts style (with_wide style placed m) m.column.top) m.column.bottom
 
@@ -88,15 +93,18 @@ calling_page doc (m ∷ ms) float = if is_called doc (place_of ms) float then ca
 
 -- ---- a column in its context
 
+-- a column behind so many placed floats, on a page with a wide area of this height
 abbrev pub context_with : Document → Option ℤ → List ℕ → PageMove → ColumnContext
 context_with doc wide placed m =
     record { document = doc; column = m.column; run = m.run; wide = wide; before = with_wide doc.style placed m }
 
+-- a column behind the columns before it
 abbrev pub context : Document → PageMove → List PageMove → ColumnContext
 context doc m ms = context_with doc (wide_of doc (m ∷ ms)) (placed_of doc.style ms) m
 
 -- ---- fitness
 
+-- the fitness of a column; decent where its end is no place behind its start
 abbrev pub column_fitness : ColumnContext → ℕ
 column_fitness it = option_map_or (text_fitness it) (size_of it) 2
 
@@ -104,6 +112,7 @@ column_fitness it = option_map_or (text_fitness it) (size_of it) 2
 abbrev pub fitness_after : Option ℕ → ColumnContext → Option ℕ
 fitness_after fitness it = if it.document.style.version == 1 then None else (if is_text it then Some (column_fitness it) else fitness)
 
+-- the fitness of the last text among the columns
 abbrev pub fitness_of : Document → List PageMove → Option ℕ
 fitness_of doc [] = None
 fitness_of doc (m ∷ ms) = fitness_after (fitness_of doc ms) (context doc m ms)

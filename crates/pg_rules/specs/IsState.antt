@@ -22,6 +22,7 @@ pub record IsPlace (blocks : List Block) (at : Place) : Type 0 where
   pub within : (is_same_place at (end_of blocks) ≡ true) ⊎ (at.index < length (items_around blocks at))
   pub front : at.index ≡ 0 → at.variant ≡ 0
 
+-- the sides that pages have, where the first page has this one
 abbrev pub has_side : First → Side → Bool
 has_side Single S = true
 has_side Left L = true
@@ -30,10 +31,12 @@ has_side Right L = true
 has_side Right R = true
 has_side _ _ = false
 
+-- the number is absent
 abbrev pub not_some : Option ℕ → Bool
 not_some None = true
 not_some (Some n) = false
 
+-- the number is not 1
 abbrev pub not_first : ℕ → Bool
 not_first n = not (n == 1)
 
@@ -43,6 +46,7 @@ are_young doc [] [] = true
 are_young doc (age ∷ ages) (float ∷ floats) = nat_lt age (length (distance_table doc.style float.0)) && are_young doc ages floats
 are_young doc _ _ = false
 
+-- what the state of each beginning keeps, field by field
 pub record IsState (doc : Document) (u : State) : Type 0 where
   pub place : IsPlace doc.blocks u.place
   pub column : (1 ≤ u.column) × ((u.column ≤ doc.style.columns) × (u.column ≤ 2))

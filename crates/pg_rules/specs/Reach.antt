@@ -14,6 +14,7 @@ use Rattle.pg_flat.specs.Flat.{FlatItem, flat_items_at, steps_to, fronts, picked
 use Rattle.pg_flat.specs.Totals.{trimmed, total, shrink}
 use Rattle.pg_rules.specs.Room.{Document}
 
+-- the most that a run adds
 abbrev pub greatest_extra : List Run → ℤ
 greatest_extra [] = pos 0
 greatest_extra (run ∷ []) = run.extra

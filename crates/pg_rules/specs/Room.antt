@@ -36,6 +36,7 @@ pub record ColumnContext : Type 0 where
 abbrev pub flat_items_of : ColumnContext → List FlatItem
 flat_items_of it = flat_items_at it.document.blocks it.column.from it.column.picks
 
+-- these items without their places
 abbrev pub items_of : ColumnContext → List Item
 items_of it = map (λ (flat_item : FlatItem). flat_item.item) (flat_items_of it)
 
@@ -43,6 +44,7 @@ items_of it = map (λ (flat_item : FlatItem). flat_item.item) (flat_items_of it)
 abbrev pub size_of : ColumnContext → Option ℕ
 size_of it = steps_to it.document.blocks (flat_items_of it) it.column.to
 
+-- a column with text: its two places differ
 abbrev pub is_text : ColumnContext → Bool
 is_text it = not (is_same_place it.column.from it.column.to)
 
@@ -50,14 +52,17 @@ is_text it = not (is_same_place it.column.from it.column.to)
 abbrev pub at_size : ColumnContext → (ℕ → Bool) → Bool
 at_size it test = option_map_or test (size_of it) false
 
+-- the floats placed before the column's bottom area
 abbrev pub before_bottom : ColumnContext → List ℕ
 before_bottom it = plus_counts it.document.style it.before it.column.top
 
+-- the counts at the top are those that a column with or without text may have
 abbrev pub is_top_allowed : ColumnContext → Bool
 is_top_allowed it =
     if is_text it then is_area_allowed it.document.style takes_top it.document.style.top.count it.column.top
     else is_area_allowed it.document.style takes_in_column it.document.style.float_column.count it.column.top
 
+-- the counts at the bottom are those that a column with or without text may have
 abbrev pub is_bottom_allowed : ColumnContext → Bool
 is_bottom_allowed it =
     if is_text it then is_area_allowed it.document.style takes_bottom it.document.style.bottom.count it.column.bottom
@@ -68,22 +73,27 @@ abbrev pub checked_height : List (List ℤ) → Bool → AreaRuleValue → List 
 checked_height floats allowed rule before counts =
     if allowed && has_all floats before counts then area_height rule (dealt floats before counts) else pos 0
 
+-- the height of the top area
 abbrev pub top_height : ColumnContext → ℤ
 top_height it =
     checked_height (floats it.document.blocks it.document.style) (is_top_allowed it) it.document.style.top
     it.before it.column.top
 
+-- the height of the bottom area
 abbrev pub bottom_height : ColumnContext → ℤ
 bottom_height it =
     checked_height (floats it.document.blocks it.document.style) (is_bottom_allowed it) it.document.style.bottom
     (before_bottom it) it.column.bottom
 
+-- the height of a column on a page of this run
 abbrev pub full_height : ColumnContext → ℤ
 full_height it = it.document.style.height +ℤ extra it.document.style it.run
 
+-- the height of the page's wide area, 0 where there is none
 abbrev pub wide_height : ColumnContext → ℤ
 wide_height it = unwrap_or it.wide (pos 0)
 
+-- what the areas leave of the column's height for text and notes
 abbrev pub room : ColumnContext → ℤ
 room it = ((full_height it -ℤ wide_height it) -ℤ top_height it) -ℤ bottom_height it
 
@@ -93,13 +103,16 @@ class_notes items number (Note skip limit) =
     if length (sizes_of number items) == 0 then pos 0 else (skip +ℤ whole_sum (sizes_of number items))
 class_notes items number (Float area distance) = pos 0
 
+-- the height of all notes in a list of items
 abbrev pub notes : StyleValue → List Item → ℤ
 notes style items = whole_sum_by (λ (class : Class). class_notes items class.number class.kind) style.classes
 
+-- the notes of a class in a list of items, without the skip, are within the class's limit
 abbrev pub is_within_limit : List Item → ℕ → Kind → Bool
 is_within_limit items number (Note skip limit) = int_le (whole_sum (sizes_of number items)) limit
 is_within_limit items number (Float area distance) = true
 
+-- the notes of every class are
 abbrev pub are_notes_within_limits : StyleValue → List Item → Bool
 are_notes_within_limits style items =
     list_all (λ (class : Class). is_within_limit items class.number class.kind) style.classes

@@ -21,6 +21,7 @@ age doc ms float = next_page doc.style ms - calling_page doc ms float
 abbrev pub waiting : Document → List PageMove → List (ℕ × ℕ)
 waiting doc ms = floats_between doc.style (placed_of doc.style ms) (called doc.blocks doc.style (place_of ms))
 
+-- the state behind columns: all that the columns to come depend on
 abbrev pub state_at : Document → List PageMove → State
 state_at doc ms = record {
   place = place_of ms;
@@ -33,6 +34,7 @@ state_at doc ms = record {
   ages = map (age doc ms) (waiting doc ms);
 }
 
+-- the state behind a beginning
 unfoldable pub state_of : GalleyValue → StyleValue → Pagination → State
 state_of galley style plan = state_at (document galley style) (columns plan)
 
@@ -42,6 +44,7 @@ can_wait doc ms =
     list_all (λ (float : ℕ × ℕ). nat_lt (age doc ms float) (length (distance_table doc.style float.0)))
     (waiting doc ms)
 
+-- the first rule that a beginning breaks: it need not be at the galley's end, nor have placed all floats
 unfoldable pub prefix_breach : GalleyValue → StyleValue → Pagination → Option (ℕ × ℕ)
 prefix_breach galley style plan =
     first_breach 1 (faults_with (document galley style) (reverse plan.pages) (columns plan) None None)

@@ -1,3 +1,4 @@
 pub mod LineLemmas
 pub mod WholeLemmas
 pub mod CleanLines
+pub mod PartLemmas

@@ -2,6 +2,7 @@
 use Rattle.std.specs.List.{AllByRecursion}
 use Rattle.std.specs.Prelude.{◌≡◌, ℕ, ◌+◌, IsTrue, Bool, false, not, List, [], ◌∷◌, ◌++◌, length, map, ◌==◌, if◌then◌else◌, Option, Some, None}
 
+-- a byte that is no line feed
 abbrev pub is_no_feed : ℕ → Bool
 is_no_feed c = not (c == 10)
 
@@ -20,6 +21,7 @@ abbrev pub in_front : ℕ → List ℕ → List ℕ
 in_front c [] = if c == 13 then [] else c ∷ []
 in_front c (d ∷ ds) = c ∷ d ∷ ds
 
+-- a line without the carriage returns at its end
 unfoldable pub trimmed : List ℕ → List ℕ
 trimmed [] = []
 trimmed (c ∷ cs) = in_front c (trimmed cs)
@@ -29,6 +31,7 @@ pub record IsClean (line : List ℕ) : Type 0 where
   pub no_feed : AllByRecursion (λ c. IsTrue (is_no_feed c)) line
   pub no_return : trimmed line ≡ line
 
+-- the lines of a text, trimmed
 abbrev pub raw_lines : List ℕ → List (List ℕ)
 raw_lines text = map trimmed (lines_of text)
 

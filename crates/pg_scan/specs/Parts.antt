@@ -6,6 +6,7 @@ use Rattle.std.specs.Char.{is_ascii_alphabetic}
 use Rattle.pg_scaled.specs.Digits.{digit_count}
 use Rattle.pg_scan.specs.Lines.{onto_first}
 
+-- a byte that is no separator
 abbrev pub differs_from : ℕ → ℕ → Bool
 differs_from separator c = not (c == separator)
 
@@ -19,6 +20,7 @@ parts_of separator (c ∷ cs) = if c == separator then [] ∷ parts_of separator
 unfoldable pub after : List ℕ → List ℕ → Option (List ℕ)
 after text bytes = if bytes_eq (take (length text) bytes) text then Some (drop (length text) bytes) else None
 
+-- what is there, or all of it
 abbrev pub or_all : List ℕ → Option (List ℕ) → List ℕ
 or_all bytes None = bytes
 or_all bytes (Some rest) = rest
@@ -32,6 +34,7 @@ abbrev pub begins_with_letter : List ℕ → Bool
 begins_with_letter [] = false
 begins_with_letter (c ∷ cs) = is_ascii_alphabetic c
 
+-- what stands behind, where no letter stands first there
 abbrev pub unless_letter : Option (List ℕ) → Option (List ℕ)
 unless_letter None = None
 unless_letter (Some bytes) = if begins_with_letter bytes then None else Some bytes

@@ -10,7 +10,7 @@ use Rattle.pg_scaled.specs.Scaled.{scaled_text, scaled_value, size_text, fractio
 use Rattle.pg_scaled.proofs.ReadsBack.{AreDigits, all_digits, text_reads}
 use Rattle.pg_list.specs.declared.blocks.Block.{Block}
 use Rattle.pg_list.specs.GalleyValue.{GalleyValue}
-use Rattle.pg_list.specs.Ranges.{IsScaled}
+use Rattle.pg_scaled.specs.Ranges.{IsScaled}
 use Rattle.pg_list.specs.Counts.{item_count, item_limit}
 use Rattle.pg_list.specs.Shapes.{IsBlock}
 use Rattle.pg_showbox.specs.declared.kinds.ListFault.{ListFault}

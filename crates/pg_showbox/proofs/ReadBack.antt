@@ -49,7 +49,7 @@ use Rattle.std.proofs.lemmas.Slice.Eq.{bytes_eq-Decides}
 use Rattle.std.proofs.lemmas.Bool.Decides.{Decides-int_eq}
 use Rattle.std.proofs.Common.{length-append}
 use Rattle.pg_lemmas.proofs.Lists.{all_append}
-use Rattle.pg_lemmas.proofs.Bools.{true_both}
+use Rattle.pg_lemmas.proofs.Bools.{both, true_both}
 use Rattle.pg_list.proofs.NewLemmas.{begins_back, solid_back, same_self, inserts_self}
 
 not_true : (b : Bool) → IsTrue (not b) → b ≡ false
@@ -464,7 +464,7 @@ variant_reads s width blocks variants count variant inside begins shown limits f
     )
 
 shaped_back : (variant : Variant) → IsVariant variant → is_shaped variant.items ≡ true
-shaped_back variant h = true_both (begins_with_box variant.items) (ends_solid variant.items)
+shaped_back variant h = both (begins_with_box variant.items) (ends_solid variant.items)
     (begins_back variant.items h.begins) (solid_back (slice_get variant.items (length variant.items - 1)) h.ends)
 
 fits_back : (variants more : List Variant) (variant : Variant) → HaveEqualInserts (variants ++ variant ∷ more)

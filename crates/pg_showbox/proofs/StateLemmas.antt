@@ -17,7 +17,7 @@ use Rattle.pg_showbox.specs.declared.state.ReaderState.{ReaderState}
 use Rattle.pg_showbox.specs.declared.state.Within.{Within}
 use Rattle.pg_showbox.specs.declared.state.Within.TheVariants.{Outside, Listing, InChoice, InVariant}
 use Rattle.std.specs.Prelude.{IfSome, OnOk}
-use Rattle.pg_list.specs.Ranges.{IsScaled}
+use Rattle.pg_scaled.specs.Ranges.{IsScaled}
 use Rattle.pg_showbox.specs.declared.parsed.ParsedLine.{ParsedLine}
 use Rattle.pg_showbox.specs.declared.parsed.ParsedLine.TheVariants as said
 use Rattle.pg_showbox.specs.ParsedLine.{IsParsedInRange}

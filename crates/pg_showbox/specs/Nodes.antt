@@ -2,7 +2,7 @@
 use Rattle.std.specs.Prelude.{ℕ, ◌==◌, ◌&&◌, ◌||◌, Bool, true, false, not, List, [], drop, Result, Ok, Err, ℤ, pos, negsuc, int_lt, is_some, if◌then◌else◌, codes}
 use Rattle.std.specs.Str.{bytes_eq}
 use Rattle.std.specs.List.{prefix_len}
-use Rattle.pg_list.specs.Ranges.{IsScaled}
+use Rattle.pg_scaled.specs.Ranges.{IsScaled}
 use Rattle.std.specs.Prelude.{◌≤◌, ◌≤ℤ◌}
 use Rattle.pg_list.specs.declared.item.Item.{Item}
 use Rattle.pg_list.specs.declared.item.Item.TheVariants as item

@@ -1,7 +1,7 @@
 -- What a line says.
 use Rattle.std.specs.Prelude.{◌≤◌, ℕ, ◌-◌, Bool, List, [], length, drop, Option, Some, None, Result, Ok, Err, pos, neg_ℤ, nat_abs, is_some, if◌then◌else◌, codes}
 use Rattle.std.specs.Str.{bytes_eq}
-use Rattle.pg_list.specs.Ranges.{IsScaled}
+use Rattle.pg_scaled.specs.Ranges.{IsScaled}
 use Rattle.pg_showbox.specs.declared.kinds.ListKind.{ListKind}
 use Rattle.pg_showbox.specs.declared.kinds.ListKind.TheVariants.{BadLine, Truncated, ChoiceShape}
 use Rattle.pg_showbox.specs.declared.parsed.ParsedLine.{ParsedLine}

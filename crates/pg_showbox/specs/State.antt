@@ -6,7 +6,7 @@ use Rattle.pg_list.specs.declared.variants.Variant.{Variant}
 use Rattle.pg_list.specs.declared.blocks.Block.TheVariants as block
 use Rattle.pg_list.specs.Bodies.{extended, extended_blocks}
 use Rattle.pg_list.specs.Shapes.{is_shaped, fits_first}
-use Rattle.pg_list.specs.Ranges.{IsScaled}
+use Rattle.pg_scaled.specs.Ranges.{IsScaled}
 use Rattle.pg_list.specs.Counts.{item_count, item_limit}
 use Rattle.pg_showbox.specs.declared.kinds.ListKind.{ListKind}
 use Rattle.pg_showbox.specs.declared.kinds.ListKind.TheVariants.{BadLine, ChoiceShape, ChoiceInserts, Limit, Memory}

@@ -1,6 +1,7 @@
 //! What an item line says.
 ghost use Rattle.std.specs.Prelude.{◌≡◌, IfOk, pos, ◌≤ℤ◌};
-ghost use Rattle.pg_list.specs.Ranges.{IsScaled, IsItemInRange};
+ghost use Rattle.pg_list.specs.Ranges.{IsItemInRange};
+ghost use Rattle.pg_scaled.specs.Ranges.{IsScaled};
 ghost use Rattle.pg_showbox.specs.Nodes.{IsNodeInRange, node_item};
 ghost use Rattle.std.specs.List.{prefix_len};
 ghost use Rattle.pg_showbox.specs.Nodes.{box_at, rule_at, amount_at, stretch_at, shrink_at, ends_glue, glue_text_at, past_name, glue_at, leaders_at, kern_at, penalty_at, insert_at, past_natural, natural_at, carry_or_unknown, node_at, later_node_at, is_not_close};

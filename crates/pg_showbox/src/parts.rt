@@ -1,6 +1,6 @@
 //! Parts of a line of the notation.
 ghost use Rattle.std.specs.Prelude.{◌≡◌, IfOk};
-ghost use Rattle.pg_list.specs.Ranges.{IsScaled};
+ghost use Rattle.pg_scaled.specs.Ranges.{IsScaled};
 ghost use Rattle.pg_showbox.specs.Parts.{due as due_said, size_at, past_size, fixed_size, past_width, order_at, Answers};
 
 use crate::kinds::ListKind;

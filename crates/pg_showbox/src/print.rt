@@ -2,7 +2,8 @@ ghost use Rattle.std.specs.Prelude.{◌≡◌, ◌++◌, ◌∷◌, [], OnOk, On
 ghost use Rattle.std.specs.Fmt.{signed_decimal};
 ghost use Rattle.std.specs.List.{flat_map};
 ghost use Rattle.pg_list.specs.Bodies.{body_of};
-ghost use Rattle.pg_showbox.specs.Text.{body_text, items_text, choice_line, variant_front, end_line, root_front, variant_text, variant_numbers, block_text, galley_text, Grows};
+ghost use Rattle.pg_showbox.specs.Text.{body_text, items_text, choice_line, variant_front, end_line, root_front, variant_text, variant_numbers, block_text, galley_text};
+ghost use Rattle.pg_scaled.specs.Scaled.{Grows};
 
 use itoa::Buffer;
 use pg_list::{Block, Galley, Item, Variant};

@@ -1,6 +1,7 @@
 -- The test of a state tells the states.
 use Rattle.std.proofs.Common.{◌≡◌, refl, sym, ap, subst, ℕ, ◌<◌, List, [], ◌∷◌, length, Bool, true, false, Option, Some, None, inl, inr, arith}
 use Rattle.std.specs.Prelude.{◌⊎◌, ◌↔◌, ◌==◌, ◌||◌, not, nat_lt}
+use Rattle.std.specs.Option.{is_none}
 use Rattle.pg_list.specs.declared.blocks.Block.{Block}
 use Rattle.pg_list.specs.declared.galley.Place.{Place}
 use Rattle.pg_list.specs.Places.{items_around}
@@ -14,7 +15,7 @@ use Rattle.pg_rules.specs.IsState.{IsPlace, IsState}
 use Rattle.pg_rules.specs.NoWorse.{is_same_side}
 use Rattle.pg_place_laws.proofs.Tests.{less_true}
 use Rattle.pg_space.specs.PlainSteps.{plain_state}
-use Rattle.pg_space.specs.StateTest.{has_fitness, has_place, has_plain_fields, is_absent, is_empty_list, is_plain_state}
+use Rattle.pg_space.specs.StateTest.{has_fitness, has_place, has_plain_fields, is_empty_list, is_plain_state}
 use Rattle.pg_space.proofs.PlainStates.{fields, form_is, plain_form, state_is, with_form}
 use Rattle.pg_lemmas.proofs.Bools.{both_of, both, or_cases, or_right, by_bool}
 use Rattle.std.proofs.lemmas.Bool.{eqb-true}
@@ -56,7 +57,7 @@ of_place blocks at place = both _ _ (within place.within)
 
 -- ---- the other fields
 
-absent : {X : Type 0} (o : Option X) → is_absent o ≡ true → o ≡ None
+absent : {X : Type 0} (o : Option X) → is_none o ≡ true → o ≡ None
 absent None h = refl
 absent (Some x) h = absurd cc
 
@@ -73,8 +74,8 @@ plain_of : (u : State) → has_plain_fields u ≡ true → u ≡ plain_state u.p
 plain_of u h =
     let a = both_of (u.column == 1) _ h in
     let b = both_of (is_same_side u.side S) _ a.1 in
-    let c = both_of (is_absent u.run) _ b.1 in
-    let d = both_of (is_absent u.wide) _ c.1 in
+    let c = both_of (is_none u.run) _ b.1 in
+    let d = both_of (is_none u.wide) _ c.1 in
     let e = both_of (is_empty_list u.placed) (is_empty_list u.ages) d.1 in
     fields u.place u.fitness u.column u.side u.run u.wide u.placed u.ages (eqb-true u.column 1 a.0)
     (single u.side b.0) (absent u.run c.0) (absent u.wide d.0) (empty u.placed e.0) (empty u.ages e.1)

@@ -1,6 +1,6 @@
 -- The test of a state under a plain style.
 use Rattle.std.specs.Prelude.{ℕ, Bool, true, false, ◌==◌, ◌&&◌, ◌||◌, not, nat_le, nat_lt, List, [], ◌∷◌, length, Option, Some, None}
-use Rattle.std.specs.Option.{option_map_or}
+use Rattle.std.specs.Option.{is_none, option_map_or}
 use Rattle.pg_list.specs.declared.blocks.Block.{Block}
 use Rattle.pg_list.specs.declared.galley.Place.{Place}
 use Rattle.pg_list.specs.Places.{items_around}
@@ -16,9 +16,9 @@ abbrev pub has_place : List Block → Place → Bool
 has_place blocks at = (is_same_place at (end_of blocks) || nat_lt at.index (length (items_around blocks at)))
     && (not (at.index == 0) || (at.variant == 0))
 
-abbrev pub is_absent : {X : Type 0} → Option X → Bool
-is_absent None = true
-is_absent (Some x) = false
+abbrev pub is_none : {X : Type 0} → Option X → Bool
+is_none None = true
+is_none (Some x) = false
 
 abbrev pub is_empty_list : {X : Type 0} → List X → Bool
 is_empty_list [] = true
@@ -26,7 +26,7 @@ is_empty_list (x ∷ xs) = false
 
 -- nothing but a place and a fitness
 abbrev pub has_plain_fields : State → Bool
-has_plain_fields u = (u.column == 1) && (is_same_side u.side S && (is_absent u.run && (is_absent u.wide
+has_plain_fields u = (u.column == 1) && (is_same_side u.side S && (is_none u.run && (is_none u.wide
     && (is_empty_list u.placed && is_empty_list u.ages))))
 
 abbrev pub has_fitness : StyleValue → Option ℕ → Bool

@@ -1,5 +1,5 @@
 ghost use Rattle.std.specs.Prelude.{◌≡◌, ◌+◌, ◌*◌, ◌<◌, ◌^◌, nat_abs, length, reverse, List, IfOk, IsTrue, ◌↔◌};
-ghost use Rattle.pg_rules.specs.Ranges.{AreInRange};
+ghost use Rattle.pg_rules.specs.Ranges.{AreInRange, AreInRange_prop};
 ghost use Rattle.pg_flat.specs.Rigid.{AreRigid};
 ghost use Rattle.pg_plain.specs.Plain.{IsPlainStyle, plain_room};
 ghost use Rattle.pg_beginning_laws.specs.Pages.{plan_of};
@@ -12,7 +12,7 @@ ghost use Rattle.pg_space_laws.specs.Laws.{TellsAll};
 ghost use Rattle.pg_space_laws.specs.PageSpace.{page_meaning};
 ghost use Rattle.pg_table.specs.Label.{IsTable};
 ghost use Rattle.pg_table.specs.declared.table.Entry.{Entry};
-ghost use Rattle.pg_space.specs.OneProof.{AreInRange_prop, AreRigid_prop, IsPlainStyle_prop};
+ghost use Rattle.pg_space.specs.OneProof.{AreRigid_prop, IsPlainStyle_prop};
 
 use crate::columns::moves_in;
 use crate::plans::pages_of;

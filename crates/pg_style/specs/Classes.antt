@@ -5,13 +5,16 @@ use Rattle.pg_style.specs.declared.style.Class.{Class}
 use Rattle.pg_style.specs.declared.style.Kind.{Kind}
 use Rattle.pg_style.specs.declared.style.Kind.TheVariants.{Note, Float}
 
+-- the class of a number among classes
 abbrev pub class_in : List Class → ℕ → Option Class
 class_in classes number = find (λ (class : Class). class.number == number) classes
 
+-- a class of floats
 abbrev pub is_float_kind : Kind → Bool
 is_float_kind (Note skip limit) = false
 is_float_kind (Float area distance) = true
 
+-- a class of floats
 abbrev pub is_float_class : Class → Bool
 is_float_class class = is_float_kind class.kind
 

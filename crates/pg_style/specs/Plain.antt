@@ -3,6 +3,7 @@ use Rattle.std.specs.Prelude.{ℤ, pos, [], ◌∷◌}
 use Rattle.pg_style.specs.declared.style.First.TheVariants.{Single}
 use Rattle.pg_style.specs.Values.{AreaRuleValue, StyleValue}
 
+-- an area that takes no float
 abbrev pub no_area : AreaRuleValue
 no_area = record { count = 0; sep = pos 0; gap = pos 0 }
 

@@ -4,15 +4,18 @@ use Rattle.pg_style.specs.declared.style.First.{First}
 use Rattle.pg_style.specs.declared.style.Run.{Run}
 use Rattle.pg_style.specs.declared.style.Class.{Class}
 
+-- what callers see of the rule of an area
 pub record AreaRuleValue : Type 0 where
   pub count : ℕ
   pub sep : ℤ
   pub gap : ℤ
 
+-- what callers see of the rule of columns without text
 pub record ColumnRuleValue : Type 0 where
   pub count : ℕ
   pub demerits : ℕ
 
+-- what callers see of a style
 pub record StyleValue : Type 0 where
   pub version : ℕ
   pub columns : ℕ

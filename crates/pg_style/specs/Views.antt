@@ -2,6 +2,7 @@
 use Rattle.pg_style.specs.Values.{StyleValue}
 use Rattle.pg_style.specs.declared.style.Style.TheInside.{Inside}
 
+-- a style as callers see it
 abbrev pub style_of : Inside → StyleValue
 style_of a = record {
   version = a.version;

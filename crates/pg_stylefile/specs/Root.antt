@@ -3,7 +3,8 @@ use Rattle.std.specs.Prelude.{◌≡◌, ◌==◌, ℕ, ◌^◌, ◌-◌, ◌≤
 use Rattle.std.specs.Prelude.{Result, Ok, Err}
 use Rattle.toml.specs.Data.{Members}
 use Rattle.toml.specs.View.{table_view}
-use Rattle.pg_style.specs.Ranges.{IsScaled, IsLength, AreDemerits}
+use Rattle.pg_style.specs.Ranges.{IsLength, AreDemerits}
+use Rattle.pg_scaled.specs.Ranges.{IsScaled}
 use Rattle.pg_stylefile.specs.declared.fault.TableName.{TableName}
 use Rattle.pg_stylefile.specs.declared.fault.StyleKind.TheVariants.{NoRun, OutOfRange}
 use Rattle.pg_stylefile.specs.declared.fault.StyleFault.{StyleFault}

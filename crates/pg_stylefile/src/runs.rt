@@ -2,7 +2,8 @@
 ghost use Rattle.std.specs.Prelude.{◌≡◌, ◌≤◌, ◌<◌, ◌^◌, pos, ◌≤ℤ◌, ◌<ℤ◌, ◌+ℤ◌, length, IfOk};
 ghost use Rattle.toml.specs.View.{table_view};
 ghost use Rattle.std.specs.List.{AllByRecursion};
-ghost use Rattle.pg_style.specs.Ranges.{IsScaled, IsRun, IsHeight, AreRuns};
+ghost use Rattle.pg_style.specs.Ranges.{IsRun, IsHeight, AreRuns};
+ghost use Rattle.pg_scaled.specs.Ranges.{IsScaled};
 ghost use Rattle.pg_stylefile.specs.Faults.{Tells};
 ghost use Rattle.pg_stylefile.specs.Values.{tables_in};
 ghost use Rattle.pg_stylefile.specs.Tables.{extra_at, run_of, runs_of};

@@ -1,7 +1,8 @@
 //! The sums of a segment, and what they say of a goal.
 ghost use Rattle.std.specs.Prelude.{◌≡◌, ◌||◌, not, List, ◌++◌, ◌∷◌, [], ◌+◌, ◌*◌, ◌<◌, ◌≤◌, ◌^◌, ℤ, pos, true, false, ◌≤ℤ◌, ◌<ℤ◌, ◌+ℤ◌, ◌-ℤ◌, if◌then◌else◌, nat_abs};
 ghost use Rattle.std.specs.List.{list_any};
-ghost use Rattle.pg_list.specs.Ranges.{IsScaled, IsItemInRange};
+ghost use Rattle.pg_list.specs.Ranges.{IsItemInRange};
+ghost use Rattle.pg_scaled.specs.Ranges.{IsScaled};
 ghost use Rattle.pg_list.specs.Shapes.{is_box, is_discardable};
 ghost use Rattle.pg_list.specs.declared.item.Item.{Item as AnItem};
 ghost use Rattle.pg_flat.specs.Totals.{total, shrink, stretch, trimmed};

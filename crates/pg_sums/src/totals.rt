@@ -1,7 +1,8 @@
 //! The sums of items that all count.
 ghost use Rattle.std.specs.Prelude.{◌≡◌, ◌-◌, List, ◌++◌, ◌∷◌, [], ◌+◌, ◌*◌, ◌<◌, ◌≤◌, ◌^◌, ℤ, pos, true, false, ◌≤ℤ◌, ◌+ℤ◌, ◌-ℤ◌, if◌then◌else◌, nat_abs};
 ghost use Rattle.std.specs.Int.{int_max, int_min};
-ghost use Rattle.pg_list.specs.Ranges.{IsScaled, IsItemInRange};
+ghost use Rattle.pg_list.specs.Ranges.{IsItemInRange};
+ghost use Rattle.pg_scaled.specs.Ranges.{IsScaled};
 ghost use Rattle.pg_list.specs.declared.item.Order.TheVariants.{Finite, Fil, Fill, Filll};
 ghost use Rattle.pg_flat.specs.Totals.{is_same_order};
 ghost use Rattle.pg_sums.specs.SumsValue.{HaveSameGlue, HasGlueGrown, HasGrown, IsBounded};

@@ -1,6 +1,7 @@
 //! What the tests share: rows of tables, one text with a row on each line, and galleys in a few words.
 ghost use Rattle.std.specs.Prelude.{◌≤◌, ◌≡◌, length, IfSome};
-ghost use Rattle.pg_list.specs.Ranges.{IsItemInRange, IsScaled};
+ghost use Rattle.pg_list.specs.Ranges.{IsItemInRange};
+ghost use Rattle.pg_scaled.specs.Ranges.{IsScaled};
 ghost use Rattle.pg_list.specs.Shapes.{IsBlock};
 
 use pg_list::{Block, Galley, Item, Place};

@@ -2,7 +2,7 @@ use Rattle.std.proofs.Common.{subst}
 use Rattle.std.specs.List.{AllByRecursion}
 use Rattle.pg_list.specs.declared.blocks.Block.{Block}
 use Rattle.std.proofs.Common.{List}
-use Rattle.pg_list.specs.Ranges.{IsScaled}
+use Rattle.pg_scaled.specs.Ranges.{IsScaled}
 use Rattle.pg_list.specs.Shapes.{IsBlock}
 use Rattle.pg_showbox.proofs.GalleyReads.{galley_reads}
 use Rattle.pg_showbox.proofs.laws.printed_reads_back.Goals as goal

@@ -1,6 +1,7 @@
 use Rattle.std.proofs.Common.{◌≡◌, ◌++◌, take}
 use Rattle.std.specs.List.{flat_map}
-use Rattle.pg_showbox.specs.Text.{block_text, Grows}
+use Rattle.pg_showbox.specs.Text.{block_text}
+use Rattle.pg_scaled.specs.Scaled.{Grows}
 use Rattle.pg_showbox.proofs.print.print_blocks.Given as goal
 
 abbrev pub invariant-loop-block : goal.invariant-loop-block

@@ -1,5 +1,6 @@
 use Rattle.std.proofs.Common.{◌≡◌, ◌++◌, take}
-use Rattle.pg_showbox.specs.Text.{items_text, Grows}
+use Rattle.pg_showbox.specs.Text.{items_text}
+use Rattle.pg_scaled.specs.Scaled.{Grows}
 use Rattle.pg_showbox.proofs.print.print_items.Given as goal
 
 abbrev pub invariant-loop-item : goal.invariant-loop-item

@@ -1,6 +1,7 @@
 use Rattle.std.proofs.Common.{◌≡◌, ◌++◌, take}
 use Rattle.std.specs.List.{flat_map}
-use Rattle.pg_showbox.specs.Text.{variant_text, Grows}
+use Rattle.pg_showbox.specs.Text.{variant_text}
+use Rattle.pg_scaled.specs.Scaled.{Grows}
 use Rattle.pg_showbox.proofs.print.print_variants.Given as goal
 
 abbrev pub invariant-loop-variant : goal.invariant-loop-variant

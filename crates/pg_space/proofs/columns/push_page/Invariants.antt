@@ -8,4 +8,4 @@ invariant-loop-column l = l.moves ≡ l.initial.moves ++ map (λ (later : Column
   column = later;
   run = l.page.run;
   wide = no_floats l.page.wide;
-}) (take l.column_index l.later)
+}) (take l.column-index l.later)
