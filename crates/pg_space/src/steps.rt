@@ -7,7 +7,7 @@ use pg_list::Place;
 use pg_plan::{Ages, Column, Counts, PageMove, Picks, Side, State};
 use pg_style::Style;
 use pg_table::{Step, StepList};
-use pg_walk::End;
+use pg_ends::End;
 use std::alloc::{AllocError, Global};
 
 /// The state of a beginning that ends at a place, where the last column had this fitness.

@@ -21,7 +21,7 @@ use Rattle.pg_flat.specs.Whole.{square}
 use Rattle.pg_style.specs.Values.{StyleValue}
 use Rattle.pg_rules.specs.ColumnRules.{fitness_by}
 use Rattle.pg_rules.specs.Cost.{penalty_demerits}
-use Rattle.pg_walk.specs.declared.end.TextCost.{TextCost}
+use Rattle.pg_column.specs.declared.cost.TextCost.{TextCost}
 use Rattle.pg_walk.specs.Walk.{badness_at, cost_at, item_in, items_from, total_at}
 use Rattle.std.proofs.lemmas.Option.{same_Some}
 

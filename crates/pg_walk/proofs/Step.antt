@@ -14,8 +14,8 @@ use Rattle.pg_list.specs.declared.blocks.Block.TheVariants.{One, Choice}
 use Rattle.pg_list.specs.Places.{place}
 use Rattle.pg_style.specs.Values.{StyleValue}
 use Rattle.pg_place_laws.proofs.Tests.{le_int, less_int}
-use Rattle.pg_walk.specs.declared.end.End.{End}
-use Rattle.pg_walk.specs.declared.end.TextCost.{TextCost}
+use Rattle.pg_ends.specs.declared.end.End.{End}
+use Rattle.pg_column.specs.declared.cost.TextCost.{TextCost}
 use Rattle.pg_walk.specs.Walk.{badness_at, cost_at, end_at, end_penalty, items_from}
 
 pub rest_items : (blocks rest : List Block) (from : ℕ) → AreSingle blocks → rest ≡ drop from blocks →

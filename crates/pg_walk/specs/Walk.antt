@@ -15,8 +15,8 @@ use Rattle.pg_style.specs.Values.{StyleValue}
 use Rattle.pg_plain.specs.Plain.{single_items}
 use Rattle.pg_rules.specs.ColumnRules.{fitness_by}
 use Rattle.pg_rules.specs.Cost.{penalty_demerits}
-use Rattle.pg_walk.specs.declared.end.End.{End}
-use Rattle.pg_walk.specs.declared.end.TextCost.{TextCost}
+use Rattle.pg_ends.specs.declared.end.End.{End}
+use Rattle.pg_column.specs.declared.cost.TextCost.{TextCost}
 
 -- the item of a block that is one item
 abbrev pub item_in : Block → Option Item

@@ -9,7 +9,7 @@ ghost use Rattle.pg_rules.specs.ColumnRules.{fitness_by};
 ghost use Rattle.pg_rules.specs.Cost.{penalty_demerits as demerits_of_penalty};
 ghost use Rattle.pg_walk.specs.Walk.{cost_at};
 
-use crate::end::TextCost;
+use pg_column::TextCost;
 use pg_plain::demerits;
 use pg_style::Style;
 use pg_sums::Sums;

@@ -6,8 +6,8 @@
 
 mod breaks;
 mod cost;
-mod end;
 mod walk;
 
-pub use end::{End, EndList, TextCost};
+pub use pg_column::TextCost;
+pub use pg_ends::{End, EndList};
 pub use walk::ends;

@@ -7,12 +7,13 @@ ghost use Rattle.pg_sums.specs.AreSums.{AreSums};
 ghost use Rattle.pg_rules.specs.IsState.{IsPlace};
 ghost use Rattle.pg_rules.specs.Legal.{document};
 ghost use Rattle.pg_plain.specs.Plain.{AreSingle, IsPlainStyle, single_items};
-ghost use Rattle.pg_walk.specs.Ends.{AreEnds};
+ghost use Rattle.pg_ends.specs.Ends.{AreEnds};
 ghost use Rattle.pg_walk.specs.Walk.{ends_below, is_over_at, is_passable_at, items_from};
 
 use crate::breaks::{end_penalty, rest_of};
 use crate::cost::cost_of;
-use crate::end::{End, EndList, TextCost};
+use pg_column::TextCost;
+use pg_ends::{End, EndList};
 use pg_list::{Galley, Place};
 use pg_plain::add_block;
 use pg_plan::Picks;

@@ -15,7 +15,7 @@ returns c = λ items n sums spent penalty.
     let price = to_z-of_z w32 c.args.penalty (record { sfits = search rules }) in
     let line : c.style.inside.line ≡ style.line = search rules in
     let size = total style.topskip style.maxdepth (trimmed (take n items)) in
-    let badness = c.page_badness-badness.ensures _ _ (take n items) sums
+    let badness = c.page_badness-badness.ensures.sums _ _ (take n items) sums
     ∙ ap (λ (z : ℤ). page_badness c.args.is_spent z size (trimmed (take n items))) goal
     ∙ ap (λ (b : Bool). page_badness b c.args.room size (trimmed (take n items))) spent in
     let demerits = to_z-of_z w64 c.plus.result (record { sfits = search rules }) ∙ c.plus.ensures.value
