@@ -1,5 +1,5 @@
 //! The sums of notes by class.
-ghost use Rattle.std.specs.Prelude.{◌≡◌, ◌==◌, ℕ, List, ◌++◌, ◌∷◌, [], ◌+◌, ◌*◌, ◌<◌, ◌≤◌, ◌^◌, length, nat_abs, is_none, pos, ◌≤ℤ◌};
+ghost use Rattle.std.specs.Prelude.{replicate, ◌≡◌, ◌==◌, ℕ, List, ◌++◌, ◌∷◌, [], ◌+◌, ◌*◌, ◌<◌, ◌≤◌, ◌^◌, length, nat_abs, is_none, pos, ◌≤ℤ◌};
 ghost use Rattle.std.specs.List.{position, sum_by};
 ghost use Rattle.pg_list.specs.Ranges.{IsItemInRange};
 ghost use Rattle.pg_scaled.specs.Ranges.{IsScaled};
@@ -11,6 +11,7 @@ ghost use Rattle.pg_notes.specs.declared.sums.NoteSum.{NoteSum as ANoteSum};
 ghost use Rattle.pg_rules.specs.Room.{notes, are_notes_within_limits};
 ghost use Rattle.pg_notes.specs.NotesValue.{note_height as note_height_of, heights as heights_of, is_over_limit as is_over_limit_of, first_over_limit};
 ghost use Rattle.pg_notes.specs.AreNotes.{AreNotes, AreNoteSums, first_over};
+ghost use Rattle.pg_notes.specs.Step.{no_note, with_insert, with_note};
 
 use pg_list::Item;
 use pg_style::{Class, Kind, Style};
@@ -26,7 +27,7 @@ pub struct NoteSum {
 /// The sums of the notes of a segment so far, for each class of a style in increasing number.
 ///
 /// Every call with a style wants the style with which all items so far were added.
-#[derive(Debug, Drop)]
+#[derive(Clone, Copy, Debug)]
 pub struct NoteSums {
     sums: [NoteSum; 8],
     count: u32,
@@ -40,6 +41,8 @@ impl Model for NoteSums {
     ghost use Rattle.pg_notes.specs.NotesValue.{IsWellKept};
 
     ghost view = { λ a. record { sums = a.sums; count = a.count } };
+
+    ghost inverse = { λ v. record { sums = v.sums; count = v.count } };
 
     ghost invariant = { λ a. IsWellKept a.sums a.count };
 }
@@ -65,6 +68,7 @@ fn add_insert(sums: &mut [NoteSum], classes: &[Class], number: u8, size: u64)
     ensures sums { (items : List AnItem) (body : List ℕ) → AreInOrder classes.now →
         AreNoteSums items classes.now sums.old →
         AreNoteSums (items ++ Insert number (pos size) body ∷ []) classes.now sums.new }
+    ensures value { sums.new ≡ with_insert classes.now sums.old number size }
     ensures bound { sum_by (λ (sum : ANoteSum). sum.size) sums.new
         ≤ sum_by (λ (sum : ANoteSum). sum.size) sums.old + size }
 {
@@ -92,6 +96,7 @@ fn add_item(sums: &mut [NoteSum], classes: &[Class], item: &Item)
     requires in_range { IsItemInRange item.now }
     ensures sums { (items : List AnItem) → AreInOrder classes.now → AreNoteSums items classes.now sums.old →
         AreNoteSums (items ++ item.now ∷ []) classes.now sums.new }
+    ensures value { sums.new ≡ with_note classes.now sums.old item.now }
     ensures bound { sum_by (λ (sum : ANoteSum). sum.size) sums.new
         ≤ sum_by (λ (sum : ANoteSum). sum.size) sums.old + 2 ^ 30 }
 {
@@ -167,6 +172,7 @@ impl NoteSums {
     pub fn start() -> NoteSums
         ensures notes { (style : StyleValue) → IsStyle style → AreNotes style [] result }
         ensures count { result.count ≡ 0 }
+        ensures value { result.sums ≡ replicate 8 no_note }
     {
         NoteSums {
             sums: [NoteSum {
@@ -184,6 +190,7 @@ impl NoteSums {
         ensures notes { (items : List AnItem) → AreNotes style.now items self.old →
             AreNotes style.now (items ++ item.now ∷ []) self.new }
         ensures count { self.new.count ≡ self.old.count + 1 }
+        ensures value { self.new.sums ≡ with_note style.now.classes self.old.sums item.now }
     {
         add_item(&mut self.sums, classes_of(style), item);
         self.count += 1;
@@ -211,6 +218,7 @@ impl NoteSums {
     pub fn height(&self, style: &Style) -> i64
         ensures sums { (items : List AnItem) → AreNotes style.now items self.now → result ≡ notes style.now items }
         ensures size { nat_abs result < 2 ^ 51 }
+        ensures value { result ≡ pos (heights_of style.now.classes self.now.sums) }
     {
         self.taken(style) as i64
     }
@@ -221,6 +229,7 @@ impl NoteSums {
             result ≡ first_over style.now items }
         ensures none { (items : List AnItem) → AreNotes style.now items self.now →
             is_none result ≡ are_notes_within_limits style.now items }
+        ensures value { result ≡ first_over_limit style.now.classes self.now.sums }
     {
         self.first_above(style)
     }

@@ -92,7 +92,7 @@ module _ (all : List Block) where
       variant_climb n pick (picked_items (Choice variants) pick) (flat_items_from (n + 1) blocks picks)
       (omega arith) (steps_climb (n + 1) blocks picks r.1)
 
-  climb_at : (f : ℕ) (xs : List FlatItem) (n : ℕ) (x : FlatItem) → Climbs f xs → slice_get xs n ≡ Some x →
+  pub climb_at : (f : ℕ) (xs : List FlatItem) (n : ℕ) (x : FlatItem) → Climbs f xs → slice_get xs n ≡ Some x →
       f + n ≤ far all x.place
   climb_at f [] n x c e = absurd cc
   climb_at f (y ∷ ys) zero x c e = let s : y ≡ x = some_same y x e in
@@ -105,13 +105,13 @@ module _ (all : List Block) where
       let r : far all y.place + 1 + n ≤ far all x.place = climb_at (far all y.place + 1) ys n x c.1 e in
       omega arith
 
-  climb_end : (f : ℕ) (xs : List FlatItem) → Climbs f xs → f + length xs ≤ item_count all
+  pub climb_end : (f : ℕ) (xs : List FlatItem) → Climbs f xs → f + length xs ≤ item_count all
   climb_end f [] c = let k : f ≤ item_count all = c in omega arith
   climb_end f (y ∷ ys) c = let k : f ≤ far all y.place = c.0 in
       let r : far all y.place + 1 + length ys ≤ item_count all = climb_end (far all y.place + 1) ys c.1 in
       omega arith
 
-  at_climb : (from : Place) (picks : List ℕ) → IsPlace all from →
+  pub at_climb : (from : Place) (picks : List ℕ) → IsPlace all from →
       Climbs (far all from) (flat_items_at all from picks)
   at_climb from picks p = by from.index refl
     where

@@ -9,6 +9,7 @@ ghost use Rattle.pg_flat.specs.Totals.{total, shrink, stretch, trimmed};
 ghost use Rattle.pg_flat.specs.Badness.{badness as badness_of, is_over, page_badness, has_infinite as has_infinite_of};
 ghost use Rattle.pg_list.specs.declared.item.Order.TheVariants.{Finite};
 ghost use Rattle.pg_sums.specs.AreSums.{AreSums};
+ghost use Rattle.pg_sums.specs.Step.{badness_by, counted, has_infinite as has_infinite_by, no_totals};
 
 use crate::totals::Totals;
 use pg_badness::badness;
@@ -20,7 +21,7 @@ use std::marker::Model;
 /// or rule are left out.
 ///
 /// Each number is the number of the items added since `start`, whatever they are.
-#[derive(Debug, Drop)]
+#[derive(Clone, Copy, Debug)]
 pub struct Sums {
     topskip: i32,
     maxdepth: i32,
@@ -37,6 +38,8 @@ impl Model for Sums {
 
     ghost view = { λ a. record { topskip = a.topskip; maxdepth = a.maxdepth; count = a.count; totals = a.totals } };
 
+    ghost inverse = { λ v. record { topskip = v.topskip; maxdepth = v.maxdepth; count = v.count; totals = v.totals } };
+
     ghost invariant = { λ a. IsWellKept (record { topskip = a.topskip; maxdepth = a.maxdepth; count = a.count; totals = a.totals }) };
 }
 
@@ -48,6 +51,8 @@ impl Sums {
         requires hanging { pos 0 ≤ℤ maxdepth }
         ensures sums { AreSums topskip maxdepth [] result }
         ensures count { result.count ≡ 0 }
+        ensures value { result.totals ≡ no_totals }
+        ensures kept { (result.topskip ≡ topskip) × (result.maxdepth ≡ maxdepth) }
     {
         Sums {
             topskip,
@@ -71,6 +76,8 @@ impl Sums {
         ensures sums { (topskip maxdepth : ℤ) (items : List AnItem) → AreSums topskip maxdepth items self.old →
             AreSums topskip maxdepth (items ++ item.now ∷ []) self.new }
         ensures count { self.new.count ≡ self.old.count + 1 }
+        ensures value { self.new.totals ≡ counted self.old.topskip self.old.maxdepth self.old.totals item.now }
+        ensures kept { (self.new.topskip ≡ self.old.topskip) × (self.new.maxdepth ≡ self.old.maxdepth) }
     {
         if self.counts(item) {
             self.totals.add(self.topskip, self.maxdepth, item);
@@ -100,7 +107,8 @@ impl Sums {
 
     /// Whether a box or rule was added.
     pub fn has_box(&self) -> bool
-        ensures { (topskip maxdepth : ℤ) (items : List AnItem) → AreSums topskip maxdepth items self.now →
+        ensures value { result ≡ self.now.totals.has_box }
+        ensures sums { (topskip maxdepth : ℤ) (items : List AnItem) → AreSums topskip maxdepth items self.now →
             result ≡ list_any is_box items }
     {
         self.totals.has_box
@@ -120,8 +128,9 @@ impl Sums {
 
     // Whether some infinite stretch does not sum to 0.
     fn has_infinite(&self) -> bool
-        ensures { (topskip maxdepth : ℤ) (items : List AnItem) → AreSums topskip maxdepth items self.now →
+        ensures sums { (topskip maxdepth : ℤ) (items : List AnItem) → AreSums topskip maxdepth items self.now →
             result ≡ has_infinite_of (trimmed items) }
+        ensures value { result ≡ has_infinite_by self.now.totals }
     {
         self.totals.fil != 0 || self.totals.fill != 0 || self.totals.filll != 0
     }
@@ -129,8 +138,9 @@ impl Sums {
     // How badly the finite stretch fills an excess.
     fn stretch_badness(&self, excess: i64) -> u16
         requires { pos 0 ≤ℤ excess }
-        ensures { (topskip maxdepth : ℤ) (items : List AnItem) → AreSums topskip maxdepth items self.now →
+        ensures sums { (topskip maxdepth : ℤ) (items : List AnItem) → AreSums topskip maxdepth items self.now →
             result ≡ badness_of excess (stretch Finite (trimmed items)) }
+        ensures value { result ≡ badness_of excess self.now.totals.finite }
     {
         badness(excess, self.totals.finite)
     }
@@ -138,8 +148,9 @@ impl Sums {
     // How badly the shrink takes up an excess.
     fn shrink_badness(&self, excess: i64) -> u16
         requires { pos 0 ≤ℤ excess }
-        ensures { (topskip maxdepth : ℤ) (items : List AnItem) → AreSums topskip maxdepth items self.now →
+        ensures sums { (topskip maxdepth : ℤ) (items : List AnItem) → AreSums topskip maxdepth items self.now →
             result ≡ badness_of excess (shrink (trimmed items)) }
+        ensures value { result ≡ badness_of excess self.now.totals.shrink }
     {
         badness(excess, self.totals.shrink)
     }
@@ -148,8 +159,9 @@ impl Sums {
     fn glue_badness(&self, goal: i64) -> u16
         requires size { nat_abs goal < 2 ^ 52 }
         requires fits { is_over self.now.totals.total self.now.totals.shrink goal ≡ false }
-        ensures { (topskip maxdepth : ℤ) (items : List AnItem) → AreSums topskip maxdepth items self.now →
+        ensures sums { (topskip maxdepth : ℤ) (items : List AnItem) → AreSums topskip maxdepth items self.now →
             result ≡ page_badness false goal (total topskip maxdepth (trimmed items)) (trimmed items) }
+        ensures value { result ≡ badness_by false goal self.now.totals }
     {
         let total = self.total();
         if total >= goal {
@@ -166,8 +178,9 @@ impl Sums {
     pub fn page_badness(&self, goal: i64, spent: bool) -> u16
         requires size { nat_abs goal < 2 ^ 52 }
         requires fits { is_over self.now.totals.total self.now.totals.shrink goal ≡ false }
-        ensures { (topskip maxdepth : ℤ) (items : List AnItem) → AreSums topskip maxdepth items self.now →
+        ensures sums { (topskip maxdepth : ℤ) (items : List AnItem) → AreSums topskip maxdepth items self.now →
             result ≡ page_badness spent goal (total topskip maxdepth (trimmed items)) (trimmed items) }
+        ensures value { result ≡ badness_by spent goal self.now.totals }
     {
         if spent && self.total() <= goal {
             0

@@ -7,6 +7,7 @@ ghost use Rattle.pg_list.specs.declared.item.Order.TheVariants.{Finite, Fil, Fil
 ghost use Rattle.pg_flat.specs.Totals.{is_same_order};
 ghost use Rattle.pg_sums.specs.SumsValue.{HaveSameGlue, HasGlueGrown, HasGrown, IsBounded};
 ghost use Rattle.pg_sums.specs.AreSums.{AreTotals};
+ghost use Rattle.pg_sums.specs.Step.{no_totals, with_item};
 ghost use Rattle.pg_list.specs.declared.item.Item.{Item as AnItem};
 
 use pg_list::{Item, Order};
@@ -14,7 +15,7 @@ use pg_whole::{minus, plus, wide};
 
 /// The sums of items that all count, in scaled points: the natural size without the depth that hangs below,
 /// that depth, the stretch of each order, and the shrink.
-#[derive(Clone, Copy, Debug, Drop)]
+#[derive(Clone, Copy, Debug, PartialEq, Eq, Hash)]
 pub struct Totals {
     pub total: i64,
     pub depth: i64,
@@ -80,6 +81,7 @@ impl Totals {
     pub fn none() -> Totals
         ensures sums { (topskip maxdepth : ℤ) → AreTotals topskip maxdepth [] result }
         ensures bounds { IsBounded result 0 }
+        ensures value { result ≡ no_totals }
     {
         Totals {
             total: 0,
@@ -199,6 +201,7 @@ impl Totals {
         ensures size { IsBounded self.old (2 ^ 24) → HasGrown self.new self.old }
         ensures totals { (items : List AnItem) → AreTotals topskip maxdepth items self.old →
             AreTotals topskip maxdepth (items ++ item.now ∷ []) self.new }
+        ensures value { self.new ≡ with_item topskip maxdepth self.old item.now }
     {
         match item {
             Item::BoxItem { height, depth, .. } => {
