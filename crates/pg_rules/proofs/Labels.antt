@@ -3,14 +3,12 @@ use Rattle.std.proofs.Common.{◌≡◌, ◌<◌, inl, refl, sym, subst, true, f
 use Rattle.std.specs.Option.{option_map_or}
 use Rattle.std.proofs.lemmas.Int.{ints}
 use Rattle.std.specs.Prelude.{◌==◌, ◌&&◌, Contains, slice_index_or, ℤ, pos, if◌then◌else◌}
-use Rattle.std.proofs.lemmas.Option.{same_Some}
-use Rattle.pg_lemmas.proofs.Bools.{both_of, by_bool}
+use Rattle.pg_lemmas.proofs.Bools.{both_of}
 use Rattle.pg_flat.proofs.Places.{same_place}
 use Rattle.pg_flat.specs.Flat.{is_same_place}
 use Rattle.pg_list.specs.GalleyValue.{GalleyValue}
 use Rattle.pg_list.specs.Places.{place}
 use Rattle.pg_list.specs.declared.galley.Place.{Place}
-use Rattle.pg_plan.specs.declared.pages.Column.{Column}
 use Rattle.pg_plan.specs.declared.pages.PageMove.{PageMove}
 use Rattle.pg_plan.specs.declared.states.Label.{Label}
 use Rattle.pg_plan.specs.declared.states.State.{State}
