@@ -1,18 +1,12 @@
 -- The order of columns is total, and equal only for equal columns.
-use Rattle.std.proofs.Common.{◌≡◌, refl, sym, ap, ◌∙◌, ℕ, ◌<◌, List, [], ◌∷◌}
+use Rattle.std.proofs.Common.{◌≡◌, ◌∙◌, ℕ, ◌<◌, List, [], ◌∷◌}
 use Rattle.std.specs.Prelude.{reverse}
-use Rattle.std.specs.Ordering.{nat_cmp, ordering_then}
-use Rattle.std.specs.declared.cmp.Ordering.{Ordering}
-use Rattle.std.specs.declared.cmp.Ordering.TheVariants.{Less, Equal, Greater}
+use Rattle.std.specs.Ordering.{nat_cmp}
 use Rattle.std.specs.Cmp.{IsTotalOrder}
-use Rattle.std.specs.Cmp.Lexicographic.{slice_cmp}
-use Rattle.std.proofs.lemmas.Cmp.{then_total, nat_cmp_total, nat_list_cmp_total, on_total, by_ranked, ranked}
-use Rattle.std.proofs.lemmas.List.{reverse-reverse}
+use Rattle.std.proofs.lemmas.Cmp.{then_total, nat_cmp_total, nat_list_cmp_total, on_total}
 use Rattle.pg_list.specs.declared.galley.Place.{Place}
 use Rattle.pg_plan.specs.declared.pages.PageMove.{PageMove}
-use Rattle.pg_plan.specs.Order.{place_cmp, counts_cmp, picks_cmp, column_cmp}
-use Rattle.pg_lemmas.proofs.Orders.{then_equal}
-use Rattle.pg_plan.proofs.OrderLaws.{nat_equal, list_equal, place_equal, picks_equal}
+use Rattle.pg_plan.specs.Order.{place_cmp, column_cmp}
 
 pub place_total : IsTotalOrder place_cmp
 place_total = then_total {R = λ (a b : Place). nat_cmp a.block b.block}

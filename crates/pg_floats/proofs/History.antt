@@ -1,11 +1,10 @@
 -- A queue counts what happened to it.
 use Rattle.std.proofs.Common.{◌≡◌, refl, sym, ap, ◌∙◌, subst, ℕ, zero, suc, ◌+◌, ◌-◌, ◌<◌, ◌≤◌, List, [], ◌∷◌, ◌++◌}
 use Rattle.std.proofs.Common.{length, length-append, append_assoc, map, take, drop, get_or, set, add-one, arith, Bool}
-use Rattle.std.proofs.Common.{true, false, inl, inr, length-drop}
+use Rattle.std.proofs.Common.{inl, inr, length-drop}
 use Rattle.std.specs.Prelude.{◌==◌, if◌then◌else◌, sum}
 use Rattle.std.specs.List.{insert, remove}
 use Rattle.std.proofs.lemmas.Bool.{cases_Bool, eqb-true}
-use Rattle.std.proofs.lemmas.Bool.Decides.{nat_tests}
 use Rattle.std.proofs.lemmas.List.{append-nil, take-map, drop-map, map-append, length-map, get_or-set_same}
 use Rattle.std.proofs.lemmas.List.{get_or-set_other, drop-append-le}
 use Rattle.std.proofs.lemmas.List.Edits.{length-insert, length-remove}

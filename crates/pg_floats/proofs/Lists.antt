@@ -1,7 +1,7 @@
 -- The callouts that are kept, and the floats of the definition.
 use Rattle.std.specs.Option.{option_or}
 use Rattle.std.proofs.Common.{◌≡◌, refl, sym, ap, ◌∙◌, ℕ, suc, ◌+◌, ◌*◌, ◌<◌, ◌≤◌, List, [], ◌∷◌, ◌++◌, length}
-use Rattle.std.proofs.Common.{length-append, map, arith, Bool, true, false, Option, Some, None, ℤ, pos}
+use Rattle.std.proofs.Common.{length-append, map, arith, Bool, true, false, Some, None, ℤ, pos}
 use Rattle.std.specs.Prelude.{◌==◌, if◌then◌else◌, option_map, is_none, unsigned_abs, Result, Ok, Err}
 use Rattle.std.specs.List.{AllByRecursion, filter, filter_map, find, cons_option, sum_by}
 use Rattle.std.proofs.lemmas.Int.{ints}
@@ -23,7 +23,6 @@ use Rattle.pg_style.specs.Values.{StyleValue}
 use Rattle.pg_style.specs.declared.style.Class.{Class}
 use Rattle.pg_rules.specs.Floats.{sizes_of, insert_size, float_numbers}
 use Rattle.pg_place_laws.proofs.Measures.{variant_items}
-use Rattle.pg_place_laws.proofs.Places.{begins}
 use Rattle.pg_floats.proofs.Numbers.{numbers_are}
 use Rattle.pg_floats.specs.declared.callouts.Callout.{Callout}
 use Rattle.pg_floats.specs.declared.fault.FloatFault.{FloatFault}

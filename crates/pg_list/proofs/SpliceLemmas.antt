@@ -1,5 +1,5 @@
 -- Blocks in place of others.
-use Rattle.std.proofs.Common.{◌≡◌, ◌∙◌, refl, ap, sym, arith, length, append_assoc, ℕ, List, [], ◌∷◌, ◌++◌, take, drop, zero, suc}
+use Rattle.std.proofs.Common.{◌≡◌, ◌∙◌, refl, ap, sym, arith, length, append_assoc, ℕ, List, [], ◌∷◌, ◌++◌, take, drop}
 use Rattle.std.specs.List.{AllByRecursion, splice}
 use Rattle.std.specs.Iterator.{Yields}
 use Rattle.std.specs.Vec.Iter.{into_iter_steps, into_iter_items, into_iter_len}

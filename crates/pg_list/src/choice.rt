@@ -1,3 +1,4 @@
+//! Choices between the variants of a paragraph.
 ghost use Rattle.pg_list.specs.Shapes.{all_shaped, all_fit, same_insert, inserts, is_shaped as is_shaped_list, HasItemsInRange};
 ghost use Rattle.std.specs.List.{list_all, AllByRecursion};
 ghost use Rattle.std.specs.Cmp.Lexicographic.{pointwise};
@@ -106,7 +107,8 @@ fn have_shape(variants: &[Variant]) -> bool
 }
 
 fn have_inserts(first: &[Item], variants: &[Variant]) -> bool
-    ensures { result ≡ list_all (λ (variant : Variant). pointwise same_insert (inserts first.now) (inserts variant.items)) variants.now }
+    ensures { result ≡ list_all
+        (λ (variant : Variant). pointwise same_insert (inserts first.now) (inserts variant.items)) variants.now }
 {
     variants.iter().all(|variant| have_same_inserts(first, variant.items.as_slice()))
 }

@@ -1,3 +1,4 @@
+//! Whether two items are equal.
 ghost use Rattle.std.specs.Prelude.{◌≡◌, IsTrue, ◌↔◌};
 
 use crate::item::Item;

@@ -1,3 +1,4 @@
+//! The style of the generated galleys.
 ghost use Rattle.std.specs.Prelude.{◌≡◌, ◌∷◌, [], pos, negsuc};
 ghost use Rattle.pg_style.specs.Ranges.{IsClass};
 ghost use Rattle.pg_make.specs.Made.{made_style, made_runs, made_classes, made_floats, made_notes};

@@ -1,5 +1,5 @@
 -- Members of lists, and what holds of all.
-use Rattle.std.proofs.Common.{◌≡◌, refl, subst, ◌⊎◌, inl, inr, List, [], ◌∷◌, ◌++◌, map, Bool, true, false}
+use Rattle.std.proofs.Common.{◌≡◌, refl, subst, ◌⊎◌, inl, inr, List, [], ◌∷◌, ◌++◌, map, Bool, true}
 use Rattle.std.specs.Prelude.{◌&&◌, ℤ}
 use Rattle.std.specs.List.{list_all}
 use Rattle.pg_flat.specs.Whole.{whole_sum_by}

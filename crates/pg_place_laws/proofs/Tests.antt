@@ -5,8 +5,7 @@ use lib.Signed.{lt_z_yes, le_z_yes}
 use Rattle.std.proofs.lemmas.Bool.Decides.{nat_tests}
 use Rattle.pg_list.specs.declared.galley.Place.{Place}
 use Rattle.pg_flat.specs.Flat.{is_same_place}
-use Rattle.pg_lemmas.proofs.Bools.{both_of, both}
-use Rattle.std.proofs.lemmas.Bool.{eqb-true}
+use Rattle.pg_lemmas.proofs.Bools.{both}
 use Rattle.pg_lemmas.proofs.Numbers.{eq_refl}
 
 pub if_true : {X : Type 0} (b : Bool) (x y : X) → b ≡ true → (if b then x else y) ≡ x

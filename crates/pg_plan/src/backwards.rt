@@ -1,3 +1,4 @@
+//! The columns of a pagination, one by one from the last.
 ghost use Rattle.std.specs.Prelude.{reverse, ◌≡◌, ◌<◌, [], ◌∷◌, length, MatchOption, IfSome};
 ghost use Rattle.pg_plan.specs.Order.{columns, columns_of};
 ghost use Rattle.pg_plan.specs.Backwards.{move_of, moves_left};
@@ -89,7 +90,8 @@ fn open_page<'a>(pages: &'a [Page]) -> Option<ColumnsBefore<'a>>
 
 /// The last column, and what stands before it.
 pub fn split_last<'a>(front: &ColumnsBefore<'a>) -> Option<(MoveView<'a>, ColumnsBefore<'a>)>
-    ensures moves { MatchOption result (moves_left front.now ≡ []) (λ x. moves_left front.now ≡ move_of x.0 ∷ moves_left x.1) }
+    ensures moves { MatchOption result (moves_left front.now ≡ []) (λ x. moves_left front.now ≡ move_of x.0
+        ∷ moves_left x.1) }
     ensures shorter { IfSome result (λ x. length (moves_left x.1) < length (moves_left front.now)) }
 {
     let mut left = *front;

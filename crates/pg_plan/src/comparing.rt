@@ -1,3 +1,4 @@
+//! The order among paginations of equal cost.
 ghost use Rattle.std.specs.Prelude.{◌≡◌, if◌then◌else◌};
 ghost use Rattle.std.specs.Cmp.Lexicographic.{slice_cmp};
 ghost use Rattle.pg_plan.specs.Order.{place_cmp, counts_cmp, picks_cmp, column_cmp, plan_cmp};

@@ -1,7 +1,7 @@
-//! Paginations, the states and labels of their beginnings, and the order among paginations of
-//! equal cost.
-//! Proved: `compare` is that order, which is total; lists are edited as lists are; a copy is equal.
-//! The definitions are in `specs/Order`.
+//! Paginations, the states and labels of their beginnings, and the order among paginations of equal cost.
+//!
+//! Proved: `compare` is that order, which is total; lists are edited as lists are; a copy is equal. The definitions
+//! are in `specs/Order`.
 #![tactic(auto)]
 
 mod backwards;

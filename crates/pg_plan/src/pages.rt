@@ -1,3 +1,4 @@
+//! Paginations, pages, columns and moves.
 ghost use Rattle.std.specs.Prelude.{◌≡◌, IfOk, ◌++◌, OnOk, OnErr, ◌∷◌, [], length};
 
 use crate::lists::{Counts, Picks};

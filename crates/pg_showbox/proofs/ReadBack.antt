@@ -1,6 +1,6 @@
 -- What is printed reads back, line by line.
 use Rattle.std.proofs.Common.{◌≡◌, ◌∙◌, ◌≤◌, ◌<◌, ◌+◌, ◌^◌, ℕ, suc, ap, sym, arith, List, [], ◌∷◌, ◌++◌, refl, length, true, false, subst, append_assoc, append-nil, Bool}
-use Rattle.std.specs.Prelude.{IsTrue, Result, Ok, Option, Some, None, codes, ◌==◌, not, ◌&&◌}
+use Rattle.std.specs.Prelude.{IsTrue, Result, Ok, Option, None, codes, ◌==◌, not, ◌&&◌}
 use Rattle.std.specs.List.{AllByRecursion, flat_map}
 use Rattle.pg_list.specs.declared.item.Item.{Item}
 use Rattle.pg_list.specs.declared.variants.Variant.{Variant}
@@ -38,19 +38,15 @@ use Rattle.std.proofs.lemmas.Int.{ints}
 use Rattle.std.proofs.lemmas.Bool.Decides.{nat_tests}
 use Rattle.std.specs.Fmt.{signed_decimal}
 use Rattle.std.specs.Prelude.{decimal, pos, negsuc, neg_ℤ, nat_abs, int_le}
-use Rattle.pg_list.specs.Shapes.{IsWithinLimits, BeginsWithBox, begins_with_box, ends_solid, is_solid, is_shaped, is_discardable, same_insert, inserts, fits_first, IsVariant, AreVariants, HaveEqualInserts}
+use Rattle.pg_list.specs.Shapes.{IsWithinLimits, begins_with_box, ends_solid, is_shaped, same_insert, inserts, fits_first, IsVariant, AreVariants, HaveEqualInserts}
 use Rattle.pg_list.specs.declared.item.Item.TheVariants as item
-use Rattle.std.specs.Prelude.{IsSomeAnd, slice_get, ◌-◌}
+use Rattle.std.specs.Prelude.{slice_get, ◌-◌}
 use Rattle.std.specs.List.{sum_by}
-use Rattle.std.specs.Ordering.{int_eq}
-use Rattle.std.specs.Str.{bytes_eq}
 use Rattle.std.specs.Cmp.Lexicographic.{pointwise}
-use Rattle.std.proofs.lemmas.Slice.Eq.{bytes_eq-Decides}
-use Rattle.std.proofs.lemmas.Bool.Decides.{Decides-int_eq}
 use Rattle.std.proofs.Common.{length-append}
 use Rattle.pg_lemmas.proofs.Lists.{all_append}
 use Rattle.pg_lemmas.proofs.Bools.{both, true_both}
-use Rattle.pg_list.proofs.NewLemmas.{begins_back, solid_back, same_self, inserts_self}
+use Rattle.pg_list.proofs.NewLemmas.{begins_back, solid_back, inserts_self}
 
 not_true : (b : Bool) → IsTrue (not b) → b ≡ false
 not_true true h = absurd (cc)

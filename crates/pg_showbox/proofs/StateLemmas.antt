@@ -25,7 +25,7 @@ use Rattle.pg_showbox.specs.Parts.{◌>>=◌}
 use Rattle.pg_scan.specs.Parts.{past}
 use Rattle.pg_showbox.specs.Nodes.{node_item}
 use Rattle.std.specs.Prelude.{codes}
-use Rattle.pg_showbox.specs.State.{Steps, Counted, Sound, WithinSound, started, placed, placed_block, placed_item, longer_last, last_extended, closed, ended, begun_listing, begun_choice, begun_variant, next_variant, whole_choice, ended_choice, or_first, step}
+use Rattle.pg_showbox.specs.State.{Steps, Counted, Sound, placed, placed_block, placed_item, longer_last, last_extended, closed, ended, begun_listing, begun_choice, begun_variant, next_variant, whole_choice, ended_choice, or_first, step}
 
 pub steps_err : (kind : ListKind) (said : Result ReaderState ListKind) (new : ReaderState) → said ≡ Err kind
     → Steps (Err kind) said new

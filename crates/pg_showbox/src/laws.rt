@@ -1,3 +1,4 @@
+//! That what is printed reads back.
 ghost use Rattle.std.specs.Prelude.{◌≡◌, Ok, None};
 ghost use Rattle.std.specs.List.{AllByRecursion};
 ghost use Rattle.pg_list.specs.Places.{spliced};

@@ -1,3 +1,4 @@
+//! Pages as a space for the table.
 ghost use Rattle.std.specs.Prelude.{◌≡◌, ◌+◌, ◌*◌, ◌<◌, ◌^◌, nat_abs, length, reverse, List, IfOk, IsTrue, ◌↔◌};
 ghost use Rattle.pg_rules.specs.Ranges.{AreInRange, AreInRange_prop};
 ghost use Rattle.pg_flat.specs.Rigid.{AreRigid};

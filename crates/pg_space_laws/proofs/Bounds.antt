@@ -1,7 +1,7 @@
 -- The space of pages keeps the laws of a space, for each galley and style in range.
 use Rattle.std.proofs.Common.{◌≡◌, refl, sym, ap, subst, ℕ, zero, suc, ◌+◌, ◌*◌, ◌^◌, ◌≤◌, ◌<◌, inl, inr, List, [], ◌∷◌, map, length, Bool, true, false, Option, Some, None, arith}
 use Rattle.std.specs.Prelude.{cond, drop, ◌&&◌, ◌==◌, if◌then◌else◌, nat_abs, nat_le, ℤ}
-use Rattle.std.specs.List.{AllByRecursion, sum_by, range_with_len, filter, cons_option}
+use Rattle.std.specs.List.{AllByRecursion, sum_by, range_with_len, filter}
 use Rattle.std.specs.Option.{option_map_or}
 use Rattle.std.proofs.lemmas.List.Sums.{sum_by-cons}
 use Rattle.pg_list.specs.Counts.{block_size, item_count}
@@ -11,14 +11,13 @@ use Rattle.pg_list.specs.Shapes.{IsBlock}
 use Rattle.pg_list.specs.declared.blocks.Block.{Block}
 use Rattle.pg_list.specs.declared.blocks.Block.TheVariants.{One, Choice}
 use Rattle.pg_list.specs.declared.galley.Place.{Place}
-use Rattle.pg_list.specs.declared.item.Item.{Item}
 use Rattle.pg_plan.specs.declared.pages.PageMove.{PageMove}
 use Rattle.pg_plan.specs.declared.states.State.{State}
 use Rattle.pg_style.specs.Values.{StyleValue}
 use Rattle.pg_flat.specs.Flat.{blocks_at, flat, fronts, items_before}
 use Rattle.pg_rules.specs.ColumnRules.{column_variants}
 use Rattle.pg_style.specs.declared.style.Area.{Area}
-use Rattle.pg_rules.specs.Floats.{float_class, entry, called, sizes_of, float_numbers, insert_size, slots, total_count}
+use Rattle.pg_rules.specs.Floats.{float_class, entry, called, sizes_of, float_numbers, slots, total_count}
 use Rattle.pg_rules.specs.Follow.{Follow, age_in, context_in, next_state}
 use Rattle.pg_rules.specs.History.{placed_after}
 use Rattle.pg_rules.specs.Legal.{added, document}

@@ -17,7 +17,8 @@ use Rattle.pg_rules.specs.Frontier.{Better, Frontier, state_cmp}
 use Rattle.pg_rules.specs.Legal.{Legal, document}
 use Rattle.pg_rules.specs.States.{Prefix, state_of}
 use Rattle.pg_table.specs.Label.{RunOf, IsBestOf, NoneDone}
-use Rattle.pg_table.specs.Space.{Run}
+use Rattle.pg_table.specs.Narrower.{BetteredBy, Instead}
+use Rattle.pg_table.specs.Space.{IsRun, Reached, Run}
 use Rattle.pg_table.specs.declared.table.Entry.{Entry}
 use Rattle.pg_beginning_laws.specs.Pages.{plan_of}
 use Rattle.pg_rules.specs.BestPicks.{repicked}
@@ -69,6 +70,17 @@ BestPicksAreOne galley style = (u : State) (m : PageMove) (v x : State) (c d : �
     FollowBest (document galley style) u (repicked m picks) x d →
     column_fitness (context_in (document galley style) u (repicked m picks))
     ≡ column_fitness (context_in (document galley style) u m) → m.column.picks ≡ picks
+
+-- for each column that may follow a state, one with best picks may stand in its place
+abbrev pub BestPicksStandIn : GalleyValue → StyleValue → Type 0
+BestPicksStandIn galley style = (state : State) (move : PageMove) (next : State) (cost : ℤ) →
+    Follow (document galley style) state move next cost →
+    Instead (wide_meaning (document galley style)) (FollowBest (document galley style)) state move next cost
+
+-- each run has one of columns with best picks that betters it
+abbrev pub BestPicksBetter : GalleyValue → StyleValue → Type 0
+BestPicksBetter galley style = (run : Reached State PageMove) → IsRun (wide_meaning (document galley style)) run →
+    BetteredBy (wide_meaning (document galley style)) (FollowBest (document galley style)) run
 
 -- ---- from a table
 

@@ -11,7 +11,7 @@ ghost use Rattle.pg_table.specs.Narrower.{Instead, BetteredBy, IsNarrower};
 ghost use Rattle.pg_table.specs.Space.{Lawful, Reached, IsRun};
 ghost use Rattle.pg_table.specs.declared.table.Entry.{Entry};
 ghost use Rattle.pg_rules.specs.Ranges.{AreInRange};
-ghost use Rattle.pg_space_laws.specs.Laws.{BestPicksAreOne, RunsAreBeginnings, BeginningsAreRuns, BetterGoOn, TellsAll};
+ghost use Rattle.pg_space_laws.specs.Laws.{BestPicksAreOne, BestPicksBetter, BestPicksStandIn, RunsAreBeginnings, BeginningsAreRuns, BetterGoOn, TellsAll};
 ghost use Rattle.pg_space_laws.specs.PageSpace.{FollowBest, wide_meaning, page_meaning};
 
 use pg_list::Galley;
@@ -38,10 +38,11 @@ pub fn runs_are_beginnings(galley: &Galley, style: &Style)
 /// list of them. So a run of columns with best picks betters each run.
 pub fn best_picks_better(galley: &Galley, style: &Style)
     requires { AreInRange galley.now style.now }
-    ensures exist { (u : State) (m : PageMove) (v : State) (c : ℤ) → Follow (document galley.now style.now) u m v c → Instead (wide_meaning (document galley.now style.now)) (FollowBest (document galley.now style.now)) u m v c }
+    ensures exist { BestPicksStandIn galley.now style.now }
     ensures unique { BestPicksAreOne galley.now style.now }
-    ensures narrower { IsNarrower (wide_meaning (document galley.now style.now)) (FollowBest (document galley.now style.now)) }
-    ensures better { (r : Reached State PageMove) → IsRun (wide_meaning (document galley.now style.now)) r → BetteredBy (wide_meaning (document galley.now style.now)) (FollowBest (document galley.now style.now)) r }
+    ensures narrower { IsNarrower (wide_meaning (document galley.now style.now))
+        (FollowBest (document galley.now style.now)) }
+    ensures better { BestPicksBetter galley.now style.now }
 {}
 
 /// Where one beginning is better than another, each column that may follow the other may follow
@@ -55,5 +56,6 @@ pub fn better_beginnings_go_on(galley: &Galley, style: &Style)
 /// label is done, and the frontier, which its labels are, sorted by their states.
 pub fn filled_table_tells_all(galley: &Galley, style: &Style)
     requires { AreInRange galley.now style.now }
-    ensures { (es : List (Entry State PageMove)) → IsTable (page_meaning (document galley.now style.now)) es → TellsAll galley.now style.now es }
+    ensures { (es : List (Entry State PageMove)) → IsTable (page_meaning (document galley.now style.now)) es
+        → TellsAll galley.now style.now es }
 {}

@@ -1,3 +1,4 @@
+//! The classes of a style.
 ghost use Rattle.std.specs.Prelude.{◌==◌, ℕ, ◌≡◌, ◌<◌, ◌≤◌, None, [], length, nat_lt};
 ghost use Rattle.std.specs.List.{position_from, prefix_len};
 ghost use Rattle.std.specs.Option.{option_copied};

@@ -1,3 +1,4 @@
+//! The demerits of a float by its distance.
 ghost use Rattle.std.specs.Prelude.{◌≡◌, ℕ, nat_le};
 ghost use Rattle.std.specs.List.{list_all};
 ghost use Rattle.pg_style.specs.Ranges.{rises, has_table_range};

@@ -1,3 +1,4 @@
+//! The style of a page height alone.
 ghost use Rattle.std.specs.Prelude.{◌≡◌, pos, ◌≤ℤ◌, ◌<ℤ◌, ◌^◌};
 ghost use Rattle.pg_style.specs.Plain.{plain};
 

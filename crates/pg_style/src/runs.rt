@@ -1,3 +1,4 @@
+//! The runs of a style.
 ghost use Rattle.std.specs.Prelude.{◌≡◌, ◌<◌, ◌++◌, ◌∷◌, [], length};
 
 use crate::style::Run;

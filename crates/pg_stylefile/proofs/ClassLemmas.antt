@@ -1,11 +1,10 @@
 -- The classes of a style file, one after another.
-use Rattle.std.proofs.Common.{◌≡◌, ◌∙◌, refl, arith, ℕ, ◌+◌, Bool, true, false, is_some, drop, List, [], ◌∷◌, length}
+use Rattle.std.proofs.Common.{◌≡◌, ◌∙◌, refl, ℕ, ◌+◌, false, is_some, drop, List, [], ◌∷◌}
 use Rattle.std.proofs.Common.{Option, Some, None, Result, Ok, Err}
-use Rattle.std.specs.Prelude.{nat_lt, if◌then◌else◌}
+use Rattle.std.specs.Prelude.{if◌then◌else◌}
 use Rattle.std.specs.List.{slice_get}
 use Rattle.toml.specs.Data.{Members}
 use Rattle.pg_style.specs.declared.style.Class.{Class}
-use Rattle.pg_style.specs.Classes.{inserted}
 use Rattle.pg_stylefile.specs.declared.fault.StyleFault.{StyleFault}
 use Rattle.pg_stylefile.specs.Tables.{with_next, classes_from}
 use Rattle.pg_stylefile.proofs.RunLemmas.{drop_at}

@@ -1,8 +1,7 @@
 -- The runs of a style file, one after another.
 use Rattle.std.proofs.Common.{◌≡◌, ◌∙◌, refl, ap, sym, arith, ℕ, ◌+◌, ◌≤◌, zero, suc, drop, List, [], ◌∷◌, ◌++◌}
-use Rattle.std.proofs.Common.{length, Some, Result, Ok, Err, ℤ, append_assoc}
+use Rattle.std.proofs.Common.{Some, Result, Ok, Err, ℤ, append_assoc}
 use Rattle.std.specs.List.{AllByRecursion, slice_get}
-use Rattle.std.proofs.lemmas.List.{drop_all, append-nil}
 use Rattle.toml.specs.Data.{Members}
 use Rattle.pg_style.specs.declared.style.Run.{Run}
 use Rattle.pg_stylefile.specs.declared.fault.StyleFault.{StyleFault}

@@ -1,3 +1,4 @@
+//! The faults of a style file, and the paths of its keys.
 ghost use Rattle.std.specs.Prelude.{◌≡◌, ◌++◌, IfOk, OnOk};
 ghost use Rattle.pg_stylefile.specs.Faults.{kind_number, path_of, position_text, fault_at, bare_fault, UnlessMemory};
 

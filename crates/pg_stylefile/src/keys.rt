@@ -109,7 +109,8 @@ impl<'t> Keys<'t> {
     }
 
     pub fn length(&self, key: &'t str) -> Result<i32, Fault<'t>>
-        ensures value { Tells (λ n. n) result (keyed self.now.table_name key.now length_of (table_view self.now.table.now)) }
+        ensures value { Tells
+            (λ n. n) result (keyed self.now.table_name key.now length_of (table_view self.now.table.now)) }
         ensures range { IfOk result IsLength }
     {
         self.dimension(key, 0, MAX_DIMENSION)

@@ -109,7 +109,8 @@ fn read_fitness<'t>(keys: &Keys<'t>, version: u8) -> Result<u32, Fault<'t>>
 
 #[tactic(auto, unfolding(crate::specs::Root::limits_of))]
 pub fn read_limits<'t>(keys: &Keys<'t>, version: u8) -> Result<Limits, Fault<'t>>
-    ensures value { Tells (λ limits. limits) result (limits_of keys.now.table_name version (table_view keys.now.table.now)) }
+    ensures value { Tells
+        (λ limits. limits) result (limits_of keys.now.table_name version (table_view keys.now.table.now)) }
     ensures range { IfOk result (AreLimits version) }
 {
     let tolerance = keys.whole("tolerance", 0, 10000)?;

@@ -20,7 +20,8 @@ use toml::Table;
 fn read_extra<'t>(height: i32, keys: &Keys<'t>) -> Result<i32, Fault<'t>>
     requires some { pos 1 ≤ℤ height }
     requires limit { height <ℤ pos (2 ^ 30) }
-    ensures value { Tells (λ extra. extra) result (extra_at height keys.now.table_name (table_view keys.now.table.now)) }
+    ensures value { Tells
+        (λ extra. extra) result (extra_at height keys.now.table_name (table_view keys.now.table.now)) }
     ensures scaled { IfOk result IsScaled }
     ensures some { IfOk result (λ extra. pos 1 ≤ℤ (height +ℤ extra)) }
     ensures limit { IfOk result (λ extra. (height +ℤ extra) <ℤ pos (2 ^ 30)) }

@@ -2,7 +2,7 @@
 use Rattle.std.proofs.Common.{◌≡◌, sym, ap, ◌∙◌, ℕ, ◌+◌, ◌<◌, List, [], ◌++◌, map, length, take, true, Some, arith}
 use Rattle.std.specs.Prelude.{slice_get, ℤ}
 use Rattle.std.specs.List.{filter}
-use Rattle.std.proofs.lemmas.List.{append-nil, map-append, length-map}
+use Rattle.std.proofs.lemmas.List.{append-nil, map-append}
 use Rattle.std.proofs.lemmas.List.Elements.{filter-append}
 use Rattle.std.proofs.lemmas.Option.{slice_get_within}
 use Rattle.pg_list.specs.GalleyValue.{GalleyValue}
@@ -17,8 +17,8 @@ use Rattle.pg_cut_laws.proofs.Alike.{item_of}
 use Rattle.pg_beginning_laws.specs.Laws.{KeepsRules}
 use Rattle.pg_rules.specs.Ranges.{AreInRange}
 use Rattle.pg_beginning_laws.proofs.Contracts.{unbroken_keep_rules}
-use Rattle.pg_text_laws.specs.Texts.{Chained, LegalHaveEachOnce, dealt_floats, is_kept, picks_of, texts}
-use Rattle.pg_text_laws.proofs.Once.{all_dealt, dealt_take, kept_segments, none_kept, passed, passed_texts, stand_chained, whole_splits}
+use Rattle.pg_text_laws.specs.Texts.{Chained, LegalHaveEachOnce, dealt_floats, inserts_of, is_kept, picks_of, texts}
+use Rattle.pg_text_laws.proofs.Once.{all_dealt, as_many, dealt_take, kept_segments, none_kept, passed, passed_texts, sizes_at, stand_chained, whole_splits}
 use Rattle.pg_text_laws.proofs.Picks.{counts_of}
 use Rattle.std.proofs.Math.Seq.{take-length}
 
@@ -45,20 +45,23 @@ each_once g s range plan legal =
           ∙ (ap (λ (xs : List Item). filter is_kept (texts (document g s) (columns plan)) ++ xs)
           (none_kept (map item_of (flat_items_at g.blocks (place_of (columns plan)) [])) k.spent)
           ∙ append-nil (filter is_kept (texts (document g s) (columns plan))))));
-      floats = λ slot sizes e. each k.dealt slot sizes e;
+      floats = λ slot number e. each k.dealt slot number e;
       picks = (counts_of (document g s) range.blocks (columns plan) c k.spent).0;
       named = (counts_of (document g s) range.blocks (columns plan) c k.spent).1;
     }
   where
-    each : has_dealt_all (document g s) (placed_of s (columns plan)) ≡ true → (slot : ℕ) (sizes : List ℤ) →
-        slice_get (floats g.blocks s) slot ≡ Some sizes → dealt_floats s sizes slot (columns plan) ≡ sizes
-    each d slot sizes e =
-        let l : slot < length (floats g.blocks s) = slice_get_within (floats g.blocks s) slot sizes e in
-        let m : length (floats g.blocks s) ≡ length (float_numbers s) =
-        length-map (float_numbers s) (λ number. sizes_of number (flat g.blocks [])) in
+    each : has_dealt_all (document g s) (placed_of s (columns plan)) ≡ true → (slot number : ℕ) →
+        slice_get (float_numbers s) slot ≡ Some number →
+        dealt_floats s (inserts_of number (flat g.blocks [])) slot (columns plan)
+        ≡ inserts_of number (flat g.blocks [])
+    each d slot number e =
+        let own : List Item = inserts_of number (flat g.blocks []) in
+        let l : slot < length (float_numbers s) = slice_get_within (float_numbers s) slot number e in
         let z : 0 + slot ≡ slot = omega arith in
-        let n : entry (placed_of s (columns plan)) slot ≡ length sizes =
-        ap (entry (placed_of s (columns plan))) (sym z) ∙ all_dealt (placed_of s (columns plan)) 0
-        (floats g.blocks s) slot sizes d e in
-        dealt_take s sizes slot (omega arith) (columns plan)
-        ∙ (ap (λ (i : ℕ). take i sizes) n ∙ take-length sizes)
+        let n : entry (placed_of s (columns plan)) slot ≡ length own =
+        ap (entry (placed_of s (columns plan))) (sym z)
+        ∙ all_dealt (placed_of s (columns plan)) 0 (floats g.blocks s) slot (sizes_of number (flat g.blocks [])) d
+        (sizes_at g.blocks (float_numbers s) slot number e)
+        ∙ sym (as_many number (flat g.blocks [])) in
+        dealt_take s own slot l (columns plan)
+        ∙ (ap (λ (i : ℕ). take i own) n ∙ take-length own)

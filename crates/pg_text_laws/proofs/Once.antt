@@ -6,15 +6,17 @@ use Rattle.std.specs.Option.{option_map_or}
 use Rattle.std.proofs.lemmas.List.{map-append}
 use Rattle.std.proofs.lemmas.List.Elements.{filter-append}
 use Rattle.pg_list.specs.Shapes.{IsBlock, is_discardable}
+use Rattle.std.proofs.lemmas.Option.{same_Some}
+use Rattle.pg_list.specs.declared.blocks.Block.{Block}
 use Rattle.pg_list.specs.declared.galley.Place.{Place}
 use Rattle.pg_list.specs.declared.item.Item.{Item}
 use Rattle.pg_list.specs.declared.item.Item.TheVariants.{BoxItem, Rule, Glue, Kern, Penalty, Insert, Carry}
 use Rattle.pg_plan.specs.declared.pages.PageMove.{PageMove}
 use Rattle.pg_style.specs.Values.{StyleValue}
-use Rattle.pg_flat.specs.Flat.{FlatItem, flat_items, flat_items_at, fronts, is_same_place}
+use Rattle.pg_flat.specs.Flat.{FlatItem, flat, flat_items, flat_items_at, fronts, is_same_place}
 use Rattle.pg_flat.specs.Totals.{trimmed}
 use Rattle.pg_rules.specs.ColumnRules.{column_variants, does_fit}
-use Rattle.pg_rules.specs.Floats.{entry, float_numbers, plus_counts}
+use Rattle.pg_rules.specs.Floats.{entry, float_numbers, insert_size, plus_counts, sizes_of}
 use Rattle.pg_rules.specs.History.{context, place_of, placed_of, with_wide}
 use Rattle.pg_rules.specs.Legal.{is_chained}
 use Rattle.pg_rules.specs.Room.{ColumnContext, Document, flat_items_of, items_of, size_of}
@@ -24,7 +26,7 @@ use Rattle.pg_place_laws.proofs.Callouts.{fit_ends, start_place}
 use Rattle.pg_cut_laws.proofs.Splits.{splits}
 use Rattle.pg_column_laws.specs.Stands.{Stand}
 use Rattle.pg_column_laws.proofs.Waiting.{entry_plus, entry_slots}
-use Rattle.pg_text_laws.specs.Texts.{Chained, column_floats, dealt_floats, is_kept, picks_of, segment_of, segments, text_of, texts}
+use Rattle.pg_text_laws.specs.Texts.{Chained, column_floats, dealt_floats, inserts_of, is_kept, picks_of, segment_of, segments, text_of, texts}
 use Rattle.pg_lemmas.proofs.Bools.{both_of, both}
 use Rattle.std.proofs.lemmas.Bool.{eqb-true}
 use Rattle.pg_flat.proofs.Places.{same_place}
@@ -174,10 +176,10 @@ take_plus (suc a) b [] = take_nil (suc a + b) ∙ sym (take_nil b)
 take_plus (suc a) b (x ∷ xs) = let e : suc a + b ≡ suc (a + b) = omega arith in
     ap (λ (n : ℕ). take n (x ∷ xs)) e ∙ ap (λ ys. x ∷ ys) (take_plus a b xs)
 
-pub dealt_take : (style : StyleValue) (sizes : List ℤ) (slot : ℕ) → slot < length (float_numbers style) →
-    (ms : List PageMove) → dealt_floats style sizes slot ms ≡ take (entry (placed_of style ms) slot) sizes
-dealt_take style sizes slot h [] = ap (λ (n : ℕ). take n sizes) (sym (entry_slots style (λ (_ : ℕ). 0) slot h))
-dealt_take style sizes slot h (m ∷ ms) =
+pub dealt_take : {X : Type 0} (style : StyleValue) (own : List X) (slot : ℕ) → slot < length (float_numbers style) →
+    (ms : List PageMove) → dealt_floats style own slot ms ≡ take (entry (placed_of style ms) slot) own
+dealt_take {X} style own slot h [] = ap (λ (n : ℕ). take n own) (sym (entry_slots style (λ (_ : ℕ). 0) slot h))
+dealt_take {X} style own slot h (m ∷ ms) =
     let p : List ℕ = placed_of style ms in
     let a : entry (with_wide style (placed_of style ms) m) slot ≡ entry (placed_of style ms) slot
     + entry m.wide slot = entry_plus style (placed_of style ms) m.wide slot h in
@@ -189,25 +191,44 @@ dealt_take style sizes slot h (m ∷ ms) =
     + entry m.column.bottom slot =
     entry_plus style (plus_counts style (with_wide style (placed_of style ms) m) m.column.top)
     m.column.bottom slot h in
-    ap (λ (xs : List ℤ). xs ++ column_floats style sizes slot (placed_of style ms) m)
-    (dealt_take style sizes slot h ms)
+    ap (λ (xs : List X). xs ++ column_floats style own slot (placed_of style ms) m)
+    (dealt_take style own slot h ms)
     ∙ three (entry (placed_of style ms) slot) (entry m.wide slot) (entry m.column.top slot)
     (entry m.column.bottom slot) (entry (with_wide style (placed_of style ms) m) slot)
     (entry (plus_counts style (with_wide style (placed_of style ms) m) m.column.top) slot)
     (entry (placed_of style (m ∷ ms)) slot) a b c
   where
     three : (p w t b x y z : ℕ) → x ≡ p + w → y ≡ x + t → z ≡ y + b →
-        take p sizes ++ (take w (drop p sizes) ++ (take t (drop x sizes) ++ take b (drop y sizes)))
-        ≡ take z sizes
+        take p own ++ (take w (drop p own) ++ (take t (drop x own) ++ take b (drop y own)))
+        ≡ take z own
     three p w t b x y z e f g =
-        sym (append_assoc (take p sizes) (take w (drop p sizes))
-        (take t (drop x sizes) ++ take b (drop y sizes)))
-        ∙ (ap (λ (xs : List ℤ). xs ++ (take t (drop x sizes) ++ take b (drop y sizes)))
-        (sym (take_plus p w sizes) ∙ ap (λ (n : ℕ). take n sizes) (sym e))
-        ∙ (sym (append_assoc (take x sizes) (take t (drop x sizes)) (take b (drop y sizes)))
-        ∙ (ap (λ (xs : List ℤ). xs ++ take b (drop y sizes))
-        (sym (take_plus x t sizes) ∙ ap (λ (n : ℕ). take n sizes) (sym f))
-        ∙ (sym (take_plus y b sizes) ∙ ap (λ (n : ℕ). take n sizes) (sym g)))))
+        sym (append_assoc (take p own) (take w (drop p own))
+        (take t (drop x own) ++ take b (drop y own)))
+        ∙ (ap (λ (xs : List X). xs ++ (take t (drop x own) ++ take b (drop y own)))
+        (sym (take_plus p w own) ∙ ap (λ (n : ℕ). take n own) (sym e))
+        ∙ (sym (append_assoc (take x own) (take t (drop x own)) (take b (drop y own)))
+        ∙ (ap (λ (xs : List X). xs ++ take b (drop y own))
+        (sym (take_plus x t own) ∙ ap (λ (n : ℕ). take n own) (sym f))
+        ∙ (sym (take_plus y b own) ∙ ap (λ (n : ℕ). take n own) (sym g)))))
+
+-- a class has as many inserts as sizes
+pub as_many : (number : ℕ) (items : List Item) →
+    length (inserts_of number items) ≡ length (sizes_of number items)
+as_many number [] = refl
+as_many number (item ∷ items) = by (insert_size number item) refl
+  where
+    by : (o : Option ℤ) → insert_size number item ≡ o →
+        length (inserts_of number (item ∷ items)) ≡ length (sizes_of number (item ∷ items))
+    by None e = rw e (as_many number items)
+    by (Some z) e = rw e (ap suc (as_many number items))
+
+-- the sizes at the slot of a class
+pub sizes_at : (blocks : List Block) (numbers : List ℕ) (slot number : ℕ) → slice_get numbers slot ≡ Some number →
+    slice_get (map (λ (n : ℕ). sizes_of n (flat blocks [])) numbers) slot ≡ Some (sizes_of number (flat blocks []))
+sizes_at blocks [] slot number e = absurd cc
+sizes_at blocks (n ∷ numbers) zero number e =
+    ap (λ (m : ℕ). Some (sizes_of m (flat blocks []))) (same_Some n number e)
+sizes_at blocks (n ∷ numbers) (suc slot) number e = sizes_at blocks numbers slot number e
 
 pub all_dealt : (placed : List ℕ) (k : ℕ) (lists : List (List ℤ)) (slot : ℕ) (sizes : List ℤ) →
     list_all (λ (it : ℕ × List ℤ). entry placed it.0 == length it.1) (enumerate_from k lists) ≡ true →
@@ -216,10 +237,7 @@ all_dealt placed k [] slot sizes h e = absurd cc
 all_dealt placed k (x ∷ lists) zero sizes h e =
     let z : k + 0 ≡ k = omega arith in
     ap (entry placed) z ∙ (eqb-true _ _ (both_of (entry placed k == length x) _ h).0
-    ∙ ap length (same x sizes e))
-  where
-    same : (a b : List ℤ) → Some a ≡ Some b → a ≡ b
-    same a b e = cc
+    ∙ ap length (same_Some x sizes e))
 all_dealt placed k (x ∷ lists) (suc slot) sizes h e = let z : k + suc slot ≡ k + 1 + slot = omega arith in
     ap (entry placed) z ∙ all_dealt placed (k + 1) lists slot sizes
     (both_of (entry placed k == length x) _ h).1 e

@@ -18,7 +18,7 @@ use Rattle.pg_flat.specs.Totals.{shrink, total, trimmed}
 use Rattle.pg_flat.specs.Whole.{square}
 use Rattle.pg_rules.specs.ColumnRules.{fitness_by, is_tolerable, is_well_formed, keeps_note_limits, passes_breaks, segment}
 use Rattle.pg_rules.specs.Cost.{column_demerits, penalty_demerits}
-use Rattle.pg_rules.specs.Floats.{entry, floats, plus_counts, sizes_of}
+use Rattle.pg_rules.specs.Floats.{entry, float_numbers, insert_size, plus_counts, sizes_of}
 use Rattle.pg_rules.specs.History.{column_fitness, context, placed_of, with_wide, place_of}
 use Rattle.pg_rules.specs.Legal.{Legal, document, is_chained}
 use Rattle.pg_rules.specs.Room.{are_notes_within_limits, ColumnContext, Document, is_text, items_of, notes, room, size_of}
@@ -56,28 +56,39 @@ segments doc (m ∷ ms) = segments doc ms ++ segment_of (context doc m ms)
 abbrev pub is_kept : Item → Bool
 is_kept item = not (is_discardable item)
 
+-- an insert of a class
+abbrev pub is_insert_of : ℕ → Item → Bool
+is_insert_of number item = is_some (insert_size number item)
+
+-- the inserts of a class, in order
+abbrev pub inserts_of : ℕ → List Item → List Item
+inserts_of number items = filter (is_insert_of number) items
+
 -- the next floats of a class
-abbrev pub next_floats : List ℤ → ℕ → List ℕ → List ℕ → List ℤ
-next_floats sizes slot before counts = take (entry counts slot) (drop (entry before slot) sizes)
+abbrev pub next_floats : {X : Type 0} → List X → ℕ → List ℕ → List ℕ → List X
+next_floats own slot before counts = take (entry counts slot) (drop (entry before slot) own)
 
 -- the floats of a class that a column deals out: of its page's wide area, and then of its top and bottom areas
-abbrev pub column_floats : StyleValue → List ℤ → ℕ → List ℕ → PageMove → List ℤ
-column_floats style sizes slot placed m =
-    next_floats sizes slot placed m.wide
-    ++ (next_floats sizes slot (with_wide style placed m) m.column.top
-    ++ next_floats sizes slot (plus_counts style (with_wide style placed m) m.column.top) m.column.bottom)
+abbrev pub column_floats : {X : Type 0} → StyleValue → List X → ℕ → List ℕ → PageMove → List X
+column_floats style own slot placed m =
+    next_floats own slot placed m.wide
+    ++ (next_floats own slot (with_wide style placed m) m.column.top
+    ++ next_floats own slot (plus_counts style (with_wide style placed m) m.column.top) m.column.bottom)
 
-abbrev pub dealt_floats : StyleValue → List ℤ → ℕ → List PageMove → List ℤ
-dealt_floats style sizes slot [] = []
-dealt_floats style sizes slot (m ∷ ms) =
-    dealt_floats style sizes slot ms ++ column_floats style sizes slot (placed_of style ms) m
+-- the floats of a class that all columns deal out
+abbrev pub dealt_floats : {X : Type 0} → StyleValue → List X → ℕ → List PageMove → List X
+dealt_floats style own slot [] = []
+dealt_floats style own slot (m ∷ ms) =
+    dealt_floats style own slot ms ++ column_floats style own slot (placed_of style ms) m
 
+-- a block that is a choice
 abbrev pub is_choice : Block → Bool
 is_choice (One item) = false
 is_choice (Choice variants) = true
 
 -- the texts, joined, are the flat list, but for discardable items at its end; each box, rule, insert and carry
--- of the flat list stands once in the segments, in order; each class's floats are dealt out once, in order; and
+-- of the flat list stands once in the segments, in order; each insert of each class of floats is dealt out once, in
+-- order; and
 -- there are as many picks as choices, each of which names a variant of its choice
 pub record EachOnce (galley : GalleyValue) (style : StyleValue) (plan : Pagination) : Type 0 where
   pub rest : List Item
@@ -86,8 +97,9 @@ pub record EachOnce (galley : GalleyValue) (style : StyleValue) (plan : Paginati
   pub spent : list_all is_discardable rest ≡ true
   pub kept : filter is_kept (segments (document galley style) (columns plan))
       ≡ filter is_kept (flat galley.blocks (picks_of (columns plan)))
-  pub floats : (slot : ℕ) (sizes : List ℤ) → slice_get (floats galley.blocks style) slot ≡ Some sizes →
-      dealt_floats style sizes slot (columns plan) ≡ sizes
+  pub floats : (slot number : ℕ) → slice_get (float_numbers style) slot ≡ Some number →
+      dealt_floats style (inserts_of number (flat galley.blocks [])) slot (columns plan)
+      ≡ inserts_of number (flat galley.blocks [])
   pub picks : length (picks_of (columns plan)) ≡ count_by is_choice galley.blocks
   pub named : length (picked_variants galley.blocks (picks_of (columns plan))) ≡ count_by is_choice galley.blocks
 
