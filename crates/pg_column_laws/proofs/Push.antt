@@ -20,11 +20,11 @@ use Rattle.pg_rules.specs.Cost.{column_cost, float_demerits}
 use Rattle.pg_rules.specs.States.{age, waiting, state_at, can_wait}
 use Rattle.pg_rules.specs.Follow.{age_in, turns, next_state, wide_in, context_in, other_side, keeps_run, may_turn, Follow, MayStand}
 use Rattle.pg_place_laws.proofs.Among.{Among, all_at, all_of, all_same, map_same, sum_same}
-use Rattle.pg_place_laws.proofs.Tests.{if_false, if_true, less_true}
 use Rattle.pg_column_laws.specs.Stands.{StandsAfter}
 use Rattle.pg_column_laws.proofs.Ages.{age_turned, ages_agree}
 use Rattle.pg_column_laws.proofs.Waiting.{IsBetween, between_at, between_of}
-use Rattle.pg_lemmas.proofs.Numbers.{not_first}
+use Rattle.pg_lemmas.proofs.Numbers.{not_first, less_true}
+use Rattle.pg_lemmas.proofs.Bools.{if_false, if_true}
 
 -- ---- the parts of the next state
 
