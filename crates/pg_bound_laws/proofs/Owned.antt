@@ -34,7 +34,7 @@ use Rattle.pg_column_laws.proofs.Waiting.{IsBetween, between_at, between_of, ent
 use Rattle.pg_bound_laws.proofs.Areas.{IsUpTo, wide_range}
 use Rattle.pg_lemmas.proofs.Bools.{both_of, both, if_false}
 use Rattle.std.proofs.lemmas.Bool.{leb-true, le-leb}
-use Rattle.pg_lemmas.proofs.Numbers.{eq_not, not_first, few_if, not_less, less_true}
+use Rattle.pg_lemmas.proofs.Numbers.{eq_not, more_than_one, few_if, not_less, less_true}
 use Rattle.pg_flat.proofs.Places.{same_place}
 
 young_map : (doc : Document) (g : ℕ × ℕ → ℕ) (floats : List (ℕ × ℕ)) →
@@ -77,7 +77,7 @@ free_next : (b : Bool) (side : Side) (run n : ℕ) → 1 ≤ n →
 free_next true L run n h = refl
 free_next true R run n h = refl
 free_next true S run n h = refl
-free_next false side run n h = if_false (n + 1 == 1) _ _ (not_first n h)
+free_next false side run n h = if_false (n + 1 == 1) _ _ (more_than_one n h)
 
 first_side : (first : First) → has_side first (side_of first 1) ≡ true
 first_side Single = refl

@@ -20,8 +20,8 @@ pub suc_not : (j : ℕ) → (suc j == 0) ≡ false
 suc_not j = grind (arith, nat_tests)
 
 -- a number behind one that is not 0 is not 1
-pub not_first : (n : ℕ) → 1 ≤ n → (n + 1 == 1) ≡ false
-not_first n h = grind (arith, nat_tests)
+pub more_than_one : (n : ℕ) → 1 ≤ n → (n + 1 == 1) ≡ false
+more_than_one n h = grind (arith, nat_tests)
 
 -- a bound on either is one on the chosen one
 pub few_if : (b : Bool) (x y n : ℕ) → x ≤ n → y ≤ n → (if b then x else y) ≤ n
