@@ -3,7 +3,7 @@ use Rattle.std.proofs.Common.{◌≡◌, refl, sym, ap, subst, ◌∙◌, ℕ, �
 use Rattle.std.specs.Prelude.{◌&&◌, ◌==◌, if◌then◌else◌, nat_le, reverse, not, is_some, slice_get}
 use Rattle.std.specs.Option.{option_map_or}
 use Rattle.std.proofs.lemmas.Bool.Decides.{nat_tests}
-use Rattle.std.proofs.lemmas.List.{reverse-append, reverse-reverse}
+use Rattle.std.proofs.lemmas.List.{reverse-append, reverse-reverse, append-nil}
 use Rattle.pg_plan.specs.declared.pages.PageMove.{PageMove}
 use Rattle.pg_plan.specs.Order.{page_moves, columns_of, columns, no_floats}
 use Rattle.pg_plan.specs.declared.pages.Column.{Column}
@@ -14,21 +14,16 @@ use Rattle.pg_rules.specs.Room.{Document}
 use Rattle.pg_rules.specs.Floats.{float_numbers, total_count}
 use Rattle.pg_rules.specs.History.{next_column, next_run, next_side, is_right, last_run}
 use Rattle.pg_rules.specs.Legal.{underfilled, misfilled, has_run, has_wide_counts}
-use Rattle.pg_place_laws.proofs.Tests.{if_false, if_true}
 use Rattle.pg_beginning_laws.specs.Pages.{add_column, page_with, pages_from, plan_of}
 use Rattle.pg_column_laws.specs.Stands.{Stand, StandsAfter}
 use Rattle.pg_beginning_laws.proofs.Faults.{none_or, none_unless, or_none, unless_none}
-use Rattle.pg_lemmas.proofs.Bools.{both_of, both, by_bool}
+use Rattle.pg_lemmas.proofs.Bools.{both_of, both, by_bool, if_false, if_true}
 use Rattle.std.proofs.lemmas.Bool.{eqb-true, leb-true, le-leb}
 use Rattle.pg_lemmas.proofs.Numbers.{eq_refl, eq_not}
 use Rattle.pg_column_laws.proofs.Counts.{total_cons}
 
 abbrev pub later : ℕ → List ℕ → Column → PageMove
 later run wide column = record { column = column; run = run; wide = no_floats wide }
-
-append_nil : {X : Type 0} (xs : List X) → xs ++ [] ≡ xs
-append_nil [] = refl
-append_nil (x ∷ xs) = ap (λ ys. x ∷ ys) (append_nil xs)
 
 -- the number of the next column behind a page of n columns
 abbrev pub behind : ℕ → ℕ → ℕ
@@ -216,7 +211,7 @@ grow : (style : StyleValue) (ms : List PageMove) (run : ℕ) (wide : List ℕ) (
     Comes style ms run wide done rest →
     Comes style (reverse (map (later run wide) cs) ++ ms) run wide (done ++ cs) rest
 grow style ms run wide done [] rest some few c =
-    subst (λ (ds : List Column). Comes style ms run wide ds rest) (sym (append_nil done)) c
+    subst (λ (ds : List Column). Comes style ms run wide ds rest) (sym (append-nil done)) c
 grow style ms run wide done (d ∷ cs) rest some few c =
     let less : length done < style.columns = omega arith in
     let other : (length done == style.columns) ≡ false = different (length done) style.columns less in

@@ -13,8 +13,8 @@ use Rattle.pg_plan.specs.declared.states.Side.TheVariants.{L, R, S}
 use Rattle.pg_plan.specs.declared.states.State.{State}
 use Rattle.pg_rules.specs.Frontier.{side_rank, option_cmp, state_cmp}
 use Rattle.pg_beginning_laws.proofs.Order.{place_total}
-use Rattle.pg_lemmas.proofs.Orders.{then_equal}
-use Rattle.pg_plan.proofs.OrderLaws.{nat_equal, list_equal, place_equal}
+use Rattle.pg_lemmas.proofs.Orders.{then_equal, nat_equal}
+use Rattle.pg_plan.proofs.OrderLaws.{list_equal, place_equal}
 
 module _ {X : Type 0} (cmp : X → X → Ordering) (total : IsTotalOrder cmp) where
   option_back : (a b : Option X) → option_cmp cmp a b ≡ ordering_reverse (option_cmp cmp b a)

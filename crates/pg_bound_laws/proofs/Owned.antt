@@ -29,12 +29,12 @@ use Rattle.pg_rules.specs.IsState.{IsPlace, IsState, are_young, has_side, not_fi
 use Rattle.pg_place_laws.proofs.Among.{Among, all_at, all_of}
 use Rattle.pg_place_laws.proofs.Callouts.{entry_less, entry_zero, fit_ends, start_place}
 use Rattle.pg_place_laws.proofs.Measures.{called_grows}
-use Rattle.pg_place_laws.proofs.Tests.{if_false, int_le_of, int_less, less_true, not_less}
+use Rattle.pg_place_laws.proofs.Tests.{int_le_of, int_less}
 use Rattle.pg_column_laws.proofs.Waiting.{IsBetween, between_at, between_of, entry_slots, slot_below}
 use Rattle.pg_bound_laws.proofs.Areas.{IsUpTo, wide_range}
-use Rattle.pg_lemmas.proofs.Bools.{both_of, both}
+use Rattle.pg_lemmas.proofs.Bools.{both_of, both, if_false}
 use Rattle.std.proofs.lemmas.Bool.{leb-true, le-leb}
-use Rattle.pg_lemmas.proofs.Numbers.{eq_not, not_first, few_if}
+use Rattle.pg_lemmas.proofs.Numbers.{eq_not, more_than_one, few_if, not_less, less_true}
 use Rattle.pg_flat.proofs.Places.{same_place}
 
 young_map : (doc : Document) (g : ℕ × ℕ → ℕ) (floats : List (ℕ × ℕ)) →
@@ -77,7 +77,7 @@ free_next : (b : Bool) (side : Side) (run n : ℕ) → 1 ≤ n →
 free_next true L run n h = refl
 free_next true R run n h = refl
 free_next true S run n h = refl
-free_next false side run n h = if_false (n + 1 == 1) _ _ (not_first n h)
+free_next false side run n h = if_false (n + 1 == 1) _ _ (more_than_one n h)
 
 first_side : (first : First) → has_side first (side_of first 1) ≡ true
 first_side Single = refl

@@ -24,9 +24,9 @@ use Rattle.pg_rules.specs.Cost.{penalty_demerits, text_demerits, column_demerits
 use Rattle.pg_rules.specs.History.{column_fitness}
 use Rattle.pg_rules.specs.Floats.{distance_table}
 use Rattle.pg_rules.specs.Room.{ColumnContext, is_text, items_of, size_of}
-use Rattle.pg_place_laws.proofs.Tests.{less_int, not_less}
+use Rattle.pg_place_laws.proofs.Tests.{less_int}
 use Rattle.pg_column_laws.proofs.StyleFacts.{slot_entries}
-use Rattle.pg_lemmas.proofs.Numbers.{few_if}
+use Rattle.pg_lemmas.proofs.Numbers.{few_if, not_less, square_few}
 
 -- ---- sizes
 
@@ -75,10 +75,6 @@ page_badness_few spent goal total items =
     (few_if (has_infinite items) 0 (badness (goal -ℤ total) (stretch Finite items)) 10000 (omega arith)
     (badness_few (goal -ℤ total) (stretch Finite items)))
     (badness_few (total -ℤ goal) (shrink items)))
-
-square_few : (n k : ℕ) → n ≤ k → n * n ≤ k * k
-square_few n k h = let a : n * n ≤ k * n = mul-le-mul_right n h in let b : k * n ≤ k * k =
-    mul-le-mul_left k h in omega arith
 
 -- the penalty of a break is below 10000
 abbrev IsLow : Option ℤ → Type 0

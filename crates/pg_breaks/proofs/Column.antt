@@ -20,6 +20,7 @@ use Rattle.pg_breaks.proofs.Listed.{listed, ArePicks, shown, variant_shown, bloc
 use Rattle.pg_breaks.proofs.Lists.{is_solid, follows, get_left, get_right, get_split, get_lt, drop_left, drop_right}
 use Rattle.pg_breaks.proofs.Walk.{Seen, inside, front, around, picked_shape, seen_from, later_place, follows_right, index_follows_cons}
 use Rattle.pg_lemmas.proofs.Numbers.{suc_not}
+use Rattle.pg_lemmas.proofs.Lists.{drop_past}
 
 -- ---- lists
 
@@ -53,12 +54,6 @@ pub all_drop : (P : Block → Type 0) (n : ℕ) (blocks : List Block) → AllByR
 all_drop P zero blocks a = a
 all_drop P (suc n) [] a = tt
 all_drop P (suc n) (x ∷ xs) a = all_drop P n xs a.1
-
-drop_none : {X : Type 0} (n : ℕ) (xs : List X) → length xs ≤ n → drop n xs ≡ []
-drop_none zero [] h = refl
-drop_none zero (x ∷ xs) h = absurd (omega arith)
-drop_none (suc n) [] h = refl
-drop_none (suc n) (x ∷ xs) h = drop_none n xs (omega arith)
 
 solid_drop : (items : List Item) (n : ℕ) → n < length items → EndsSolid items → EndsSolid (drop n items)
 solid_drop items n h solid =
@@ -175,7 +170,7 @@ rest_ends (Choice variants ∷ blocks) zero v i all =
               (picked_shape variants v all.0.shape.each some).1,
           refl,
         )
-    by false e = inl (drop_none (suc i) (picked_items (Choice variants) v) (more _ _ e))
+    by false e = inl (drop_past (suc i) (picked_items (Choice variants) v) (more _ _ e))
 rest_ends (block ∷ blocks) (suc b) v i all = rest_ends blocks b v i all.1
 
 -- items in front that are none, or end solid

@@ -85,7 +85,7 @@ later_place n v i (item ∷ items) (suc k) flat_item e =
     let h = later_place n v (i + 1) items k flat_item e in
     (h.0 ∙ ap (λ x. place n v x) (omega arith), h.1)
 
-later_length : (n v i : ℕ) (items : List Item) → length (later_flat_items n v i items) ≡ length items
+pub later_length : (n v i : ℕ) (items : List Item) → length (later_flat_items n v i items) ≡ length items
 later_length n v i [] = refl
 later_length n v i (item ∷ items) = ap suc (later_length n v (i + 1) items)
 

@@ -12,11 +12,11 @@ use Rattle.pg_list.specs.Places.{item_at, items_around, picked_items, place}
 use Rattle.pg_list.specs.Shapes.{IsBlock}
 use Rattle.pg_flat.specs.Flat.{FlatItem, blocks_at, flat_items_at, flat_items_from, later_flat_items, picked_variants, variant_flat_items}
 use Rattle.pg_place_laws.proofs.Places.{around_is, begins, begins_with, drop_later, pick_named}
-use Rattle.pg_place_laws.proofs.Tests.{if_false, if_true, not_less}
 use Rattle.pg_column.specs.Ahead.{first_pick, item_place, is_choice, is_front, next_index, picks_behind, settled}
-use Rattle.pg_lemmas.proofs.Bools.{by_bool}
+use Rattle.pg_lemmas.proofs.Bools.{by_bool, if_false, if_true}
 use Rattle.pg_flat.proofs.Places.{picked_few}
-use Rattle.pg_lemmas.proofs.Numbers.{suc_not}
+use Rattle.pg_lemmas.proofs.Numbers.{suc_not, not_less}
+use Rattle.pg_lemmas.proofs.Lists.{drop_past}
 
 -- ---- lists
 
@@ -31,12 +31,6 @@ drop_none zero [] e = refl
 drop_none (suc n) [] e = refl
 drop_none zero (y ∷ ys) e = absurd cc
 drop_none (suc n) (y ∷ ys) e = drop_none n ys e
-
-pub drop_past : {X : Type 0} (n : ℕ) (xs : List X) → length xs ≤ n → drop n xs ≡ []
-drop_past zero [] h = refl
-drop_past (suc n) [] h = refl
-drop_past zero (y ∷ ys) h = absurd (omega arith)
-drop_past (suc n) (y ∷ ys) h = drop_past n ys (omega arith)
 
 -- ---- inside a block
 

@@ -17,7 +17,6 @@ use Rattle.pg_notes.specs.NotesValue.{first_over_limit}
 use Rattle.pg_notes.proofs.Kept.{first_is, none_is}
 use Rattle.pg_notes.proofs.Sizes.{limits_trimmed}
 use Rattle.pg_place_laws.proofs.Places.{Found, found}
-use Rattle.pg_place_laws.proofs.Tests.{if_true, if_false}
 use Rattle.pg_rules.specs.ColumnRules.{column_variants, does_fit, has_room, is_tolerable, is_well_formed, keeps_note_limits, passes_breaks, text_badness, text_is_over}
 use Rattle.pg_rules.specs.Legal.{unless}
 use Rattle.pg_rules.specs.Room.{ColumnContext, Document, are_notes_within_limits, flat_items_of, is_text, items_of, room, size_of}
@@ -29,7 +28,7 @@ use Rattle.pg_column.specs.declared.cost.TextCost.{TextCost}
 use Rattle.pg_column.proofs.Numbers.{badness_is, numbers_are}
 use Rattle.pg_column.proofs.Passing.{box_is, over_is}
 use Rattle.pg_column.proofs.Walking.{IsWalked, is_walked, kept, walk_all, walk_is}
-use Rattle.pg_lemmas.proofs.Bools.{both_of, by_bool}
+use Rattle.pg_lemmas.proofs.Bools.{both_of, by_bool, where_true, if_false, if_true}
 use Rattle.std.proofs.lemmas.Bool.{eqb-true}
 
 pub steps_within : (blocks : List Block) (xs : List FlatItem) (to : Place) (n : ℕ) →
@@ -45,10 +44,6 @@ steps_within blocks xs to n e = by_bool (is_same_place to (end_of blocks))
   where
     some_same : (a b : ℕ) → Some a ≡ Some b → a ≡ b
     some_same a b e = cc
-
-text_then : (b x : Bool) → b ≡ true → (not b || x) ≡ x
-text_then true x e = refl
-text_then false x e = absurd cc
 
 -- ---- by the tests one by one
 
@@ -149,7 +144,7 @@ module _ (it : ColumnContext) (all : AllByRecursion IsBlock it.document.blocks) 
 
       tolerable_is : is_tolerable it ≡ (not (is_over_by it.document.style (room it) w.totals w.notes)
           && is_tolerable_by it.document (room it) w it.column.to)
-      tolerable_is = text_then (is_text it) _ text
+      tolerable_is = where_true (is_text it) _ text
           ∙ (at_is (λ n. not (text_is_over it n)
           && (is_forced (items_of it) n || nat_le (text_badness it n) it.document.style.tolerance))
           ∙ same _ _ _ _ _ _ over_at (sym forced_is) (sym badness_at))
@@ -160,14 +155,14 @@ module _ (it : ColumnContext) (all : AllByRecursion IsBlock it.document.blocks) 
           same a a' b b' c c' p q r = rw (p, q, r) refl
 
       passes_is : passes_breaks it ≡ w.passes
-      passes_is = text_then (is_text it) _ text
+      passes_is = where_true (is_text it) _ text
           ∙ (at_is (passes_between (items_of it) (text_is_over it)) ∙ sym is.passes)
 
       room_is : has_room it ≡ int_le it.document.style.min_text (room it)
       room_is = if_true (is_text it) _ _ text
 
       limits_is : keeps_note_limits it ≡ is_none (first_over_limit it.document.style.classes w.notes)
-      limits_is = text_then (is_text it) _ text
+      limits_is = where_true (is_text it) _ text
           ∙ (at_is (λ n. are_notes_within_limits it.document.style (trimmed (take n (items_of it))))
           ∙ (limits_trimmed it.document.style (take n (items_of it))
           ∙ sym (ap is_none (first_is (take n (items_of it)) it.document.style.classes w.notes

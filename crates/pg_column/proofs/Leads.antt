@@ -8,10 +8,10 @@ use Rattle.pg_list.specs.declared.galley.Place.{Place}
 use Rattle.pg_list.specs.declared.blocks.Block.{Block}
 use Rattle.pg_flat.specs.Flat.{FlatItem, end_of, fronts, is_same_place, steps_to}
 use Rattle.std.proofs.lemmas.List.Sums.{sum_by-cons}
-use Rattle.pg_place_laws.proofs.Tests.{if_false, if_true, less_true, not_less}
 use Rattle.pg_column.specs.Ahead.{leads_to}
-use Rattle.pg_lemmas.proofs.Bools.{both_of, by_bool}
-use Rattle.pg_lemmas.proofs.Numbers.{less_of}
+use Rattle.pg_lemmas.proofs.Bools.{both_of, by_bool, if_false, if_true}
+use Rattle.pg_lemmas.proofs.Numbers.{less_of, not_less, less_true}
+use Rattle.pg_flat.proofs.Places.{fronts_cons}
 
 module _ {X : Type 0} (p : X → Bool) where
   first : (x : X) (xs : List X) → p x ≡ true → position_or_len p (x ∷ xs) ≡ 0
@@ -51,9 +51,6 @@ module _ {X : Type 0} (p : X → Bool) where
           over : (a b : ℕ) → b ≤ a → nat_lt a b ≡ false
           over a b h = by_bool (nat_lt a b) (λ t. let k : a < b = less_true a b t in absurd (omega (arith, h, k)))
               (λ f. f)
-
-fronts_cons : (x : FlatItem) (xs : List FlatItem) (k : ℕ) → fronts (x ∷ xs) (suc k) ≡ cond x.is_front 1 0 + fronts xs k
-fronts_cons x xs k = sum_by-cons (λ (flat_item : FlatItem). cond flat_item.is_front 1 0) x (take k xs)
 
 abbrev pub is_at : Place → FlatItem → Bool
 is_at to x = is_same_place x.place to

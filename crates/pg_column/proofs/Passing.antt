@@ -32,6 +32,9 @@ use Rattle.pg_place_laws.proofs.Tests.{le_int, less_int, int_le_of, int_less}
 use Rattle.pg_rules.specs.Room.{Document, notes}
 use Rattle.pg_column.specs.Passed.{IsPassed, Passed, crossed, fits, is_end_here, least_room, note_height, nothing, pass_item, pass_items, raised, with_next}
 use Rattle.pg_column.proofs.Sums.{passed_crossed, passed_none, passed_push}
+use Rattle.pg_lemmas.proofs.Bools.{both_ways, where_neither}
+use Rattle.std.proofs.Math.Bool.{and-true}
+use Rattle.pg_lemmas.proofs.Lists.{range_more, all_drop}
 
 -- ---- lists
 
@@ -65,11 +68,6 @@ InRange xs = AllByRecursion (λ (x : FlatItem). IsItemInRange x.item) xs
 all_append : (xs ys : List FlatItem) → InRange xs → InRange ys → InRange (xs ++ ys)
 all_append [] ys a b = b
 all_append (x ∷ xs) ys a b = (a.0, all_append xs ys a.1 b)
-
-all_drop : {X : Type 0} (P : X → Type 0) (n : ℕ) (xs : List X) → AllByRecursion P xs → AllByRecursion P (drop n xs)
-all_drop P zero xs a = a
-all_drop P (suc n) [] a = tt
-all_drop P (suc n) (x ∷ xs) a = all_drop P n xs a.1
 
 later_ranges : (n v i : ℕ) (items : List Item) → AllByRecursion IsItemInRange items →
     InRange (later_flat_items n v i items)
@@ -155,11 +153,6 @@ pass_append doc p (x ∷ xs) ys = by (pass_item doc p x) (λ q. pass_append doc 
 
 -- ---- over and the least room
 
-both_ways : (s t : Bool) → (s ≡ true → t ≡ true) → (t ≡ true → s ≡ true) → s ≡ t
-both_ways true t f g = sym (f refl)
-both_ways false true f g = g refl
-both_ways false false f g = refl
-
 pub over_least : (t s h room : ℤ) →
     is_over t s (room -ℤ h) ≡ not (int_le (int_min ((t +ℤ h) +ℤ pos 1) ((t +ℤ h) -ℤ s)) room)
 over_least t s h room = both_ways (is_over t s (room -ℤ h))
@@ -222,27 +215,13 @@ fits_raised (Some x) least room = max_le x least room
 
 -- ---- inner breaks, one after another
 
-range_more : (a n : ℕ) → range_with_len a (suc n) ≡ range_with_len a n ++ (a + n) ∷ []
-range_more a zero = let here : a ≡ a + 0 = omega arith in ap (λ (k : ℕ). k ∷ []) here
-range_more a (suc n) =
-    let next : a + 1 + n ≡ a + suc n = omega arith in
-    ap (λ (ks : List ℕ). a ∷ ks) (range_more (a + 1) n ∙ ap (λ (k : ℕ). range_with_len (a + 1) n ++ k ∷ []) next)
-
-no_box : (b x : Bool) → (not (b && false) || x) ≡ true
-no_box true x = refl
-no_box false x = refl
-
-and_true : (b : Bool) → (b && true) ≡ b
-and_true true = refl
-and_true false = refl
-
 abbrev pub is_passable : List Item → (ℕ → Bool) → ℕ → Bool
 is_passable flat over k =
     not (is_some (break_penalty flat k) && list_any is_box (take k flat)) || not (is_forced flat k || over k)
 
 pub passes_more : (flat : List Item) (over : ℕ → Bool) (n : ℕ) →
     passes_between flat over (suc n) ≡ (passes_between flat over n && is_passable flat over n)
-passes_more flat over zero = sym (no_box (is_some (break_penalty flat 0)) (not (is_forced flat 0 || over 0)))
+passes_more flat over zero = sym (where_neither (is_some (break_penalty flat 0)) (not (is_forced flat 0 || over 0)))
 passes_more flat over (suc m) =
     let less : suc m - 1 ≡ m = omega arith in
     let more : suc (suc m) - 1 ≡ suc m = omega arith in
@@ -253,7 +232,7 @@ passes_more flat over (suc m) =
     ∙ (ap (λ (k : ℕ). list_all (is_passable flat over) (range_with_len 1 m) && list_all (is_passable flat over)
     (k ∷ [])) next
     ∙ (ap (λ (b : Bool). list_all (is_passable flat over) (range_with_len 1 m) && b)
-    (and_true (is_passable flat over (suc m)))
+    (and-true (is_passable flat over (suc m)))
     ∙ ap (λ (k : ℕ). list_all (is_passable flat over) (range_with_len 1 k) && is_passable flat over (suc m))
     (sym less)))))
 
@@ -326,7 +305,7 @@ module _ (doc : Document) (all : AllByRecursion IsBlock doc.blocks) (is-style : 
       (is_some (place_penalty doc.blocks x.place)) (ap is_some a) b
     where
       turned : (a b c d : Bool) → a ≡ d → c ≡ b → (a && b) ≡ (c && d)
-      turned true b c d p q = rw (← p, q) (sym (and_true b))
+      turned true b c d p q = rw (← p, q) (sym (and-true b))
       turned false b c d p q = rw (← p, q) (sym (none b))
         where
           none : (b : Bool) → (b && false) ≡ false
@@ -392,7 +371,7 @@ module _ (doc : Document) (all : AllByRecursion IsBlock doc.blocks) (is-style : 
       )
       by false f i j = (
         λ q w. subst (IsPassed doc.style (take (suc n) read)) (same_some _ _ w) (pushed p is),
-        λ room. ap (λ (b : Bool). fits p.bound room && b) (test room ∙ rw i refl) ∙ and_true (fits p.bound room),
+        λ room. ap (λ (b : Bool). fits p.bound room && b) (test room ∙ rw i refl) ∙ and-true (fits p.bound room),
       )
 
   -- ---- past all

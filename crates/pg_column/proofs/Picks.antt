@@ -9,10 +9,11 @@ use Rattle.pg_list.specs.declared.variants.Variant.{Variant}
 use Rattle.pg_list.specs.declared.blocks.Block.{Block}
 use Rattle.pg_list.specs.declared.blocks.Block.TheVariants.{One, Choice}
 use Rattle.pg_flat.specs.Flat.{picked_variants}
-use Rattle.pg_place_laws.proofs.Tests.{if_false, if_true, less_true, not_less}
 use Rattle.pg_column.specs.Ahead.{first_variant, picks_after, picks_past}
-use Rattle.pg_lemmas.proofs.Bools.{by_bool}
+use Rattle.pg_lemmas.proofs.Bools.{by_bool, if_false, if_true}
 use Rattle.pg_flat.proofs.Places.{picked_few}
+use Rattle.pg_lemmas.proofs.Numbers.{not_less, less_true}
+use Rattle.pg_lemmas.proofs.Lists.{some_at}
 
 abbrev pub names : List Block → List ℕ → Bool
 names blocks picks = length (picked_variants blocks picks) == length picks
@@ -25,11 +26,6 @@ none_left blocks [] e = let k : length (picked_variants blocks []) ≤ 0 = picke
     zero_is zero h = refl
     zero_is (suc n) h = absurd (omega (arith, h))
 none_left blocks (p ∷ ps) e = absurd (omega (arith, e))
-
-got : {X : Type 0} (xs : List X) (n : ℕ) → n < length xs → (x : X) × (slice_get xs n ≡ Some x)
-got [] n h = absurd (omega (arith, h))
-got (x ∷ xs) zero h = (x, refl)
-got (x ∷ xs) (suc n) h = got xs n (omega (arith, h))
 
 not_got : {X : Type 0} (xs : List X) (n : ℕ) → length xs ≤ n → slice_get xs n ≡ None
 not_got [] n h = refl
@@ -51,7 +47,7 @@ past_some (Choice variants) blocks [] behind e = let s : [] ≡ behind = cc in
     ap (names blocks) (sym s) ∙ none_left blocks [] refl
 past_some (Choice variants) blocks (p ∷ ps) behind e = by_bool (nat_lt p (length variants))
     (λ t. let s : ps ≡ behind = same ps behind (sym (if_true (nat_lt p (length variants)) (Some ps) None t) ∙ e) in
-    let v = got variants p (less_true p (length variants) t) in
+    let v = some_at variants p (less_true p (length variants) t) in
     let n : length (picked_variants (Choice variants ∷ blocks) (p ∷ ps)) ≡ 1 + length (picked_variants blocks ps) =
     opened variants blocks p ps (Some v.0) v.1 in
     ap (names blocks) (sym s) ∙ next _ _ _ n)

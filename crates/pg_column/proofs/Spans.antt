@@ -18,18 +18,11 @@ use Rattle.pg_list.specs.Shapes.{IsBlock}
 use Rattle.pg_list.proofs.Sizes.{item_count_cons, items_around_le, picked_le}
 use Rattle.pg_breaks.proofs.Lists.{get_lt}
 use Rattle.pg_flat.specs.Flat.{FlatItem, end_of, flat_items_at, flat_items_from, is_same_place, later_flat_items, variant_flat_items}
-use Rattle.pg_place_laws.proofs.Tests.{if_false, if_true}
 use Rattle.pg_column.specs.Ahead.{item_place, is_front, leads_to, next_index, picks_behind, settled}
-use Rattle.pg_column.proofs.Ahead.{IsSettled, Named, drop_past, is_settled, named_on, named_settled, settle, step, stop}
-use Rattle.pg_lemmas.proofs.Bools.{by_bool}
-
-pub some_of : {X : Type 0} (o : Option X) → is_some o ≡ true → (x : X) × (o ≡ Some x)
-some_of None e = absurd cc
-some_of (Some x) e = (x, refl)
-
-pub none_of : {X : Type 0} (o : Option X) → is_some o ≡ false → o ≡ None
-none_of None e = refl
-none_of (Some x) e = absurd cc
+use Rattle.pg_column.proofs.Ahead.{IsSettled, Named, is_settled, named_on, named_settled, settle, step, stop}
+use Rattle.pg_lemmas.proofs.Bools.{by_bool, if_false, if_true}
+use Rattle.pg_lemmas.proofs.Lists.{drop_past}
+use Rattle.pg_breaks.proofs.Walk.{variant_length}
 
 pub index_small : (blocks : List Block) (at : Place) (item : Item) → item_count blocks ≤ 2 ^ 20 →
     item_at blocks at ≡ Some item → at.index < 2 ^ 20
@@ -161,14 +154,6 @@ item_range blocks all at item e = by (items_around blocks at) at.index (around_r
     by (x ∷ items) (suc n) a f = by items n a.1 f
 
 -- ---- no more items than the galley has
-
-later_length : (b v i : ℕ) (items : List Item) → length (later_flat_items b v i items) ≡ length items
-later_length b v i [] = refl
-later_length b v i (x ∷ items) = ap suc (later_length b v (i + 1) items)
-
-variant_length : (b v : ℕ) (items : List Item) → length (variant_flat_items b v items) ≡ length items
-variant_length b v [] = refl
-variant_length b v (x ∷ items) = ap suc (later_length b v 1 items)
 
 from_few : (n : ℕ) (blocks : List Block) (picks : List ℕ) → length (flat_items_from n blocks picks) ≤ item_count blocks
 from_few n [] picks = omega arith

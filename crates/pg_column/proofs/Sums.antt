@@ -23,6 +23,7 @@ use Rattle.pg_notes.specs.declared.sums.NoteSum.{NoteSum}
 use Rattle.pg_notes.specs.AreNotes.{AreNoteSums}
 use Rattle.pg_notes.proofs.Kept.{are_none, found_sums, plain_sums, unfound_sums}
 use Rattle.pg_column.specs.Passed.{IsPassed, Passed, crossed, nothing, with_next}
+use Rattle.pg_sums.proofs.Added.{weak_plain}
 
 step_totals : (t m : ℤ) → pos 0 ≤ℤ m → (xs : List Item) (x : Item) (old : Totals) → AreTotals t m xs old →
     AreTotals t m (xs ++ x ∷ []) (with_item t m old x)
@@ -46,15 +47,6 @@ step_totals t m h xs (Carry body) old are =
 or_false : (a b : Bool) → (a || b) ≡ false → (a ≡ false) × (b ≡ false)
 or_false false b e = (refl, e)
 or_false true b e = absurd cc
-
-weak_plain : (x : Item) → not (is_discardable x) ≡ false → (is_discardable x ≡ true) × (is_box x ≡ false)
-weak_plain (BoxItem h d b) e = absurd cc
-weak_plain (Rule h d b) e = absurd cc
-weak_plain (Glue w s o k b) e = (refl, refl)
-weak_plain (Kern w b) e = (refl, refl)
-weak_plain (Penalty v b) e = (refl, refl)
-weak_plain (Insert c z b) e = absurd cc
-weak_plain (Carry b) e = absurd cc
 
 module _ (style : StyleValue) (is-style : IsStyle style) where
   totals_push : (items : List Item) (x : Item) (t : Totals) →

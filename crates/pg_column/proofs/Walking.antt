@@ -12,14 +12,13 @@ use Rattle.pg_style.specs.Ranges.{IsStyle}
 use Rattle.pg_breaks.specs.Near.{place_forced}
 use Rattle.pg_breaks.specs.Read.{items_at}
 use Rattle.pg_rules.specs.Room.{Document}
-use Rattle.pg_place_laws.proofs.Tests.{if_false, if_true}
 use Rattle.pg_column.specs.Judged.{Walked, is_break_by, may_pass, started, walk_item, walk_to}
 use Rattle.pg_column.specs.Numbers.{is_over_by}
 use Rattle.pg_column.specs.Passed.{IsPassed, Passed}
 use Rattle.pg_column.proofs.Leads.{is_at, position_here, position_later, stands}
 use Rattle.pg_column.proofs.Passing.{at_ranges, end_test, forced_at, got_within, is_passable, map_got, over_in, over_is, passes_more, range_at, taken_more, test_is}
 use Rattle.pg_column.proofs.Sums.{passed_none, passed_push}
-use Rattle.pg_lemmas.proofs.Bools.{by_bool}
+use Rattle.pg_lemmas.proofs.Bools.{by_bool, if_false, if_true}
 
 -- ---- a walk to a place is one along the items before it
 

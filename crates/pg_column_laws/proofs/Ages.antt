@@ -8,11 +8,10 @@ use Rattle.pg_rules.specs.History.{next_column, next_page, place_of, placed_of, 
 use Rattle.pg_rules.specs.States.{age, waiting, state_at}
 use Rattle.pg_rules.specs.Follow.{is_same_float, age_among, age_in, turns}
 use Rattle.pg_place_laws.proofs.Among.{Among}
-use Rattle.pg_place_laws.proofs.Tests.{if_false, if_true, less_true}
 use Rattle.pg_column_laws.proofs.Waiting.{between_of, placed_more}
-use Rattle.pg_lemmas.proofs.Bools.{both_of, both, by_bool}
+use Rattle.pg_lemmas.proofs.Bools.{both_of, both, by_bool, if_false, if_true}
 use Rattle.std.proofs.lemmas.Bool.{eqb-true}
-use Rattle.pg_lemmas.proofs.Numbers.{eq_refl}
+use Rattle.pg_lemmas.proofs.Numbers.{eq_refl, less_true}
 
 pub same_float : (a b : ℕ × ℕ) → is_same_float a b ≡ true → a ≡ b
 same_float (a, b) (c, d) h =

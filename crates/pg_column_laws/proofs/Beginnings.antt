@@ -10,12 +10,11 @@ use Rattle.pg_rules.specs.Legal.{added, distance, has_dealt_all}
 use Rattle.pg_rules.specs.Floats.{distance_table}
 use Rattle.pg_rules.specs.States.{age, waiting, can_wait}
 use Rattle.pg_place_laws.proofs.Among.{Among, all_at, all_of}
-use Rattle.pg_place_laws.proofs.Tests.{less_true, not_less}
 use Rattle.pg_column_laws.specs.Stands.{IsBeginning, Stand}
 use Rattle.pg_column_laws.proofs.Push.{HasTables}
 use Rattle.pg_column_laws.proofs.Waiting.{IsBetween, between_at, between_of}
 use Rattle.pg_lemmas.proofs.Bools.{by_bool}
-use Rattle.pg_lemmas.proofs.Numbers.{less_of}
+use Rattle.pg_lemmas.proofs.Numbers.{less_of, not_less, less_true}
 
 -- what the galley gives: tables have entries, at the start no float is called, and along a column that fits
 -- callouts only grow

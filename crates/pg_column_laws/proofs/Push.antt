@@ -20,11 +20,11 @@ use Rattle.pg_rules.specs.Cost.{column_cost, float_demerits}
 use Rattle.pg_rules.specs.States.{age, waiting, state_at, can_wait}
 use Rattle.pg_rules.specs.Follow.{age_in, turns, next_state, wide_in, context_in, other_side, keeps_run, may_turn, Follow, MayStand}
 use Rattle.pg_place_laws.proofs.Among.{Among, all_at, all_of, all_same, map_same, sum_same}
-use Rattle.pg_place_laws.proofs.Tests.{if_false, if_true, less_true}
 use Rattle.pg_column_laws.specs.Stands.{StandsAfter}
 use Rattle.pg_column_laws.proofs.Ages.{age_turned, ages_agree}
 use Rattle.pg_column_laws.proofs.Waiting.{IsBetween, between_at, between_of}
-use Rattle.pg_lemmas.proofs.Numbers.{not_first}
+use Rattle.pg_lemmas.proofs.Numbers.{more_than_one, less_true}
+use Rattle.pg_lemmas.proofs.Bools.{if_false, if_true}
 
 -- ---- the parts of the next state
 
@@ -63,7 +63,7 @@ run_step : (b : Bool) (n run : ℕ) (side after : Side) → 1 ≤ n → after �
     (if ((if b then 1 else n + 1) == 1) && not (is_right after) then None else Some run)
     ≡ (if b then keeps_run side run else Some run)
 run_step false n run side after h e =
-    ap (λ (t : Bool). if t && not (is_right after) then None else Some run) (not_first n h)
+    ap (λ (t : Bool). if t && not (is_right after) then None else Some run) (more_than_one n h)
 run_step true n run L after h e = ap (λ (z : Side). if not (is_right z) then None else Some run) e
 run_step true n run R after h e = ap (λ (z : Side). if not (is_right z) then None else Some run) e
 run_step true n run S after h e = ap (λ (z : Side). if not (is_right z) then None else Some run) e
@@ -71,7 +71,7 @@ run_step true n run S after h e = ap (λ (z : Side). if not (is_right z) then No
 wide_step : (b : Bool) (n : ℕ) (x y : Option ℤ) → 1 ≤ n → x ≡ y →
     (if (if b then 1 else n + 1) == 1 then None else x) ≡ (if b then None else y)
 wide_step true n x y h e = refl
-wide_step false n x y h e = if_false (n + 1 == 1) None x (not_first n h) ∙ e
+wide_step false n x y h e = if_false (n + 1 == 1) None x (more_than_one n h) ∙ e
 
 wide_same : (b : Bool) (x y : Option ℤ) → (if b then x else (if b then None else y)) ≡ (if b then x else y)
 wide_same true x y = refl

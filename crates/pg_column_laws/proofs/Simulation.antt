@@ -22,13 +22,13 @@ use Rattle.pg_plan.specs.declared.states.PageKey.{PageKey}
 use Rattle.pg_rules.specs.NoWorse.{key, is_same_key, is_same_side, is_same_number, is_same_whole, are_same_counts, are_no_older, is_no_worse}
 use Rattle.pg_rules.specs.IsState.{IsState, are_young}
 use Rattle.pg_place_laws.proofs.Among.{Among, all_at, all_of}
-use Rattle.pg_place_laws.proofs.Tests.{less_true, place_refl}
+use Rattle.pg_place_laws.proofs.Tests.{place_refl}
 use Rattle.pg_column_laws.specs.FollowsToo.{FollowsToo}
 use Rattle.pg_column_laws.proofs.Ages.{same_float}
 use Rattle.pg_column_laws.proofs.Waiting.{IsBetween, between_at}
 use Rattle.pg_lemmas.proofs.Bools.{both_of, both}
 use Rattle.std.proofs.lemmas.Bool.{eqb-true, leb-true, le-leb}
-use Rattle.pg_lemmas.proofs.Numbers.{eq_refl, less_of}
+use Rattle.pg_lemmas.proofs.Numbers.{eq_refl, less_of, less_true}
 use Rattle.pg_flat.proofs.Places.{same_place}
 
 -- ---- the tests on keys

@@ -3,7 +3,6 @@ use Rattle.std.proofs.Common.{◌≡◌, refl, sym, ap, subst, ◌∙◌, ℕ, z
 use Rattle.std.specs.Prelude.{◌&&◌, ◌||◌, ◌==◌, if◌then◌else◌, option_map, slice_get, unwrap_or, ℤ, pos, int_lt}
 use Rattle.std.specs.List.{AllByRecursion, list_all, list_any}
 use Rattle.std.specs.Option.{option_map_or}
-use Rattle.std.proofs.lemmas.Bool.Decides.{nat_tests}
 use Rattle.pg_list.specs.Places.{picked_items, items_around}
 use Rattle.pg_list.specs.Shapes.{IsBlock, IsVariant, BeginsWithBox, is_box, is_discardable}
 use Rattle.pg_list.specs.declared.blocks.Block.{Block}
@@ -15,8 +14,9 @@ use Rattle.pg_list.specs.declared.variants.Variant.{Variant}
 use Rattle.pg_flat.specs.Break.{break_penalty, follows_solid, has_at, is_forced, is_forcing, is_glue, item_break}
 use Rattle.pg_flat.specs.Flat.{FlatItem, blocks_at, flat_items_at, flat_items_from, later_flat_items, picked_variants, variant_flat_items}
 use Rattle.pg_place_laws.proofs.Places.{drop_head, pick_named}
-use Rattle.pg_place_laws.proofs.Tests.{if_false, if_true}
 use Rattle.pg_lemmas.proofs.Lists.{all_drop}
+use Rattle.pg_lemmas.proofs.Bools.{if_false, if_true}
+use Rattle.pg_lemmas.proofs.Numbers.{eq_no, eq_yes}
 
 abbrev pub Alike : List Item → List Item → Type 0
 Alike [] [] = Unit {0}
@@ -162,12 +162,6 @@ forced_alike (x ∷ xs) (y ∷ ys) (inr (p, q)) =
     none true b e = absurd cc
 
 -- ---- a break depends on the item before it and on the rest
-
-eq_no : (a b : ℕ) → a < b → (a == b) ≡ false
-eq_no a b h = grind (arith, nat_tests)
-
-eq_yes : (a b : ℕ) → a ≡ b → (a == b) ≡ true
-eq_yes a b h = grind (arith, nat_tests)
 
 drop_end : (k : ℕ) (xs : List Item) → k ≤ length xs → drop k xs ≡ [] → k ≡ length xs
 drop_end zero [] h e = refl

@@ -18,11 +18,11 @@ use Rattle.pg_cut_laws.proofs.Alike.{item_of}
 use Rattle.pg_place_laws.proofs.Measures.{block_inserts, count_before, inserted, inserted_append, inserted_inserts}
 use Rattle.pg_place_laws.proofs.Places.{around_block, around_is, begins, begins_with, drop_head, drop_later, pick_named}
 use Rattle.pg_cut_laws.proofs.Splits.{StandsAt, first_stands, next_stands, stands_at}
-use Rattle.pg_place_laws.proofs.Tests.{if_false, if_true}
 use Rattle.std.proofs.Math.Seq.{take-length}
 use Rattle.pg_lemmas.proofs.Numbers.{suc_not}
 use Rattle.pg_flat.proofs.Places.{same_place}
 use Rattle.pg_lemmas.proofs.Lists.{all_drop}
+use Rattle.pg_lemmas.proofs.Bools.{if_false, if_true}
 
 drop_none : {X : Type 0} (n : ℕ) (xs : List X) → drop n xs ≡ [] → take n xs ≡ xs
 drop_none n xs e = sym (append-nil (take n xs)) ∙ (ap (λ ys. take n xs ++ ys) (sym e) ∙ take-append-drop n xs)

@@ -1,9 +1,8 @@
 -- A column cuts the list of items in two: its own, and those from its end on with the picks that are left.
 use Rattle.std.proofs.Common.{◌≡◌, refl, sym, ap, subst, ◌∙◌, ℕ, zero, suc, ◌+◌, ◌≤◌, ◌<◌, ◌⊎◌, inl, inr, List, [], ◌∷◌, ◌++◌, length, take, drop, true, false, Option, Some, arith}
-use Rattle.std.specs.Prelude.{◌==◌, cond, slice_get}
+use Rattle.std.specs.Prelude.{◌==◌, slice_get}
 use Rattle.std.specs.List.{AllByRecursion, position}
 use Rattle.std.specs.Option.{option_map_or}
-use Rattle.std.proofs.lemmas.List.Sums.{sum_by-cons}
 use Rattle.pg_list.specs.declared.item.Item.{Item}
 use Rattle.pg_list.specs.declared.variants.Variant.{Variant}
 use Rattle.pg_list.specs.declared.blocks.Block.{Block}
@@ -14,17 +13,12 @@ use Rattle.pg_list.specs.Shapes.{IsBlock}
 use Rattle.pg_flat.specs.Flat.{FlatItem, later_flat_items, variant_flat_items, flat_items_from, flat_items_at, fronts, picked_variants, steps_to, is_same_place, end_of, blocks_at}
 use Rattle.pg_rules.specs.IsState.{IsPlace}
 use Rattle.pg_place_laws.proofs.Places.{Found, around_block, around_is, begins, begins_with, drop_head, drop_later, found, pick_named}
-use Rattle.pg_place_laws.proofs.Tests.{if_false, if_true}
-use Rattle.pg_lemmas.proofs.Bools.{by_bool}
+use Rattle.pg_lemmas.proofs.Bools.{by_bool, if_false, if_true}
 use Rattle.std.proofs.lemmas.Option.{same_Some}
 use Rattle.std.proofs.Math.Seq.{drop-length}
 use Rattle.pg_lemmas.proofs.Numbers.{suc_not}
-use Rattle.pg_flat.proofs.Places.{same_place}
+use Rattle.pg_flat.proofs.Places.{same_place, fronts_cons}
 use Rattle.pg_lemmas.proofs.Lists.{all_drop}
-
-pub fronts_cons : (x : FlatItem) (xs : List FlatItem) (k : ℕ) →
-    fronts (x ∷ xs) (suc k) ≡ cond x.is_front 1 0 + fronts xs k
-fronts_cons x xs k = sum_by-cons (λ (flat_item : FlatItem). cond flat_item.is_front 1 0) x (take k xs)
 
 module _ (all : List Block) where
   -- the k-th item stands at the place, or there are k items and the place is the end

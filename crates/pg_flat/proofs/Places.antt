@@ -1,6 +1,6 @@
 -- Places and picks.
-use Rattle.std.proofs.Common.{◌≡◌, ◌≤◌, ℕ, List, [], ◌∷◌, length, arith, true}
-use Rattle.std.specs.Prelude.{◌==◌, ◌&&◌, Option, Some, None, slice_get}
+use Rattle.std.proofs.Common.{◌≡◌, ◌≤◌, ◌+◌, ℕ, suc, take, List, [], ◌∷◌, length, arith, true}
+use Rattle.std.specs.Prelude.{◌==◌, ◌&&◌, Option, Some, None, cond, slice_get}
 use Rattle.std.specs.Option.{option_map_or}
 use Rattle.std.proofs.lemmas.Bool.{eqb-true}
 use Rattle.std.proofs.Common.{length-append}
@@ -9,7 +9,8 @@ use Rattle.pg_list.specs.declared.blocks.Block.{Block}
 use Rattle.pg_list.specs.declared.blocks.Block.TheVariants.{One, Choice}
 use Rattle.pg_list.specs.declared.galley.Place.{Place}
 use Rattle.pg_list.specs.declared.variants.Variant.{Variant}
-use Rattle.pg_flat.specs.Flat.{is_same_place, picked_variants}
+use Rattle.std.proofs.lemmas.List.Sums.{sum_by-cons}
+use Rattle.pg_flat.specs.Flat.{FlatItem, fronts, is_same_place, picked_variants}
 
 -- places that a test finds alike are one
 pub same_place : (a b : Place) → is_same_place a b ≡ true → a ≡ b
@@ -44,3 +45,8 @@ picked_few (Choice variants ∷ blocks) (pick ∷ picks) =
     at_most : (o : Option Variant) → length (option_map_or (λ (variant : Variant). variant ∷ []) o []) ≤ 1
     at_most None = omega arith
     at_most (Some v) = omega arith
+
+-- one front more, where the next item is one
+pub fronts_cons : (x : FlatItem) (xs : List FlatItem) (k : ℕ) →
+    fronts (x ∷ xs) (suc k) ≡ cond x.is_front 1 0 + fronts xs k
+fronts_cons x xs k = sum_by-cons (λ (flat_item : FlatItem). cond flat_item.is_front 1 0) x (take k xs)

@@ -21,6 +21,7 @@ use Rattle.pg_floats.specs.declared.queue.Late.{Late}
 use Rattle.pg_floats.specs.QueueValue.{AreYoung, IsOf, IsQueue, QueueValue, none, late_in, late_by, late_of}
 use Rattle.pg_floats.specs.QueueValue.{next_table, table_in, float_count_in, with_callout, with_placed}
 use Rattle.pg_floats.proofs.Numbers.{numbers_are}
+use Rattle.pg_lemmas.proofs.Lists.{zeros_long}
 
 -- ---- tables
 
@@ -268,10 +269,6 @@ of_turned style queue slots e = record {
 }
 
 -- ---- a queue without floats
-
-zeros_long : (n : ℕ) → length {A = ℕ} (replicate n 0) ≡ n
-zeros_long zero = refl
-zeros_long (suc n) = ap suc (zeros_long n)
 
 young_none : (style : StyleValue) (slot n : ℕ) → AreYoung style slot (replicate n 0) []
 young_none style slot zero = tt

@@ -1,6 +1,7 @@
 -- Lists, and what holds of each of their elements.
-use Rattle.std.proofs.Common.{◌≡◌, ℕ, zero, suc, take, drop, List, [], ◌∷◌, ◌++◌, arith}
-use Rattle.std.specs.List.{AllByRecursion, Contains}
+use Rattle.std.proofs.Common.{◌≡◌, ℕ, zero, suc, take, drop, List, [], ◌∷◌, ◌++◌, arith, ◌∙◌, ◌<◌, ◌≤◌, ◌+◌, ap, sym, refl, length, get_or, take-suc, true, false, Option, Some, None}
+use Rattle.std.specs.List.{AllByRecursion, Contains, range_with_len}
+use Rattle.std.specs.Prelude.{slice_get, is_some, replicate}
 
 pub all_append : {X : Type 0} (P : X → Type 0) (xs ys : List X) → AllByRecursion P xs → AllByRecursion P ys
     → AllByRecursion P (xs ++ ys)
@@ -22,3 +23,46 @@ all_drop P (suc n) (x ∷ xs) h = all_drop P n xs h.1
 -- nothing is among none
 pub none_among : {X : Type 0} (x : X) → Contains [] x → ⊥
 none_among x (k, h, e) = omega arith
+
+-- an element within the list
+pub some_at : {X : Type 0} (xs : List X) (n : ℕ) → n < length xs → (x : X) × (slice_get xs n ≡ Some x)
+some_at [] n h = absurd (omega (arith, h))
+some_at (x ∷ xs) zero h = (x, refl)
+some_at (x ∷ xs) (suc n) h = some_at xs n (omega (arith, h))
+
+pub none_is : {X : Type 0} (o : Option X) → is_some o ≡ false → o ≡ None
+none_is None e = refl
+none_is (Some x) e = absurd cc
+
+pub some_is : {X : Type 0} (o : Option X) → is_some o ≡ true → (x : X) × (o ≡ Some x)
+some_is None e = absurd cc
+some_is (Some x) e = (x, refl)
+
+-- nothing is left behind the end
+pub drop_past : {X : Type 0} (n : ℕ) (xs : List X) → length xs ≤ n → drop n xs ≡ []
+drop_past zero [] h = refl
+drop_past (suc n) [] h = refl
+drop_past zero (y ∷ ys) h = absurd (omega arith)
+drop_past (suc n) (y ∷ ys) h = drop_past n ys (omega arith)
+
+pub no_items : {X : Type 0} (xs : List X) → length xs ≡ 0 → xs ≡ []
+no_items [] h = refl
+no_items (x ∷ xs) h = absurd (omega arith)
+
+pub zeros_long : (n : ℕ) → length {A = ℕ} (replicate n 0) ≡ n
+zeros_long zero = refl
+zeros_long (suc n) = ap suc (zeros_long n)
+
+-- a range with one more
+pub range_more : (a n : ℕ) → range_with_len a (suc n) ≡ range_with_len a n ++ (a + n) ∷ []
+range_more a zero = let here : a ≡ a + 0 = omega arith in ap (λ (k : ℕ). k ∷ []) here
+range_more a (suc n) =
+    let next : a + 1 + n ≡ a + suc n = omega arith in
+    ap (λ (ks : List ℕ). a ∷ ks) (range_more (a + 1) n ∙ ap (λ (k : ℕ). range_with_len (a + 1) n ++ k ∷ []) next)
+
+-- the elements up to and including the next
+pub one_more : {X : Type 0} (xs : List X) (i : ℕ) (x : X) → i < length xs → x ≡ get_or xs i x →
+    take (i + 1) xs ≡ take i xs ++ x ∷ []
+one_more xs i x less is =
+    let next : i + 1 ≡ suc i = omega arith in
+    ap (λ (k : ℕ). take k xs) next ∙ take-suc xs i x less ∙ ap (λ y. take i xs ++ y ∷ []) (sym is)

@@ -1,8 +1,9 @@
 -- Numbers and their tests.
-use Rattle.std.proofs.Common.{◌≡◌, ◌≤◌, ◌<◌, ◌+◌, ℕ, suc, arith, subst, true, false, Bool}
+use Rattle.std.proofs.Common.{◌≡◌, ◌≤◌, ◌<◌, ◌+◌, ℕ, suc, arith, subst, true, false, Bool, ◌*◌}
 use Rattle.std.specs.Prelude.{◌==◌, nat_lt, if◌then◌else◌, ℤ, pos, ◌≤ℤ◌, unsigned_abs}
 use Rattle.std.proofs.lemmas.Int.{ints}
 use Rattle.std.proofs.lemmas.Bool.Decides.{nat_tests}
+use Rattle.std.proofs.Math.Nat.{mul-le-mul_left, mul-le-mul_right}
 
 pub eq_refl : (a : ℕ) → (a == a) ≡ true
 eq_refl a = grind (arith, nat_tests)
@@ -19,8 +20,8 @@ pub suc_not : (j : ℕ) → (suc j == 0) ≡ false
 suc_not j = grind (arith, nat_tests)
 
 -- a number behind one that is not 0 is not 1
-pub not_first : (n : ℕ) → 1 ≤ n → (n + 1 == 1) ≡ false
-not_first n h = grind (arith, nat_tests)
+pub more_than_one : (n : ℕ) → 1 ≤ n → (n + 1 == 1) ≡ false
+more_than_one n h = grind (arith, nat_tests)
 
 -- a bound on either is one on the chosen one
 pub few_if : (b : Bool) (x y n : ℕ) → x ≤ n → y ≤ n → (if b then x else y) ≤ n
@@ -30,3 +31,21 @@ few_if false x y n h k = k
 -- a number that is not negative is its size
 pub length_is : (z : ℤ) → pos 0 ≤ℤ z → z ≡ pos (unsigned_abs z)
 length_is z h = omega (arith, ints)
+
+pub less_true : (a b : ℕ) → nat_lt a b ≡ true → a < b
+less_true a b h = grind (arith, nat_tests)
+
+pub not_less : (a b : ℕ) → nat_lt a b ≡ false → b ≤ a
+not_less a b h = grind (arith, nat_tests)
+
+-- a lesser number is not equal
+pub eq_no : (a b : ℕ) → a < b → (a == b) ≡ false
+eq_no a b h = grind (arith, nat_tests)
+
+pub eq_yes : (a b : ℕ) → a ≡ b → (a == b) ≡ true
+eq_yes a b h = grind (arith, nat_tests)
+
+-- squares grow with their numbers
+pub square_few : (n k : ℕ) → n ≤ k → n * n ≤ k * k
+square_few n k h = let a : n * n ≤ k * n = mul-le-mul_right n h in let b : k * n ≤ k * k =
+    mul-le-mul_left k h in omega arith

@@ -1,8 +1,9 @@
 -- Orders.
-use Rattle.std.proofs.Common.{◌≡◌, refl, true, false, ap}
+use Rattle.std.proofs.Common.{◌≡◌, refl, true, false, ap, ℕ, ◌<◌}
 use Rattle.std.specs.declared.cmp.Ordering.{Ordering}
 use Rattle.std.specs.declared.cmp.Ordering.TheVariants.{Less, Equal, Greater}
-use Rattle.std.specs.Ordering.{ordering_then, ordering_reverse, is_gt}
+use Rattle.std.specs.Ordering.{ordering_then, ordering_reverse, is_gt, nat_cmp}
+use Rattle.std.proofs.lemmas.Cmp.{by_ranked, ranked}
 
 -- where one is above the other, the other is not above the one
 pub not_gt_back : (o p : Ordering) → o ≡ ordering_reverse p → is_gt p ≡ true → is_gt o ≡ false
@@ -15,3 +16,11 @@ pub then_equal : (o p : Ordering) → ordering_then o p ≡ Equal → (o ≡ Equ
 then_equal Less p e = absurd cc
 then_equal Equal p e = (refl, e)
 then_equal Greater p e = absurd cc
+
+pub nat_equal : (a b : ℕ) → nat_cmp a b ≡ Equal → a ≡ b
+nat_equal a b e = by_ranked (a < b) (a ≡ b) (b < a) (nat_cmp a b) (ranked a b (nat_cmp a b) refl)
+    (λ o _. absurd cc) (λ _ p. p) (λ o _. absurd cc)
+
+pub nat_less : (a b : ℕ) → nat_cmp a b ≡ Less → a < b
+nat_less a b e = by_ranked (a < b) (a ≡ b) (b < a) (nat_cmp a b) (ranked a b (nat_cmp a b) refl)
+    (λ _ p. p) (λ o _. absurd cc) (λ o _. absurd cc)

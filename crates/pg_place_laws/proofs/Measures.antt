@@ -16,7 +16,6 @@ use Rattle.pg_rules.specs.Floats.{sizes_of, insert_size}
 use Rattle.pg_rules.specs.IsState.{IsPlace}
 use Rattle.pg_place_laws.specs.Past.{IsPast, LaterIn, Past, far}
 use Rattle.pg_place_laws.proofs.Places.{around_block, around_is}
-use Rattle.pg_place_laws.proofs.Tests.{if_false, if_true}
 use Rattle.std.proofs.lemmas.Option.{slice_get_within}
 use Rattle.pg_flat.specs.Flat.{later_flat_items, variant_flat_items}
 use Rattle.std.proofs.lemmas.List.{take-append-drop, map-append}
@@ -24,7 +23,7 @@ use Rattle.std.proofs.lemmas.List.Elements.{filter_map-append}
 use Rattle.std.specs.List.{cons_option}
 use Rattle.pg_list.specs.declared.item.Item.TheVariants.{BoxItem, Rule, Glue, Kern, Penalty, Insert, Carry}
 use Rattle.std.proofs.lemmas.Bool.Decides.{nat_tests}
-use Rattle.pg_lemmas.proofs.Bools.{by_bool}
+use Rattle.pg_lemmas.proofs.Bools.{by_bool, if_false, if_true}
 use Rattle.pg_list.proofs.Sizes.{picked_le}
 use Rattle.pg_flat.proofs.Places.{same_place}
 

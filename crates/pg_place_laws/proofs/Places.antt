@@ -15,9 +15,8 @@ use Rattle.std.proofs.Common.{length-drop}
 use Rattle.std.proofs.lemmas.Option.{slice_get_within}
 use Rattle.pg_rules.specs.IsState.{IsPlace}
 use Rattle.pg_place_laws.specs.Past.{IsPast}
-use Rattle.pg_place_laws.proofs.Tests.{if_false, if_true, less_true}
-use Rattle.pg_lemmas.proofs.Bools.{by_bool}
-use Rattle.pg_lemmas.proofs.Numbers.{suc_not}
+use Rattle.pg_lemmas.proofs.Bools.{by_bool, if_false, if_true}
+use Rattle.pg_lemmas.proofs.Numbers.{suc_not, less_true}
 use Rattle.pg_flat.proofs.Places.{same_place, picked_few}
 use Rattle.pg_lemmas.proofs.Lists.{all_drop}
 

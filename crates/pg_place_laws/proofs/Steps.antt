@@ -15,8 +15,7 @@ use Rattle.pg_rules.specs.IsState.{IsPlace}
 use Rattle.pg_place_laws.specs.Past.{far}
 use Rattle.pg_place_laws.proofs.Measures.{count_more}
 use Rattle.pg_place_laws.proofs.Places.{Found, around_block, around_is, drop_head, drop_later, found}
-use Rattle.pg_place_laws.proofs.Tests.{if_false, if_true}
-use Rattle.pg_lemmas.proofs.Bools.{by_bool}
+use Rattle.pg_lemmas.proofs.Bools.{by_bool, if_false, if_true}
 use Rattle.std.proofs.Math.Seq.{take-length}
 use Rattle.pg_lemmas.proofs.Numbers.{suc_not}
 use Rattle.pg_list.proofs.Sizes.{picked_le}

@@ -5,12 +5,12 @@ use Rattle.std.specs.Ordering.{nat_cmp, ordering_then}
 use Rattle.std.specs.declared.cmp.Ordering.TheVariants.{Equal}
 use Rattle.std.specs.Cmp.{IsTotalOrder}
 use Rattle.std.specs.Cmp.Lexicographic.{slice_cmp, lists_total}
-use Rattle.std.proofs.lemmas.Cmp.{then_total, nat_cmp_total, nat_list_cmp_total, on_total, by_ranked, ranked}
+use Rattle.std.proofs.lemmas.Cmp.{then_total, nat_cmp_total, nat_list_cmp_total, on_total}
 use Rattle.std.proofs.lemmas.List.{reverse-reverse}
 use Rattle.pg_list.specs.declared.galley.Place.{Place}
 use Rattle.pg_plan.specs.declared.pages.PageMove.{PageMove}
 use Rattle.pg_plan.specs.Order.{columns, plan_cmp, place_cmp, counts_cmp, picks_cmp, column_cmp}
-use Rattle.pg_lemmas.proofs.Orders.{then_equal}
+use Rattle.pg_lemmas.proofs.Orders.{then_equal, nat_equal}
 
 pub place_total : IsTotalOrder place_cmp
 place_total = then_total {R = λ (a b : Place). nat_cmp a.block b.block} (on_total (λ (a : Place). a.block) nat_cmp_total) (then_total {R = λ (a b : Place). nat_cmp a.variant b.variant} (on_total (λ (a : Place). a.variant) nat_cmp_total) (on_total (λ (a : Place). a.index) nat_cmp_total))
@@ -24,9 +24,6 @@ columns_total =
     (then_total (on_total (λ (a : PageMove). a.column.bottom) nat_list_cmp_total)
     (then_total (on_total (λ (a : PageMove). a.column.top) nat_list_cmp_total)
     (on_total (λ (a : PageMove). reverse a.column.picks) nat_list_cmp_total))))))
-
-pub nat_equal : (a b : ℕ) → nat_cmp a b ≡ Equal → a ≡ b
-nat_equal a b e = by_ranked (a < b) (a ≡ b) (b < a) (nat_cmp a b) (ranked a b (nat_cmp a b) refl) (λ o _. absurd cc) (λ _ p. p) (λ o _. absurd cc)
 
 pub list_equal : (xs ys : List ℕ) → slice_cmp nat_cmp xs ys ≡ Equal → xs ≡ ys
 list_equal [] [] e = refl

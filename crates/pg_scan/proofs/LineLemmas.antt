@@ -68,10 +68,6 @@ unfolding trimmed
 no_return [] d e = rw e refl
 no_return (c ∷ cs) d e = ap (in_front c) (no_return cs d e) ∙ some_front c (cs ++ d ∷ []) cs d refl
 
-pub nil_from_length : (xs : List ℕ) → length xs ≡ 0 → xs ≡ []
-nil_from_length [] e = refl
-nil_from_length (x ∷ xs) e = absurd (omega arith)
-
 -- the last byte of the front of a line that may still have carriage returns
 pub less_return : (line : List ℕ) (n m : ℕ) → 0 < n → n ≤ length line → m ≡ n - 1 → get_or line m 0 ≡ 13
     → trimmed (take m line) ≡ trimmed (take n line)

@@ -7,7 +7,8 @@ use Rattle.pg_showbox.specs.declared.state.ReaderState.{ReaderState}
 use Rattle.pg_scan.specs.Lines.{Line, raw_lines, joined}
 use Rattle.pg_showbox.specs.State.{Steps}
 use Rattle.pg_showbox.specs.Reading.{line_read, run, OrMemory}
-use Rattle.pg_scan.proofs.LineLemmas.{nil_from_length, no_line}
+use Rattle.pg_scan.proofs.LineLemmas.{no_line}
+use Rattle.pg_lemmas.proofs.Lists.{no_items}
 
 pub run_more : (is_file : Bool) (s t : ReaderState) (lines rest : List Line) (n : ℕ) (text : List ℕ)
     → lines ≡ record { number = n; text = text } ∷ rest → line_read is_file s text ≡ Ok t
@@ -26,7 +27,7 @@ unfolding run
 run_end is_file s lines e = rw e refl
 
 pub no_raw_lines : (text : List ℕ) → length text ≡ 0 → raw_lines text ≡ []
-no_raw_lines text e = rw (nil_from_length text e, no_line) refl
+no_raw_lines text e = rw (no_items text e, no_line) refl
 
 pub joined_none : (wrap : Option ℕ) (n : ℕ) (lines : List (List ℕ)) → lines ≡ [] → joined wrap n lines ≡ []
 unfolding joined

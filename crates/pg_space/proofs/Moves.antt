@@ -30,7 +30,7 @@ use Rattle.pg_rules.specs.Room.{ColumnContext, Document, bottom_height, is_text,
 use Rattle.pg_table.specs.Space.{AreMoves}
 use Rattle.pg_table.specs.declared.step.Step.{Step}
 use Rattle.pg_table.proofs.Lists.{pairs_weaker}
-use Rattle.pg_place_laws.proofs.Tests.{if_false, if_true, place_refl}
+use Rattle.pg_place_laws.proofs.Tests.{place_refl}
 use Rattle.pg_beginning_laws.proofs.Order.{place_total}
 use Rattle.pg_space_laws.specs.PageSpace.{FollowBest, page_meaning}
 use Rattle.pg_space_laws.proofs.Least.{best_unique}
@@ -38,15 +38,13 @@ use Rattle.pg_ends.specs.declared.end.End.{End}
 use Rattle.pg_ends.specs.Ends.{AreEnds, HasEnd, IsBefore, IsColumnIn, IsEndOf}
 use Rattle.pg_space.specs.PlainSteps.{fitness_cost, kept_fitness, plain_state, step_to, steps_of, text_move}
 use Rattle.pg_space.proofs.Members.{in_filter, in_map, of_filter, of_map, pairs_map}
-use Rattle.pg_space.proofs.PlainStates.{form_is, no_items, plain_form, state_is, with_form}
-use Rattle.pg_lemmas.proofs.Bools.{both_of, both, not_true, by_bool, either_way}
+use Rattle.pg_space.proofs.PlainStates.{form_is, plain_form, state_is, with_form}
+use Rattle.pg_lemmas.proofs.Bools.{both_of, both, not_true, by_bool, either_way, not_false, if_false, if_true}
 use Rattle.std.proofs.lemmas.Bool.{eqb-true}
 use Rattle.pg_flat.proofs.Places.{same_place}
+use Rattle.pg_lemmas.proofs.Lists.{no_items}
 
 -- ---- tests
-
-not_false : (b : Bool) → b ≡ false → not b ≡ true
-not_false b h = ap not h
 
 zero_le : (n : ℕ) → nat_le 0 n ≡ true
 zero_le n = grind (arith, nat_tests)

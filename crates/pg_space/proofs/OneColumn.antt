@@ -7,9 +7,9 @@ use Rattle.pg_plan.specs.declared.pages.PageMove.{PageMove}
 use Rattle.pg_style.specs.Values.{StyleValue}
 use Rattle.pg_rules.specs.History.{next_column}
 use Rattle.pg_beginning_laws.specs.Pages.{pages_from, plan_of}
-use Rattle.pg_place_laws.proofs.Tests.{if_true}
 use Rattle.pg_plain.proofs.Contexts.{first_column}
 use Rattle.pg_space.specs.Singles.{single_page}
+use Rattle.pg_lemmas.proofs.Bools.{if_true}
 
 pages_are : (style : StyleValue) → style.columns ≡ 1 → (ms : List PageMove) →
     pages_from style ms ≡ map single_page ms

@@ -1,5 +1,5 @@
 -- Under a plain style each state has but a place and a fitness.
-use Rattle.std.proofs.Common.{◌≡◌, refl, sym, ap, subst, ◌∙◌, ℕ, ◌+◌, ◌*◌, ◌≤◌, List, [], ◌∷◌, length, true, Option, Some, None, arith}
+use Rattle.std.proofs.Common.{◌≡◌, refl, sym, ap, subst, ◌∙◌, ℕ, ◌+◌, ◌*◌, ◌≤◌, List, [], ◌∷◌, true, Option, Some, None, arith}
 use Rattle.std.specs.Prelude.{◌==◌, ◌||◌, ◌&&◌, if◌then◌else◌, is_some, int_le, int_lt, pos, ℤ, ◌^◌}
 use Rattle.std.specs.Option.{option_map_or}
 use Rattle.pg_list.specs.declared.blocks.Block.{Block}
@@ -17,6 +17,7 @@ use Rattle.pg_rules.specs.NoWorse.{is_same_side}
 use Rattle.pg_rules.specs.Room.{Document}
 use Rattle.pg_space_laws.specs.PageSpace.{rank}
 use Rattle.pg_space.specs.PlainSteps.{plain_state}
+use Rattle.pg_lemmas.proofs.Lists.{no_items}
 
 -- ---- the form of a plain style
 
@@ -46,10 +47,6 @@ no_wide : (wide : Option ℤ) → option_map_or (λ (z : ℤ). not_first 1 && (i
     (pos (2 ^ 33)))) wide true ≡ true → wide ≡ None
 no_wide None h = refl
 no_wide (Some z) h = absurd cc
-
-pub no_items : {X : Type 0} (xs : List X) → length xs ≡ 0 → xs ≡ []
-no_items [] h = refl
-no_items (x ∷ xs) h = absurd (omega arith)
 
 pub fields : (at : Place) (fitness : Option ℕ) (column : ℕ) (side : Side) (run : Option ℕ) (wide : Option ℤ)
     (placed ages : List ℕ) → column ≡ 1 → side ≡ S → run ≡ None → wide ≡ None → placed ≡ [] → ages ≡ [] →

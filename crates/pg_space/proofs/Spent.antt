@@ -20,9 +20,8 @@ use Rattle.pg_plan.specs.declared.states.State.{State}
 use Rattle.pg_rules.specs.IsState.{IsPlace, IsState}
 use Rattle.pg_rules.specs.Legal.{is_spent_at}
 use Rattle.pg_rules.specs.States.{is_done}
-use Rattle.pg_place_laws.proofs.Tests.{if_false, if_true}
 use Rattle.pg_space.proofs.PlainStates.{form_is, plain_form}
-use Rattle.pg_lemmas.proofs.Bools.{by_bool}
+use Rattle.pg_lemmas.proofs.Bools.{by_bool, if_false, if_true}
 use Rattle.pg_flat.proofs.Places.{same_place}
 
 -- ---- fronts of blocks

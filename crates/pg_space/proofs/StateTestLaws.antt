@@ -1,5 +1,5 @@
 -- The test of a state tells the states.
-use Rattle.std.proofs.Common.{◌≡◌, refl, sym, ap, subst, ℕ, ◌<◌, List, [], ◌∷◌, length, Bool, true, false, Option, Some, None, inl, inr, arith}
+use Rattle.std.proofs.Common.{◌≡◌, refl, sym, ap, subst, ℕ, ◌<◌, List, [], ◌∷◌, length, true, Option, Some, None, inl, inr, arith}
 use Rattle.std.specs.Prelude.{◌⊎◌, ◌↔◌, ◌==◌, ◌||◌, not, nat_lt}
 use Rattle.std.specs.Option.{is_none}
 use Rattle.pg_list.specs.declared.blocks.Block.{Block}
@@ -13,19 +13,14 @@ use Rattle.pg_flat.specs.Flat.{end_of, is_same_place}
 use Rattle.pg_plain.specs.Plain.{IsPlainStyle}
 use Rattle.pg_rules.specs.IsState.{IsPlace, IsState}
 use Rattle.pg_rules.specs.NoWorse.{is_same_side}
-use Rattle.pg_place_laws.proofs.Tests.{less_true}
 use Rattle.pg_space.specs.PlainSteps.{plain_state}
 use Rattle.pg_space.specs.StateTest.{has_fitness, has_place, has_plain_fields, is_empty_list, is_plain_state}
 use Rattle.pg_space.proofs.PlainStates.{fields, form_is, plain_form, state_is, with_form}
-use Rattle.pg_lemmas.proofs.Bools.{both_of, both, or_cases, or_right, by_bool}
+use Rattle.pg_lemmas.proofs.Bools.{both_of, both, or_cases, or_right, by_bool, or_left}
 use Rattle.std.proofs.lemmas.Bool.{eqb-true}
-use Rattle.pg_lemmas.proofs.Numbers.{less_of}
+use Rattle.pg_lemmas.proofs.Numbers.{less_of, less_true}
 
 -- ---- places
-
-or_left : (a b : Bool) → a ≡ true → (a || b) ≡ true
-or_left true b e = refl
-or_left false b e = absurd cc
 
 place_of : (blocks : List Block) (at : Place) → has_place blocks at ≡ true → IsPlace blocks at
 place_of blocks at h =

@@ -14,13 +14,13 @@ use Rattle.pg_rules.specs.History.{placed_after, made_wide}
 use Rattle.pg_rules.specs.IsState.{IsPlace, IsState}
 use Rattle.pg_place_laws.specs.Past.{IsPast, Past}
 use Rattle.pg_place_laws.proofs.Callouts.{fit_ends}
-use Rattle.pg_place_laws.proofs.Tests.{if_false, if_true, less_true, place_refl}
+use Rattle.pg_place_laws.proofs.Tests.{place_refl}
 use Rattle.pg_beginning_laws.proofs.PagesLaws.{wide_long}
 use Rattle.pg_bound_laws.proofs.Counts.{after_total, float_total}
 use Rattle.pg_rules.specs.Room.{Document, is_text, is_top_allowed, is_bottom_allowed}
-use Rattle.pg_lemmas.proofs.Bools.{both_of, or_cases, by_bool}
+use Rattle.pg_lemmas.proofs.Bools.{both_of, or_cases, by_bool, if_false, if_true}
 use Rattle.std.proofs.lemmas.Bool.{eqb-true}
-use Rattle.pg_lemmas.proofs.Numbers.{eq_refl}
+use Rattle.pg_lemmas.proofs.Numbers.{eq_refl, less_true}
 use Rattle.pg_flat.proofs.Places.{same_place}
 
 rank_step : (b b' : Bool) (x y : ℕ) → x < y → 2 * x + (if b then 1 else 0) < 2 * y + (if b' then 1 else 0)

@@ -1,5 +1,5 @@
 -- The rules on a text column are those of its part of the flat list.
-use Rattle.std.proofs.Common.{◌≡◌, refl, sym, ap, subst, ◌∙◌, ℕ, zero, suc, ◌+◌, ◌-◌, ◌<◌, ◌≤◌, inl, inr, List, [], ◌∷◌, take, drop, Bool, true, false, Option, Some, arith}
+use Rattle.std.proofs.Common.{◌≡◌, sym, ap, subst, ◌∙◌, ℕ, zero, suc, ◌+◌, ◌-◌, ◌<◌, ◌≤◌, inl, inr, List, [], ◌∷◌, take, drop, Bool, true, false, Option, Some, arith}
 use Rattle.std.specs.Prelude.{◌&&◌, ◌||◌, ◌==◌, not, nat_le, if◌then◌else◌, is_some, ℤ, pos, ◌+ℤ◌, ◌-ℤ◌}
 use Rattle.std.specs.List.{AllByRecursion, list_any, range_with_len}
 use Rattle.std.specs.Option.{option_map_or}
@@ -24,13 +24,13 @@ use Rattle.pg_rules.specs.Room.{are_notes_within_limits, at_size, ColumnContext,
 use Rattle.pg_place_laws.proofs.Among.{Among, all_same}
 use Rattle.pg_place_laws.proofs.Places.{Leads, leads}
 use Rattle.pg_cut_laws.proofs.Splits.{StandsAt, stands_at}
-use Rattle.pg_place_laws.proofs.Tests.{if_true, place_refl}
+use Rattle.pg_place_laws.proofs.Tests.{place_refl}
 use Rattle.pg_rules.specs.Ranges.{AreInRange}
 use Rattle.pg_column_laws.proofs.Waiting.{slot_below}
 use Rattle.pg_text_laws.specs.Texts.{Chained, ReadsFlat, RulesReadFlat, RulesReadTheFlatList, StandsInFlat, flat_badness, flat_goal, flat_is_over, flat_segment, flat_total, passes_behind, picks_of}
 use Rattle.pg_text_laws.proofs.Once.{Fits, chain_fits, chain_place, fits_of}
 use Rattle.pg_text_laws.proofs.Reading.{chained_tail, columns_read_flat}
-use Rattle.pg_lemmas.proofs.Bools.{both_of}
+use Rattle.pg_lemmas.proofs.Bools.{both_of, where_true, if_true}
 use Rattle.pg_flat.proofs.Places.{same_place}
 
 -- ---- by size
@@ -38,10 +38,6 @@ use Rattle.pg_flat.proofs.Places.{same_place}
 -- what a test says at the column's size
 at_is : {X : Type 0} (o : Option ℕ) (f : ℕ → X) (x : X) (n : ℕ) → o ≡ Some n → option_map_or f o x ≡ f n
 at_is o f x n e = ap (λ (p : Option ℕ). option_map_or f p x) e
-
-text_or : (b test : Bool) → b ≡ true → (not b || test) ≡ test
-text_or true test e = refl
-text_or false test e = absurd cc
 
 module _ (it : ColumnContext) (flat : List Item) (start n : ℕ) (r : ReadsFlat it flat start n) (some : 1 ≤ n)
     (text : is_text it ≡ true) where
@@ -83,7 +79,7 @@ module _ (it : ColumnContext) (flat : List Item) (start n : ℕ) (r : ReadsFlat 
   tolerable : is_tolerable it ≡ (not (flat_is_over it flat start n)
       && (is_forced flat (start + n) || nat_le (flat_badness it flat start n) it.document.style.tolerance))
   tolerable =
-      text_or (is_text it) (at_size it
+      where_true (is_text it) (at_size it
       (λ k. not (text_is_over it k) &&
       (is_forced (items_of it) k || nat_le (text_badness it k) it.document.style.tolerance))) text
       ∙ (at_is (size_of it) (λ k. not (text_is_over it k)
@@ -97,7 +93,7 @@ module _ (it : ColumnContext) (flat : List Item) (start n : ℕ) (r : ReadsFlat 
 
   passes : passes_breaks it ≡ passes_behind flat start (flat_is_over it flat start) n
   passes =
-      text_or (is_text it) (at_size it (passes_between (items_of it) (text_is_over it))) text
+      where_true (is_text it) (at_size it (passes_between (items_of it) (text_is_over it))) text
       ∙ (at_is (size_of it) (passes_between (items_of it) (text_is_over it)) false n r.size
       ∙ (r.passes (text_is_over it)
       ∙ all_same (λ (j : ℕ). not (is_some (break_penalty flat (start + j))
@@ -124,7 +120,7 @@ module _ (it : ColumnContext) (flat : List Item) (start n : ℕ) (r : ReadsFlat 
 
   note_limits : keeps_note_limits it ≡ are_notes_within_limits it.document.style (flat_segment flat start n)
   note_limits =
-      text_or (is_text it) (at_size it (λ k. are_notes_within_limits it.document.style (segment it k))) text
+      where_true (is_text it) (at_size it (λ k. are_notes_within_limits it.document.style (segment it k))) text
       ∙ (at_is (size_of it) (λ k. are_notes_within_limits it.document.style (segment it k)) false n r.size
       ∙ ap (are_notes_within_limits it.document.style) (r.segment n (omega arith)))
 

@@ -26,9 +26,8 @@ use Rattle.pg_rules.specs.Cost.{penalty_demerits, text_demerits, pick_demerits}
 use Rattle.pg_rules.specs.BestPicks.{keeps_text}
 use Rattle.pg_plain.specs.Plain.{AreSingle, single_items, IsPlainStyle}
 use Rattle.pg_plain.proofs.Singles.{items_are, flat_length, drop_single, drop_items, position_is}
-use Rattle.pg_place_laws.proofs.Tests.{if_true}
 use Rattle.pg_walk.specs.Walk.{total_at, is_over_at, badness_at, fitness_at, demerits_at, keeps_at, is_end_at, is_tolerable_at}
-use Rattle.pg_lemmas.proofs.Bools.{both_of}
+use Rattle.pg_lemmas.proofs.Bools.{both_of, if_true}
 use Rattle.pg_flat.proofs.Places.{same_place}
 
 -- ---- the flat list

@@ -7,9 +7,10 @@ use Rattle.pg_list.specs.Shapes.{IsBlock}
 use Rattle.pg_flat.specs.Flat.{flat_items_at}
 use Rattle.pg_column.specs.Ahead.{item_place, leads_to, next_index, settled}
 use Rattle.pg_column.proofs.Ahead.{IsSettled, Named, is_settled, named_settled, settle}
-use Rattle.pg_column.proofs.Spans.{leads_here, leads_none, leads_on, leads_short, leads_whole, next_named, next_picks, next_settled, none_of, shorter, some_of}
+use Rattle.pg_column.proofs.Spans.{leads_here, leads_none, leads_on, leads_short, leads_whole, next_named, next_picks, next_settled, shorter}
 use Rattle.pg_column.proofs.span.leads.Goals as goal
 use Rattle.std.proofs.lemmas.Bool.{eqb-true}
+use Rattle.pg_lemmas.proofs.Lists.{none_is, some_is}
 
 pub ahead-init : goal.ahead-init
 ahead-init c =
@@ -30,7 +31,7 @@ pub returns-then-is_reached : goal.returns-then-is_reached
 returns-then-is_reached c =
     let bs = c.blocks_of-blocks.result.now in
     let all = subst (AllByRecursion IsBlock) (sym c.blocks_of-blocks.ensures.blocks) c.blocks_of-blocks.ensures.shape in
-    let it = some_of (item_at bs (item_place bs c.ahead.at c.ahead.left.now))
+    let it = some_is (item_at bs (item_place bs c.ahead.at c.ahead.left.now))
     (sym c.is_ahead.ensures.there ∙ c.ahead-test.true) in
     c.is_empty.ensures
     ∙ (leads_here bs all c.ahead.at c.ahead.left.now c.ahead.invariant.settled c.ahead.invariant.named
@@ -43,7 +44,7 @@ pub returns-then-is_short : goal.returns-then-is_short
 returns-then-is_short c =
     let bs = c.blocks_of-blocks.result.now in
     let all = subst (AllByRecursion IsBlock) (sym c.blocks_of-blocks.ensures.blocks) c.blocks_of-blocks.ensures.shape in
-    let it = some_of (item_at bs (item_place bs c.ahead.at c.ahead.left.now))
+    let it = some_is (item_at bs (item_place bs c.ahead.at c.ahead.left.now))
     (sym c.is_ahead.ensures.there ∙ c.ahead-test.true) in
     leads_short bs all c.ahead.at c.ahead.left.now c.ahead.invariant.settled c.ahead.invariant.named
     c.is_end-is_end.result c.args.to it.0 it.1 (sym c.is_reached.ensures ∙ c.if-is_reached.false)
@@ -56,7 +57,7 @@ pub ahead-smaller : goal.ahead-smaller
 ahead-smaller c =
     let bs = c.blocks_of-blocks.result.now in
     let all = subst (AllByRecursion IsBlock) (sym c.blocks_of-blocks.ensures.blocks) c.blocks_of-blocks.ensures.shape in
-    let it = some_of (item_at bs (item_place bs c.ahead.at c.ahead.left.now))
+    let it = some_is (item_at bs (item_place bs c.ahead.at c.ahead.left.now))
     (sym c.is_ahead.ensures.there ∙ c.ahead-test.true) in
     let at : c.settled-at-in-ahead.result ≡ settled bs (next_index (item_place bs c.ahead.at c.ahead.left.now)) =
     c.settled-at-in-ahead.ensures ∙ ap (settled bs) (c.next_index_of.ensures
@@ -72,7 +73,7 @@ pub ahead-preserved : goal.ahead-preserved
 ahead-preserved c =
     let bs = c.blocks_of-blocks.result.now in
     let all = subst (AllByRecursion IsBlock) (sym c.blocks_of-blocks.ensures.blocks) c.blocks_of-blocks.ensures.shape in
-    let it = some_of (item_at bs (item_place bs c.ahead.at c.ahead.left.now))
+    let it = some_is (item_at bs (item_place bs c.ahead.at c.ahead.left.now))
     (sym c.is_ahead.ensures.there ∙ c.ahead-test.true) in
     let at : settled bs (next_index (item_place bs c.ahead.at c.ahead.left.now)) ≡ c.settled-at-in-ahead.result =
     sym (c.settled-at-in-ahead.ensures
@@ -108,7 +109,7 @@ returns c =
     c.has_ended.ensures
     ∙ (leads_none bs all c.ahead.at c.ahead.left.now c.ahead.invariant.settled c.ahead.invariant.named
     c.is_end-is_end.result c.args.to
-    (none_of (item_at bs (item_place bs c.ahead.at c.ahead.left.now)) (sym c.is_ahead.ensures.there
+    (none_is (item_at bs (item_place bs c.ahead.at c.ahead.left.now)) (sym c.is_ahead.ensures.there
     ∙ c.ahead-test.false))
     ∙ (c.ahead.invariant.same
     ∙ leads_whole bs c.args.galley.now.blocks c.blocks_of-blocks.ensures.blocks c.is_end-is_end.result c.args.to
