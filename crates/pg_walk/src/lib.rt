@@ -4,8 +4,6 @@
 //! rules on one column, with its numbers and its best picks, in order, and nothing else (`specs/Ends`).
 #![tactic(auto)]
 
-mod breaks;
-mod cost;
 mod walk;
 
 pub use pg_column::TextCost;
