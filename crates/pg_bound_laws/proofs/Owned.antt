@@ -264,7 +264,7 @@ module _ (doc : Document) (blocks : AllByRecursion IsBlock doc.blocks)
           option_map_or (λ (z : ℤ). not_first (if b then 1 else u.column + 1)
           && (int_le (pos 0) z && int_lt z (pos (2 ^ 33)))) (if b then None else wide_in doc u m) true ≡ true
       wide true e = refl
-      wide false e = wide_next u m (u.column + 1) own (ap not (not_first u.column own.column.0))
+      wide false e = wide_next u m (u.column + 1) own (ap not (more_than_one u.column own.column.0))
 
   -- ---- the start
 

@@ -289,6 +289,7 @@ impl FloatList {
         ensures { (style : StyleValue) → AreFloats galley.now.blocks style self.now →
             result ≡ entry (called galley.now.blocks style place) slot }
     {
+        // the clause alone speaks of the galley
         let _ = galley;
         match self.floats_at(slot) {
             None => 0,

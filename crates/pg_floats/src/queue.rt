@@ -268,6 +268,7 @@ impl Queue {
         ensures { IfOk result
             (λ queue. queue ≡ record { placed = placed.now; waiting = waiting.now; ages = ages.now }) }
     {
+        // the clause alone speaks of the style
         let _ = style;
         Ok(Queue {
             placed: placed.copy()?,

@@ -62,6 +62,7 @@ impl<'a> PageSpace<'a> {
         ensures style { result.style.now ≡ style.now }
     {
         style.stays_in_range();
+        // hands on the ranges of the blocks
         let _ = galley.blocks().as_slice();
         PageSpace {
             galley,

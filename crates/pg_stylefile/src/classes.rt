@@ -111,6 +111,7 @@ pub fn read_classes<'t>(alloc: Global, tables: &Tables<'t>) -> Result<Classes, F
     for position in 0..tables.len() {
         add_class(alloc, position, tables.at(position), &mut classes)?;
     }
+    // hands on what the type keeps
     let _classes = classes.as_slice();
     Ok(classes)
 }

@@ -41,6 +41,7 @@ fn made(alloc: Global, entries: &[u32]) -> Result<Distance, StyleKind>
 {
     match Distance::new(alloc, entries) {
         Ok(distance) => {
+            // hands on what the type keeps
             let _entries = distance.as_slice();
             Ok(distance)
         }

@@ -67,6 +67,7 @@ pub fn read_runs<'t>(alloc: Global, height: i32, tables: &Tables<'t>) -> Result<
         let run = read_run(height, position, tables.at(position))?;
         runs.push(run);
     }
+    // hands on what the type keeps
     let _runs = runs.as_slice();
     Ok(runs)
 }

@@ -215,12 +215,13 @@ dealt_take {X} style own slot h (m ∷ ms) =
 pub as_many : (number : ℕ) (items : List Item) →
     length (inserts_of number items) ≡ length (sizes_of number items)
 as_many number [] = refl
-as_many number (item ∷ items) = by (insert_size number item) refl
+as_many number (item ∷ items) = by (insert_size number item) refl (as_many number items)
   where
     by : (o : Option ℤ) → insert_size number item ≡ o →
+        length (inserts_of number items) ≡ length (sizes_of number items) →
         length (inserts_of number (item ∷ items)) ≡ length (sizes_of number (item ∷ items))
-    by None e = rw e (as_many number items)
-    by (Some z) e = rw e (ap suc (as_many number items))
+    by None e rest = rw e rest
+    by (Some z) e rest = rw e (ap suc rest)
 
 -- the sizes at the slot of a class
 pub sizes_at : (blocks : List Block) (numbers : List ℕ) (slot number : ℕ) → slice_get numbers slot ≡ Some number →
