@@ -7,4 +7,4 @@
 
 mod end;
 
-pub use end::{End, EndList};
+pub use end::{End, EndList, EndLists};

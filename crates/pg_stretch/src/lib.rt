@@ -12,4 +12,4 @@ mod passing;
 
 pub use cursor::Cursor;
 pub use passed::Passed;
-pub use passing::{Passing, pass_on};
+pub use passing::{Passing, State, pass_on};

@@ -21,6 +21,13 @@ pub struct Passing {
     pub greatest: u32,
 }
 
+/// Before the front of a choice at a block, or at the galley's end, with what was passed on the way.
+#[derive(Clone, Copy, Debug)]
+pub struct State {
+    pub block: u32,
+    pub passed: Passed,
+}
+
 // The greater of two numbers.
 fn greater(a: u32, b: u32) -> u32
     ensures { result ≡ max a b }

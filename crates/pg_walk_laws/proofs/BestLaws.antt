@@ -1,5 +1,5 @@
 -- The best of several ends are in order, of each place and fitness there is one, and none of the others is better.
-use Rattle.std.proofs.Common.{◌≡◌, refl, sym, ap, ◌∙◌, subst, ℕ, zero, suc, ◌<◌, ◌⊎◌, inl, inr, List, [], ◌∷◌, length, arith, Bool, true, false, ℤ, ◌<ℤ◌, ◌≤ℤ◌}
+use Rattle.std.proofs.Common.{◌≡◌, refl, sym, ap, ◌∙◌, subst, ℕ, zero, suc, ◌<◌, ◌⊎◌, inl, inr, List, [], ◌∷◌, ◌++◌, length, arith, Bool, true, false, ℤ, ◌<ℤ◌, ◌≤ℤ◌}
 use Rattle.std.specs.Prelude.{◌||◌, ◌&&◌, not, int_le, int_lt, reverse, AllPairs, Contains, get_or}
 use Rattle.std.specs.Cmp.{IsTotalOrder}
 use Rattle.std.specs.Ordering.{is_gt, nat_cmp, ordering_then, ordering_reverse}
@@ -266,35 +266,64 @@ inserted e (f ∷ fs) h = by (end_cmp e f) refl (inserted e fs h.1)
 
 -- ---- all
 
-pub best_are : (es : List End) → AreBest es (best_of es)
-best_are [] = record {
+-- with one more end in front
+pub best_more : (e : End) (es bs : List End) → AreBest es bs → AreBest (e ∷ es) (insert_end e bs)
+best_more e es bs r = record {
+  ascend = i.ascend;
+  among = λ x a. elim (i.among x a) [ inl p ↦ inl (sym p) | inr p ↦ inr (r.among x p) ];
+  under = λ x y a b t. elim b [
+    | inl p ↦ i.under x y a (inl (sym p)) t
+    | inr p ↦
+        let w = r.there y p in
+        let s : end_cmp x w.0 ≡ Equal = tie_chain x y w.0 t (tie_turned w.0 y w.1.1) in
+        under_chain x w.0 y (i.under x w.0 a (inr w.1.0) s) (r.under w.0 y w.1.0 p w.1.1)
+  ];
+  there = λ y b. elim b [
+    | inl p ↦ i.there y (inl (sym p))
+    | inr p ↦
+        let w = r.there y p in
+        let v = i.there w.0 (inr w.1.0) in
+        (v.0, (v.1.0, tie_chain v.0 w.0 y v.1.1 w.1.1))
+  ];
+}
+  where
+    i : IsInserted e bs (insert_end e bs)
+    i = inserted e bs r.ascend
+
+pub none_best : AreBest [] []
+none_best = record {
   ascend = tt;
   among = λ x a. a;
   under = λ x y a b t. absurd a;
   there = λ y a. absurd a;
 }
-best_are (e ∷ es) = more (best_are es) (inserted e (best_of es) (best_are es).ascend)
+
+pub best_are : (es : List End) → AreBest es (best_of es)
+best_are [] = none_best
+best_are (e ∷ es) = best_more e es (best_of es) (best_are es)
+
+among_last : (es : List End) (e x : End) → IsAmong x (e ∷ es) → IsAmong x (es ++ e ∷ [])
+among_last [] e x a = a
+among_last (f ∷ es) e x (inl p) = inr (among_last es e x (inl p))
+among_last (f ∷ es) e x (inr (inl p)) = inl p
+among_last (f ∷ es) e x (inr (inr p)) = inr (among_last es e x (inr p))
+
+among_first : (es : List End) (e x : End) → IsAmong x (es ++ e ∷ []) → IsAmong x (e ∷ es)
+among_first [] e x a = a
+among_first (f ∷ es) e x (inl p) = inr (inl p)
+among_first (f ∷ es) e x (inr p) = elim (among_first es e x p) [ inl q ↦ inl q | inr q ↦ inr (inr q) ]
+
+-- with one more end behind the others
+pub best_push : (e : End) (es bs : List End) → AreBest es bs → AreBest (es ++ e ∷ []) (insert_end e bs)
+best_push e es bs r = record {
+  ascend = m.ascend;
+  among = λ x a. among_last es e x (m.among x a);
+  under = λ x y a b t. m.under x y a (among_first es e y b) t;
+  there = λ y b. m.there y (among_first es e y b);
+}
   where
-    more : AreBest es (best_of es) → IsInserted e (best_of es) (insert_end e (best_of es)) →
-        AreBest (e ∷ es) (insert_end e (best_of es))
-    more r i = record {
-      ascend = i.ascend;
-      among = λ x a. elim (i.among x a) [ inl p ↦ inl (sym p) | inr p ↦ inr (r.among x p) ];
-      under = λ x y a b t. elim b [
-        | inl p ↦ i.under x y a (inl (sym p)) t
-        | inr p ↦
-            let w = r.there y p in
-            let s : end_cmp x w.0 ≡ Equal = tie_chain x y w.0 t (tie_turned w.0 y w.1.1) in
-            under_chain x w.0 y (i.under x w.0 a (inr w.1.0) s) (r.under w.0 y w.1.0 p w.1.1)
-      ];
-      there = λ y b. elim b [
-        | inl p ↦ i.there y (inl (sym p))
-        | inr p ↦
-            let w = r.there y p in
-            let v = i.there w.0 (inr w.1.0) in
-            (v.0, (v.1.0, tie_chain v.0 w.0 y v.1.1 w.1.1))
-      ];
-    }
+    m : AreBest (e ∷ es) (insert_end e bs)
+    m = best_more e es bs r
 
 -- ---- by index
 
