@@ -22,17 +22,17 @@ entries_of es = map entry_of es
 
 -- ---- elements of a list that is mapped
 
-among_map : (es : List (Entry State ℕ)) (e : Entry State ℕ) → IsAmong e es → IsAmong (entry_of e) (entries_of es)
+pub among_map : (es : List (Entry State ℕ)) (e : Entry State ℕ) → IsAmong e es → IsAmong (entry_of e) (entries_of es)
 among_map [] e a = absurd a
 among_map (x ∷ es) e (inl p) = inl (ap entry_of p)
 among_map (x ∷ es) e (inr a) = inr (among_map es e a)
 
-record HasOrigin (es : List (Entry State ℕ)) (e : Entry WalkState ℕ) : Type 0 where
+pub record HasOrigin (es : List (Entry State ℕ)) (e : Entry WalkState ℕ) : Type 0 where
   pub origin : Entry State ℕ
   pub among : IsAmong origin es
   pub is : entry_of origin ≡ e
 
-origin_of : (es : List (Entry State ℕ)) (e : Entry WalkState ℕ) → IsAmong e (entries_of es) → HasOrigin es e
+pub origin_of : (es : List (Entry State ℕ)) (e : Entry WalkState ℕ) → IsAmong e (entries_of es) → HasOrigin es e
 origin_of [] e a = absurd a
 origin_of (x ∷ es) e (inl p) = record { origin = x; among = inl refl; is = p }
 origin_of (x ∷ es) e (inr a) = let r = origin_of es e a in

@@ -18,16 +18,16 @@ use Rattle.pg_walk_laws.proofs.BestLaws.{among_contains, contains_among}
 use Rattle.pg_walk_space.specs.WalkLawful.{next_leads, state_same}
 use Rattle.pg_walk_space.specs.Meaning.{Leads, next_state, space_meaning, state_behind, step_by, steps_by, steps_from}
 
-among_right : {X : Type 0} (xs ys : List X) (x : X) → IsAmong x ys → IsAmong x (xs ++ ys)
+pub among_right : {X : Type 0} (xs ys : List X) (x : X) → IsAmong x ys → IsAmong x (xs ++ ys)
 among_right [] ys x a = a
 among_right (y ∷ xs) ys x a = inr (among_right xs ys x a)
 
-among_left : {X : Type 0} (xs ys : List X) (x : X) → IsAmong x xs → IsAmong x (xs ++ ys)
+pub among_left : {X : Type 0} (xs ys : List X) (x : X) → IsAmong x xs → IsAmong x (xs ++ ys)
 among_left [] ys x a = absurd a
 among_left (y ∷ xs) ys x (inl p) = inl p
 among_left (y ∷ xs) ys x (inr a) = inr (among_left xs ys x a)
 
-among_cases : {X : Type 0} (xs ys : List X) (x : X) → IsAmong x (xs ++ ys) → IsAmong x xs ⊎ IsAmong x ys
+pub among_cases : {X : Type 0} (xs ys : List X) (x : X) → IsAmong x (xs ++ ys) → IsAmong x xs ⊎ IsAmong x ys
 among_cases [] ys x a = inr a
 among_cases (y ∷ xs) ys x (inl p) = inl (inl p)
 among_cases (y ∷ xs) ys x (inr a) = elim (among_cases xs ys x a) [ inl p ↦ inl (inr p) | inr q ↦ inr q ]
