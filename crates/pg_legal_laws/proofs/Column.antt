@@ -27,7 +27,7 @@ use Rattle.pg_plain.proofs.Contexts.{bare_is, context_is, first_column, goal_is,
 use Rattle.pg_plain.proofs.Singles.{rigid_single}
 use Rattle.pg_pages.proofs.PlainColumn.{segment_is}
 use Rattle.pg_place_laws.proofs.Tests.{place_refl}
-use Rattle.pg_walk.proofs.Columns.{end-of-size, size-of-kept}
+use Rattle.pg_legal_laws.proofs.Sizes.{end-of-size, size-of-kept}
 use Rattle.pg_lemmas.proofs.Bools.{both_of, both}
 use Rattle.std.proofs.lemmas.Bool.{eqb-true}
 use Rattle.pg_flat.proofs.Places.{same_place}

@@ -1,2 +1,3 @@
 pub mod Column
 pub mod Filled
+pub mod Sizes

@@ -1,11 +1,16 @@
-//! The ends of a column of text: all places where it may end, in one walk.
+//! The ends of the columns of text from a place.
 //!
-//! Proved: `ends` lists each place and fitness at which a column of text from a place, in a room of a height, keeps the
-//! rules on one column, with its numbers and its best picks, in order, and nothing else (`specs/Ends`).
+//! Proved: `candidates` finds where columns may end in some room up to a greatest one (`AreCandidates` of
+//! pg_walk_laws), and `ends` lists each place and fitness at which a column of text from the place, in a room of a
+//! height, keeps the rules on one column, with its numbers and its best picks, in order, and nothing else (`AreEnds` of
+//! pg_ends); this for every galley and style.
 #![tactic(auto)]
 
-mod walk;
+mod rooms;
+mod walking;
 
+pub use pg_candidates::CandidateList;
 pub use pg_column::TextCost;
 pub use pg_ends::{End, EndList};
-pub use walk::ends;
+pub use rooms::ends;
+pub use walking::candidates;

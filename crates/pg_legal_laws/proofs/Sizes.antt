@@ -1,4 +1,4 @@
--- What the rules see of any column of text in a galley of single items, under a plain style.
+-- How many items a column of text has in a galley of single items, where it ends, and that it has no picks.
 use Rattle.std.proofs.Common.{◌≡◌, ◌∙◌, refl, sym, ap, arith, ℕ, zero, suc, ◌+◌, ◌-◌, ◌≤◌, ◌<◌, List, [], ◌∷◌, length, drop, take, map, Bool, true, false, Option, Some, None, ℤ, pos, ◌+ℤ◌, ◌-ℤ◌, inl, inr}
 use Rattle.std.specs.Prelude.{◌==◌, ◌&&◌, ◌||◌, not, nat_le, if◌then◌else◌, is_some, int_le}
 use Rattle.std.specs.List.{list_any, list_all, position, range_with_len}
@@ -26,7 +26,6 @@ use Rattle.pg_rules.specs.Cost.{penalty_demerits, text_demerits, pick_demerits}
 use Rattle.pg_rules.specs.BestPicks.{keeps_text}
 use Rattle.pg_plain.specs.Plain.{AreSingle, single_items, IsPlainStyle}
 use Rattle.pg_plain.proofs.Singles.{items_are, flat_length, drop_single, drop_items, position_is}
-use Rattle.pg_walk.specs.Walk.{total_at, is_over_at, badness_at, fitness_at, demerits_at, keeps_at, is_end_at, is_tolerable_at}
 use Rattle.pg_lemmas.proofs.Bools.{both_of, if_true}
 use Rattle.pg_flat.proofs.Places.{same_place}
 
@@ -96,13 +95,6 @@ joined fits formed tolerable passes room notes loose formed' tolerable' passes' 
 all_alike : (f g : ℕ → Bool) → ((k : ℕ) → f k ≡ g k) → (ks : List ℕ) → list_all f ks ≡ list_all g ks
 all_alike f g alike [] = refl
 all_alike f g alike (k ∷ ks) = rw (alike k, all_alike f g alike ks) refl
-
-passes_alike : (items : List Item) (f g : ℕ → Bool) → ((k : ℕ) → f k ≡ g k) → (n : ℕ) →
-    passes_between items f n ≡ passes_between items g n
-passes_alike items f g alike n =
-    all_alike _ _ (λ k. ap (λ (b : Bool). not
-    (is_some (break_penalty items k) && list_any is_box (take k items)) || not (is_forced items k || b))
-    (alike k)) (range_with_len 1 (n - 1))
 
 -- ---- any column of text from a block
 
@@ -182,111 +174,6 @@ module _ (it : ColumnContext) (block : ℕ) (single : AreSingle it.document.bloc
         )
   ]
 
-  -- ---- the rules on a column of n items that has no picks
-
-  module _ (n : ℕ) (height : ℤ) (size : size_of it ≡ Some n) (text : is_text it ≡ true)
-      (its_height_is : room it ≡ height) where
-    no_notes : (xs : List Item) → notes it.document.style xs ≡ pos 0
-    no_notes xs = rw plain.no_classes refl
-
-    goal-at : (k : ℕ) → text_goal it k ≡ height
-    goal-at k = let none = no_notes (segment it k) in
-        let whole : room it -ℤ pos 0 ≡ room it = omega (arith, ints) in
-        ap (λ (z : ℤ). room it -ℤ z) none ∙ (whole ∙ its_height_is)
-
-    pub goal : text_goal it n ≡ height
-    goal = goal-at n
-
-    over-at : (k : ℕ) → text_is_over it k
-        ≡ is_over_at it.document.style height (drop block (single_items it.document.blocks)) k
-    over-at k =
-        ap (λ (z : ℤ). is_over (text_total it k) (shrink (segment it k)) z) (goal-at k)
-        ∙ ap (λ (xs : List Item). is_over_at it.document.style height xs k) items
-
-    pub the_total_is : text_total it n ≡ total_at it.document.style (drop block (single_items it.document.blocks)) n
-    the_total_is = ap (λ (xs : List Item). total_at it.document.style xs n) items
-
-    pub badness_is : text_badness it n
-        ≡ badness_at it.document.style height (drop block (single_items it.document.blocks)) n
-    badness_is =
-        ap (λ (z : ℤ). page_badness (is_spent (items_of it) n) z (text_total it n) (segment it n)) goal
-        ∙ ap (λ (xs : List Item). badness_at it.document.style height xs n) items
-
-    pub kept_fitness_is : text_fitness it n ≡ fitness_at it.document.style height (drop block (single_items it.document.blocks)) n
-    kept_fitness_is =
-        ap (λ (z : ℤ). if it.document.style.version == 1 then 2 else fitness_by z (text_goal it n)
-        (text_badness it n)) the_total_is
-        ∙ ap (λ (z : ℤ). if it.document.style.version == 1 then 2 else fitness_by
-        (total_at it.document.style (drop block (single_items it.document.blocks)) n) z (text_badness it n)) goal
-        ∙ ap (λ (b : ℕ). if it.document.style.version == 1 then 2 else fitness_by
-        (total_at it.document.style (drop block (single_items it.document.blocks)) n) height b) badness_is
-
-    pub demerits-are : text_demerits it n
-        ≡ demerits_at it.document.style height (drop block (single_items it.document.blocks)) n
-    demerits-are =
-        ap (λ (b : ℕ). square (pos (it.document.style.line + b)) +ℤ option_map_or penalty_demerits
-        (break_penalty (items_of it) n) (pos 0)) badness_is
-        ∙ ap (λ (xs : List Item). square
-        (pos (it.document.style.line + badness_at it.document.style height
-        (drop block (single_items it.document.blocks)) n)) +ℤ option_map_or penalty_demerits
-        (break_penalty xs n) (pos 0)) items
-
-    formed : is_well_formed it ≡ is_end_at (drop block (single_items it.document.blocks)) n
-    formed = rw (text, size) (ap (λ (xs : List Item). is_end_at xs n) items)
-
-    tolerable : is_tolerable it ≡ is_tolerable_at it.document.style height
-        (drop block (single_items it.document.blocks)) n
-    tolerable = by_size (is_text it) (size_of it)
-        (λ n. not (text_is_over it n) &&
-        (is_forced (items_of it) n || nat_le (text_badness it n) it.document.style.tolerance))
-        n (is_tolerable_at it.document.style height (drop block (single_items it.document.blocks)) n) text size (
-        ap (λ (b : Bool). not b && (is_forced (items_of it) n || nat_le
-        (text_badness it n) it.document.style.tolerance)) (over-at n)
-        ∙ ap (λ (b : ℕ). not (is_over_at it.document.style height (drop block (single_items it.document.blocks)) n)
-        && (is_forced (items_of it) n || nat_le b it.document.style.tolerance)) badness_is
-        ∙ ap (λ (xs : List Item). not (is_over_at it.document.style height
-        (drop block (single_items it.document.blocks)) n) &&
-        (is_forced xs n || nat_le (badness_at it.document.style height
-        (drop block (single_items it.document.blocks)) n) it.document.style.tolerance)) items)
-
-    passes : passes_breaks it ≡ passes_between (drop block (single_items it.document.blocks))
-        (is_over_at it.document.style height (drop block (single_items it.document.blocks))) n
-    passes = by_size (is_text it) (size_of it) (passes_between (items_of it) (text_is_over it)) n
-        (passes_between (drop block (single_items it.document.blocks))
-        (is_over_at it.document.style height (drop block (single_items it.document.blocks))) n) text size (
-        passes_alike (items_of it) (text_is_over it)
-        (is_over_at it.document.style height (drop block (single_items it.document.blocks))) over-at n
-        ∙ ap (λ (xs : List Item). passes_between xs
-        (is_over_at it.document.style height (drop block (single_items it.document.blocks))) n) items)
-
-    roomy : has_room it ≡ int_le it.document.style.min_text height
-    roomy = if_true (is_text it) (int_le it.document.style.min_text (room it)) _ text
-        ∙ ap (λ (z : ℤ). int_le it.document.style.min_text z) its_height_is
-
-    limits : keeps_note_limits it ≡ true
-    limits = by_size (is_text it) (size_of it)
-        (λ n. are_notes_within_limits it.document.style (segment it n)) n true text size
-        (rw plain.no_classes refl)
-
-    loose : keeps_looseness it ≡ true
-    loose = rw no-variants refl
-
-    fits : it.column.picks ≡ [] → does_fit it ≡ true
-    fits none = rw (size, no-variants) (rw (no-fronts n, none) refl)
-
-    -- the rules on a column's text are those of the walk
-    pub keeps : it.column.picks ≡ [] →
-        keeps_text it ≡ keeps_at it.document.style height (drop block (single_items it.document.blocks)) n
-    unfolding keeps_at
-    keeps none = joined (does_fit it) (is_well_formed it) (is_tolerable it) (passes_breaks it) (has_room it)
-        (keeps_note_limits it) (keeps_looseness it)
-        (is_end_at (drop block (single_items it.document.blocks)) n)
-        (is_tolerable_at it.document.style height (drop block (single_items it.document.blocks)) n)
-        (passes_between (drop block (single_items it.document.blocks))
-        (is_over_at it.document.style height (drop block (single_items it.document.blocks))) n)
-        (int_le it.document.style.min_text height)
-        (fits none) formed tolerable passes roomy limits loose
-
   -- ---- a column that keeps the rules on its text
 
   -- it has a number of items, and no picks
@@ -303,6 +190,3 @@ module _ (it : ColumnContext) (block : ℕ) (single : AreSingle it.document.bloc
               ∙ same),
         ),
       )
-
-  pub no-pick-demerits : pick_demerits it ≡ pos 0
-  no-pick-demerits = rw no-variants refl

@@ -1,0 +1,36 @@
+use Rattle.std.proofs.Common.{rules, ◌≡◌, ◌≤◌, ◌^◌, ◌∙◌, ap, sym, subst, length, List, arith, ℤ, w64}
+use Rattle.std.specs.List.{AllByRecursion}
+use Rattle.std.proofs.lemmas.Int.{to_z-of_z}
+use Rattle.pg_list.specs.Shapes.{IsBlock}
+use Rattle.pg_list.proofs.Sizes.{blocks_le}
+use Rattle.pg_rules.specs.Legal.{document}
+use Rattle.pg_stretch.specs.View.{view}
+use Rattle.pg_stretch.proofs.Left.{first_left}
+use Rattle.pg_walk.proofs.First.{first_owned, place_within}
+use Rattle.pg_walk.proofs.walking.first_stretch.Goals as goal
+
+pub first-ahead-requires : goal.first-ahead-requires
+first-ahead-requires c =
+    let all = subst (AllByRecursion IsBlock) c.blocks-2.ensures.blocks c.as_slice.ensures.shape in
+    let long = blocks_le c.args.galley.now.blocks all in
+    let limit = c.blocks-2.ensures.limit in
+    let at = place_within c.args.galley.now.blocks c.args.from c.requires.place in
+    omega (arith, long, limit, at)
+
+pub ends_on-requires-clause-few : goal.ends_on-requires-clause-few
+ends_on-requires-clause-few c =
+    let left = first_left c.args.galley.now.blocks c.args.from in
+    let same = ap length c.first-ahead.ensures.items in
+    let limit = c.blocks-2.ensures.limit in
+    let counts = c.nothing.ensures.counts in
+    (omega (arith, left, same, limit, counts.0), omega (arith, left, same, limit, counts.1))
+
+pub returns-clause-own : goal.returns-clause-own
+returns-clause-own c =
+    let all = subst (AllByRecursion IsBlock) c.blocks-2.ensures.blocks c.as_slice.ensures.shape in
+    first_owned c.ends_on.result (document c.args.galley.now c.args.style.now) c.args.top _
+    (to_z-of_z w64 c.args.top (record { sfits = c.ranges.top.sfits })) all c.blocks-2.ensures.limit c.args.from
+    c.requires.place (view c.nothing.result) c.nothing.ensures.value _ c.first-ahead.ensures.items _
+    c.first-ahead.ensures.front c.nothing.result.sums.count c.nothing.result.notes.count c.nothing.ensures.counts.0
+    c.nothing.ensures.counts.1 c.ends_on.ensures.past c.ends_on.ensures.front c.ends_on.ensures.style
+    c.ends_on.ensures.counts
