@@ -6,8 +6,9 @@ use Rattle.std.proofs.lemmas.Bool.{cases_Bool}
 use Rattle.std.proofs.lemmas.Bool.Decides.{nat_tests}
 use Rattle.std.proofs.lemmas.Int.{ints}
 use Rattle.std.proofs.lemmas.List.{length-drop}
+use Rattle.pg_list.specs.declared.blocks.Block.{Block}
 use Rattle.pg_list.specs.Places.{place}
-use Rattle.pg_flat.specs.Flat.{FlatItem, flat_items_from, is_same_place}
+use Rattle.pg_flat.specs.Flat.{FlatItem, flat_items_at, flat_items_from, is_same_place, steps_to}
 use Rattle.pg_plan.specs.declared.pages.PageMove.{PageMove}
 use Rattle.pg_style.specs.Values.{StyleValue}
 use Rattle.pg_style.specs.declared.style.Class.{Class}
@@ -77,16 +78,22 @@ pub items_of_singles : (doc : Document) → AreSingle doc.blocks → (from to : 
 items_of_singles doc single from to = items_are from (drop from doc.blocks) [] (drop_single from doc.blocks single)
     ∙ drop_items from doc.blocks single
 
+-- so many items stand between two blocks
+pub steps_is : (blocks : List Block) → AreSingle blocks → (from to : ℕ) → from ≤ to → to ≤ length blocks →
+    steps_to blocks (flat_items_at blocks (place from 0 0) []) (place to 0 0) ≡ Some (to - from)
+steps_is blocks single from to onward within =
+    let rest = drop_single from blocks single in
+    let rest-length = length-drop from blocks in
+    elim (cases_Bool (to == length blocks)) [
+      | inl last ↦ let same : to ≡ length blocks = grind (arith, nat_tests) in
+          let long = flat_length from (drop from blocks) [] rest in
+          rw last (ap Some (long ∙ omega (arith, same, rest-length)))
+      | inr inside ↦ let below : to < length blocks = grind (arith, nat_tests) in
+          rw inside (subst (λ (k : ℕ). position (λ (it : FlatItem). is_same_place it.place (place k 0 0))
+          (flat_items_from from (drop from blocks) []) ≡ Some (to - from)) (omega arith)
+          (position_is from (to - from) (drop from blocks) [] rest (omega (arith, below, rest-length))))
+    ]
+
 pub size_is : (doc : Document) → AreSingle doc.blocks → (from to : ℕ) → from ≤ to → to ≤ length doc.blocks →
     size_of (plain_context doc from to) ≡ Some (to - from)
-size_is doc single from to onward within =
-    let rest = drop_single from doc.blocks single in
-    let rest-length = length-drop from doc.blocks in
-    elim (cases_Bool (to == length doc.blocks)) [
-      | inl last ↦ let same : to ≡ length doc.blocks = grind (arith, nat_tests) in
-          let long = flat_length from (drop from doc.blocks) [] rest in
-          rw last (ap Some (long ∙ omega (arith, same, rest-length)))
-      | inr inside ↦ let below : to < length doc.blocks = grind (arith, nat_tests) in
-          rw inside (subst (λ (k : ℕ). position (λ (it : FlatItem). is_same_place it.place (place k 0 0)) (flat_items_from from (drop from doc.blocks) []) ≡ Some (to - from)) (omega arith)
-          (position_is from (to - from) (drop from doc.blocks) [] rest (omega (arith, below, rest-length))))
-    ]
+size_is doc single = steps_is doc.blocks single

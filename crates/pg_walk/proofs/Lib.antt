@@ -1,5 +1,6 @@
 pub mod Columns
 pub mod Below
 pub mod Listed
-pub mod Items
+pub mod Fronts
+pub mod Numbers
 pub mod Step

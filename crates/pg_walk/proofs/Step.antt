@@ -1,9 +1,9 @@
 -- One offset of the walk, in the words of its code.
-use Rattle.std.proofs.Common.{◌≡◌, ◌∙◌, sym, ap, subst, ℕ, ℤ, pos, ◌+◌, ◌<◌, arith, zero, suc, length, Bool, true, false, List, [], ◌∷◌, ◌++◌, Option, drop, take, inl, inr}
+use Rattle.std.proofs.Common.{◌≡◌, ◌∙◌, sym, ap, subst, ℕ, ℤ, pos, ◌+◌, ◌<◌, arith, zero, suc, length, Bool, true, false, List, [], ◌∷◌, ◌++◌, Option, Some, None, drop, take, inl, inr}
 use Rattle.std.proofs.lemmas.Bool.{cases_Bool}
 use Rattle.std.proofs.lemmas.Int.{ints}
 use Rattle.std.proofs.Math.ListN.{get_or}
-use Rattle.std.specs.Prelude.{◌||◌, if◌then◌else◌, nat_le, int_le, int_lt, Result, Ok, Err, IfOk}
+use Rattle.std.specs.Prelude.{◌||◌, not, if◌then◌else◌, nat_le, int_le, int_lt, Result, Ok, Err, IfOk}
 use Rattle.pg_list.specs.declared.item.Item.{Item}
 use Rattle.pg_list.specs.declared.blocks.Block.{Block}
 use Rattle.pg_sums.specs.AreSums.{AreSums}
@@ -11,54 +11,75 @@ use Rattle.pg_sums.specs.SumsValue.{SumsValue}
 use Rattle.pg_plain.specs.Plain.{AreSingle, single_items}
 use Rattle.pg_plain.proofs.Singles.{drop_items, drop_single}
 use Rattle.pg_list.specs.declared.blocks.Block.TheVariants.{One, Choice}
+use Rattle.pg_list.specs.declared.galley.Place.{Place}
 use Rattle.pg_list.specs.Places.{place}
+use Rattle.pg_flat.specs.Badness.{is_over}
+use Rattle.pg_flat.specs.Break.{break_penalty, is_forced, passes_between}
+use Rattle.pg_flat.specs.Totals.{shrink, total, trimmed}
 use Rattle.pg_style.specs.Values.{StyleValue}
 use Rattle.pg_place_laws.proofs.Tests.{le_int, less_int}
 use Rattle.pg_walk.specs.declared.end.End.{End}
-use Rattle.pg_walk.specs.declared.end.TextCost.{TextCost}
-use Rattle.pg_walk.specs.Walk.{badness_at, cost_at, end_at, end_penalty, items_from}
+use Rattle.pg_column.specs.declared.cost.TextCost.{TextCost}
+use Rattle.pg_walk.specs.Walk.{badness_at, cost_at, end_at, end_penalty, ends_below, is_over_at, is_passable_at, items_from, total_at}
+use Rattle.pg_walk.proofs.Below.{end-some, not_end, over-end, under-end}
 
 pub rest_items : (blocks rest : List Block) (from : ℕ) → AreSingle blocks → rest ≡ drop from blocks →
     single_items rest ≡ items_from blocks from
 rest_items blocks rest from single is = ap single_items is ∙ drop_items from blocks single
 
-pub rest_sums : (blocks rest : List Block) (from index : ℕ) (topskip maxdepth : ℤ) (sums : SumsValue) →
-    AreSingle blocks →
-    rest ≡ drop from blocks → AreSums topskip maxdepth (take index (items_from blocks from)) sums →
-    AreSums topskip maxdepth (take index (single_items rest)) sums
-rest_sums blocks rest from index topskip maxdepth sums single is are =
-    subst (λ (xs : List Item). AreSums topskip maxdepth (take index xs) sums)
-    (sym (rest_items blocks rest from single is)) are
+-- ---- what the calls at an offset say
 
-pub penalty_is : (blocks rest : List Block) (from index : ℕ) (topskip maxdepth : ℤ) (sums : SumsValue)
-    (o : Option ℤ) →
-    AreSingle blocks → rest ≡ drop from blocks → AreSums topskip maxdepth (take index (items_from blocks from)) sums →
-    ((t m : ℤ) → AreSums t m (take index (single_items rest)) sums → o ≡ end_penalty (single_items rest) index) →
-    o ≡ end_penalty (items_from blocks from) index
-penalty_is blocks rest from index topskip maxdepth sums o single is are ensures =
-    ensures topskip maxdepth (rest_sums blocks rest from index topskip maxdepth sums single is are)
-    ∙ ap (λ (xs : List Item). end_penalty xs index) (rest_items blocks rest from single is)
+module _ (style : StyleValue) (room : ℤ) (items : List Item) (block n : ℕ) (sums : SumsValue)
+    (are : AreSums style.topskip style.maxdepth (take n items) sums) (end : Option ℤ)
+    (end_is : (t m : ℤ) → AreSums t m (take n items) sums → end ≡ end_penalty items n) where
+  -- no break behind a box
+  pub none_here : end ≡ None → (ends_below style room items block (suc n) ≡ ends_below style room items block n)
+      × (is_passable_at style room items n ≡ true)
+  none_here none = not_end style room items block n (sym (end_is style.topskip style.maxdepth are) ∙ none)
+
+  module _ (penalty : ℤ) (some : end ≡ Some penalty) where
+    here : end_penalty items n ≡ Some penalty
+    here = sym (end_is style.topskip style.maxdepth are) ∙ some
+
+    pub broken_here : break_penalty items n ≡ Some penalty
+    broken_here = end-some style room items block n penalty here
+
+    module _ (over : Bool) (z : ℤ) (z_is : z ≡ room) (over_is : (t m : ℤ) (xs : List Item) → AreSums t m xs sums →
+        over ≡ is_over (total t m (trimmed xs)) (shrink (trimmed xs)) z) where
+      over_at : is_over_at style room items n ≡ over
+      over_at = sym (over_is style.topskip style.maxdepth (take n items) are
+          ∙ ap (is_over (total_at style items n) (shrink (trimmed (take n items)))) z_is)
+
+      -- a break at which they are over
+      pub over_here : over ≡ true → (ends_below style room items block (suc n) ≡ ends_below style room items block n)
+          × (is_passable_at style room items n ≡ false)
+      over_here so = over-end style room items block n penalty here (over_at ∙ so)
+
+      -- one at which they are not
+      pub under_here : over ≡ false → passes_between items (is_over_at style room items) n ≡ true →
+          int_le style.min_text room ≡ true → (forced : Bool) → forced ≡ is_forced items n →
+          (ends_below style room items block (suc n) ≡ ends_below style room items block n
+          ++ (if forced || nat_le (badness_at style room items n) style.tolerance
+          then end_at style room items block n ∷ [] else []))
+          × (not forced ≡ is_passable_at style room items n)
+      under_here fits passes text forced is =
+          under-end style room items block n penalty forced here (over_at ∙ fits) passes text is
 
 pub kept_end : (style : StyleValue) (room : ℤ) (items : List Item) (block index : ℕ) (forced : Bool)
-    (cost : TextCost) →
-    cost ≡ cost_at style room items index →
+    (to : Place) (cost : TextCost) → to ≡ place (block + index) 0 0 → cost ≡ cost_at style room items index →
     ◌≡◌ {A = List End}
-    (if forced || nat_le cost.badness style.tolerance then record {
-      to = place (block + index) 0 0;
-      picks =
-          [];
-      cost = cost;
-      pick_demerits = pos 0;
-    } ∷ [] else [])
-    (if forced || nat_le (badness_at style room items index) style.tolerance then end_at style room items block
-    index ∷ [] else [])
+    (if forced || nat_le cost.badness style.tolerance
+    then record { to = to; picks = []; cost = cost; pick_demerits = pos 0 } ∷ [] else [])
+    (if forced || nat_le (badness_at style room items index) style.tolerance
+    then end_at style room items block index ∷ [] else [])
 unfolding cost_at
-kept_end style room items block index forced cost e =
-    ap (λ (cost : TextCost). if forced || nat_le cost.badness style.tolerance
-    then end_with (block + index) cost ∷ [] else []) e
+kept_end style room items block index forced to cost t e =
+    ap (λ (at : Place). if forced || nat_le cost.badness style.tolerance then end_with at cost ∷ [] else []) t
+    ∙ ap (λ (cost : TextCost). if forced || nat_le cost.badness style.tolerance
+    then end_with (place (block + index) 0 0) cost ∷ [] else []) e
   where
-    end_with : ℕ → TextCost → End
-    end_with k cost = record { to = place k 0 0; picks = []; cost = cost; pick_demerits = pos 0 }
+    end_with : Place → TextCost → End
+    end_with at cost = record { to = at; picks = []; cost = cost; pick_demerits = pos 0 }
 
 pub joined_ends : (old new before after x y : List End) → new ≡ old ++ x → old ≡ before → x ≡ y →
     after ≡ before ++ y → new ≡ after

@@ -3,14 +3,12 @@ use Rattle.std.specs.Prelude.{◌≡◌, ◌<◌, ◌⊎◌, ℕ, true, List, So
 use Rattle.std.specs.declared.cmp.Ordering.TheVariants.{Less}
 use Rattle.pg_list.specs.declared.galley.Place.{Place}
 use Rattle.pg_plan.specs.Order.{place_cmp}
-use Rattle.pg_flat.specs.Break.{break_penalty}
 use Rattle.pg_rules.specs.BestPicks.{IsLeast, keeps_text}
-use Rattle.pg_rules.specs.ColumnRules.{text_badness, text_fitness, text_goal, text_total}
-use Rattle.pg_rules.specs.Cost.{pick_demerits, text_demerits}
+use Rattle.pg_rules.specs.Cost.{pick_demerits}
 use Rattle.pg_rules.specs.History.{column_fitness}
-use Rattle.pg_rules.specs.Room.{ColumnContext, Document, is_text, items_of, room, size_of}
+use Rattle.pg_rules.specs.Room.{ColumnContext, Document, is_text, room, size_of}
+use Rattle.pg_column.specs.Numbers.{AreNumbers}
 use Rattle.pg_walk.specs.declared.end.End.{End}
-use Rattle.pg_walk.specs.declared.end.TextCost.{TextCost}
 
 -- a column of text from a place of the galley, in a room of this height
 pub record IsColumnIn (doc : Document) (from : Place) (height : ℤ) (it : ColumnContext) : Type 0 where
@@ -18,15 +16,6 @@ pub record IsColumnIn (doc : Document) (from : Place) (height : ℤ) (it : Colum
   pub starts : it.column.from ≡ from
   pub height_is : room it ≡ height
   pub text : is_text it ≡ true
-
--- the numbers of a column of n items
-pub record AreNumbers (it : ColumnContext) (n : ℕ) (numbers : TextCost) : Type 0 where
-  pub goal : numbers.goal ≡ text_goal it n
-  pub total : numbers.total ≡ text_total it n
-  pub badness : numbers.badness ≡ text_badness it n
-  pub fitness : numbers.fitness ≡ text_fitness it n
-  pub penalty : Some numbers.penalty ≡ break_penalty (items_of it) n
-  pub demerits : numbers.demerits ≡ text_demerits it n
 
 -- the end is that of a column that keeps the rules on its text, with the best picks
 pub record IsEndOf (it : ColumnContext) (end : End) : Type 0 where

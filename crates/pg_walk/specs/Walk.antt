@@ -4,7 +4,6 @@ use Rattle.std.specs.List.{list_any, range_with_len}
 use Rattle.std.specs.Option.{option_map_or}
 use Rattle.pg_list.specs.declared.item.Item.{Item}
 use Rattle.pg_list.specs.declared.blocks.Block.{Block}
-use Rattle.pg_list.specs.declared.blocks.Block.TheVariants.{One, Choice}
 use Rattle.pg_list.specs.Places.{place}
 use Rattle.pg_list.specs.Shapes.{is_box}
 use Rattle.pg_flat.specs.Badness.{is_over, page_badness}
@@ -16,12 +15,7 @@ use Rattle.pg_plain.specs.Plain.{single_items}
 use Rattle.pg_rules.specs.ColumnRules.{fitness_by}
 use Rattle.pg_rules.specs.Cost.{penalty_demerits}
 use Rattle.pg_walk.specs.declared.end.End.{End}
-use Rattle.pg_walk.specs.declared.end.TextCost.{TextCost}
-
--- the item of a block that is one item
-abbrev pub item_in : Block → Option Item
-item_in (One item) = Some item
-item_in (Choice variants) = None
+use Rattle.pg_column.specs.declared.cost.TextCost.{TextCost}
 
 -- the items from a block on
 abbrev pub items_from : List Block → ℕ → List Item
@@ -53,6 +47,7 @@ is_passable_at style room items n =
     not (is_some (break_penalty items n) && list_any is_box (take n items))
     || not (is_forced items n || is_over_at style room items n)
 
+-- they are not over, and no worse than the tolerance unless the end is forced
 abbrev pub is_tolerable_at : StyleValue → ℤ → List Item → ℕ → Bool
 is_tolerable_at style room items n =
     not (is_over_at style room items n)
@@ -64,15 +59,18 @@ keeps_at style room items n =
     is_end_at items n && (is_tolerable_at style room items n
     && (passes_between items (is_over_at style room items) n && int_le style.min_text room))
 
+-- how loose or tight they are set
 abbrev pub fitness_at : StyleValue → ℤ → List Item → ℕ → ℕ
 fitness_at style room items n =
     if style.version == 1 then 2 else fitness_by (total_at style items n) room (badness_at style room items n)
 
+-- their demerits
 abbrev pub demerits_at : StyleValue → ℤ → List Item → ℕ → ℤ
 demerits_at style room items n =
     square (pos (style.line + badness_at style room items n))
     +ℤ option_map_or penalty_demerits (break_penalty items n) (pos 0)
 
+-- their numbers
 unfoldable pub cost_at : StyleValue → ℤ → List Item → ℕ → TextCost
 cost_at style room items n =
     record {

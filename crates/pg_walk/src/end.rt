@@ -1,23 +1,11 @@
 //! An end of a column of text, with its numbers.
 ghost use Rattle.std.specs.Prelude.{◌≡◌, OnOk, OnErr, ◌++◌, ◌∷◌, []};
 
+use pg_column::TextCost;
 use pg_list::Place;
 use pg_plan::Picks;
 use std::alloc::{AllocError, Global};
 use std::marker::Model;
-
-/// The numbers of a column of text, lengths in scaled points: its goal, its total, how badly it fills the goal, its
-/// fitness from 0 (very loose) to 3 (tight), the penalty at its end, and its demerits (the form of TeX: The Program,
-/// §859).
-#[derive(Clone, Copy, Debug, PartialEq, Eq)]
-pub struct TextCost {
-    pub goal: i64,
-    pub total: i64,
-    pub badness: u16,
-    pub fitness: u8,
-    pub penalty: i32,
-    pub demerits: i64,
-}
 
 /// An end of a column: its place, the picks of the choices that begin in it, its numbers, and the demerits of the
 /// variants picked.

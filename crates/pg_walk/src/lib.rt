@@ -4,10 +4,9 @@
 //! rules on one column, with its numbers and its best picks, in order, and nothing else (`specs/Ends`).
 #![tactic(auto)]
 
-mod breaks;
-mod cost;
 mod end;
 mod walk;
 
-pub use end::{End, EndList, TextCost};
+pub use end::{End, EndList};
+pub use pg_column::TextCost;
 pub use walk::ends;

@@ -1,19 +1,22 @@
 //! The walk over the items behind a place.
-ghost use Rattle.std.specs.Prelude.{◌≡◌, ◌<◌, ◌≤◌, ◌+◌, ◌-◌, ◌^◌, Some, IfOk, OnOk, [], ◌∷◌, ◌++◌, ◌||◌, nat_le, if◌then◌else◌, suc, take, length, true, nat_abs, pos, int_le};
+ghost use Rattle.std.specs.Prelude.{◌≡◌, ◌<◌, ◌≤◌, ◌+◌, ◌-◌, ◌^◌, IfOk, OnOk, [], ◌∷◌, ◌++◌, ◌||◌, nat_le, if◌then◌else◌, suc, take, drop, length, true, nat_abs, pos, ℤ, int_le};
+ghost use Rattle.std.specs.List.{AllByRecursion};
+ghost use Rattle.pg_list.specs.Shapes.{IsBlock};
 ghost use Rattle.pg_list.specs.Places.{place};
-ghost use Rattle.pg_flat.specs.Break.{break_penalty, is_forced, is_spent, passes_between};
+ghost use Rattle.pg_flat.specs.Break.{passes_between};
 ghost use Rattle.pg_flat.specs.Rigid.{AreRigid};
 ghost use Rattle.pg_sums.specs.AreSums.{AreSums};
 ghost use Rattle.pg_rules.specs.IsState.{IsPlace};
 ghost use Rattle.pg_rules.specs.Legal.{document};
-ghost use Rattle.pg_plain.specs.Plain.{AreSingle, IsPlainStyle, single_items};
+ghost use Rattle.pg_plain.specs.Plain.{AreSingle, IsPlainStyle};
 ghost use Rattle.pg_walk.specs.Ends.{AreEnds};
-ghost use Rattle.pg_walk.specs.Walk.{ends_below, is_over_at, is_passable_at, items_from};
+ghost use Rattle.pg_walk.specs.Walk.{end_penalty as end_penalty_of, ends_below, is_over_at, is_passable_at, items_from};
 
-use crate::breaks::{end_penalty, rest_of};
-use crate::cost::cost_of;
-use crate::end::{End, EndList, TextCost};
-use pg_list::{Galley, Place};
+use crate::end::{End, EndList};
+use pg_breaks::{break_cost, is_forced, is_spent};
+use pg_column::{TextCost, text_cost};
+use pg_list::{Block, Galley, Place};
+use pg_notes::NoteSums;
 use pg_plain::add_block;
 use pg_plan::Picks;
 use pg_style::Style;
@@ -27,59 +30,63 @@ struct Start {
     room: i64,
 }
 
-// Whether only discardable items stand from a block on.
-fn is_spent_from(galley: &Galley, from: usize, index: usize) -> bool
-    requires single { AreSingle galley.now.blocks }
-    requires small { from + index < 2 ^ 32 }
-    ensures { result ≡ is_spent (items_from galley.now.blocks from) index }
+// The blocks from one on.
+fn rest_of(galley: &Galley, from: usize) -> &[Block]
+    requires { from ≤ length galley.now.blocks }
+    ensures blocks { result.now ≡ drop from galley.now.blocks }
+    ensures ranges { AllByRecursion IsBlock result.now }
+    ensures few { length galley.now.blocks ≤ 2 ^ 20 }
 {
-    from + index >= galley.solid() as usize
+    &galley.blocks().as_slice()[from..]
 }
 
-// Whether a break with this penalty is forced: the end, or a penalty of -10000 or less before a box or rule.
-fn is_forced_at(galley: &Galley, from: usize, index: usize, penalty: i32) -> bool
-    requires single { AreSingle galley.now.blocks }
-    requires within { from + index ≤ length galley.now.blocks }
-    requires small { from + index < 2 ^ 32 }
-    requires penalty { break_penalty (items_from galley.now.blocks from) index ≡ Some penalty }
-    ensures { result ≡ is_forced (items_from galley.now.blocks from) index }
-{
-    let block = from + index;
-    block == galley.blocks().len() || (penalty <= -10000 && block + 1 < galley.tail() as usize)
-}
-
-// The end of a column in front of a block.
-fn end_behind(alloc: Global, block: usize, cost: TextCost) -> End
+// The front of a block.
+fn front_of(block: usize) -> Place
     requires { block < 2 ^ 32 }
-    ensures { result ≡ record { to = place block 0 0; picks = []; cost = cost; pick_demerits = pos 0 } }
+    ensures { result ≡ place block 0 0 }
 {
-    End {
-        to: Place {
-            block: block as u32,
-            variant: 0,
-            index: 0,
-        },
-        picks: Picks::new(alloc),
-        cost,
-        pick_demerits: 0,
+    Place {
+        block: block as u32,
+        variant: 0,
+        index: 0,
     }
 }
 
-// Adds an end in front of a block where it is forced or tolerable.
+// The penalty of a break behind a box, in front of a block, where it is one. The sums are those of the items of the
+// column before it.
+fn end_penalty(galley: &Galley, start: usize, index: usize, sums: &Sums) -> Option<i32>
+    requires single { AreSingle galley.now.blocks }
+    requires within { start + index ≤ length galley.now.blocks }
+    requires small { start + index < 2 ^ 32 }
+    ensures { (topskip maxdepth : ℤ) → AreSums topskip maxdepth (take index (items_from galley.now.blocks start)) sums.now →
+        result ≡ end_penalty_of (items_from galley.now.blocks start) index }
+{
+    if sums.has_box() {
+        break_cost(galley, front_of(start + index))
+    } else {
+        None
+    }
+}
+
+// Adds the end of a column at a place where it is forced or tolerable.
 fn if_tolerable(
     alloc: Global,
     style: &Style,
-    block: usize,
+    to: Place,
     is_forced: bool,
     cost: TextCost,
     ends: &mut EndList,
 ) -> Result<(), AllocError>
-    requires { block < 2 ^ 32 }
     ensures { OnOk result (ends.new ≡ ends.old ++ (if is_forced || nat_le cost.badness style.now.tolerance
-        then record { to = place block 0 0; picks = []; cost = cost; pick_demerits = pos 0 } ∷ [] else [])) }
+        then record { to = to; picks = []; cost = cost; pick_demerits = pos 0 } ∷ [] else [])) }
 {
     if is_forced || cost.badness <= style.tolerance {
-        ends.push(end_behind(alloc, block, cost))?;
+        ends.push(End {
+            to,
+            picks: Picks::new(alloc),
+            cost,
+            pick_demerits: 0,
+        })?;
     }
     Ok(())
 }
@@ -95,6 +102,7 @@ fn try_end(
     ends: &mut EndList,
 ) -> Result<bool, AllocError>
     requires single { AreSingle galley.now.blocks }
+    requires plain { IsPlainStyle style.now }
     requires within { start.block + index ≤ length galley.now.blocks }
     requires small { start.block + index < 2 ^ 32 }
     requires room { nat_abs start.room < 2 ^ 40 }
@@ -110,22 +118,31 @@ fn try_end(
     ensures passable { IfOk result (λ goes. goes
         ≡ is_passable_at style.now start.room (items_from galley.now.blocks start.block) index) }
 {
-    let Some(penalty) = end_penalty(rest_of(galley, start.block), index, sums) else {
+    let Some(penalty) = end_penalty(galley, start.block, index, sums) else {
         return Ok(true);
     };
     if sums.over(start.room) {
         return Ok(false);
     }
-    let is_forced = is_forced_at(galley, start.block, index, penalty);
-    let is_spent = is_spent_from(galley, start.block, index);
-    let cost = cost_of(style, start.room, sums, is_spent, penalty);
-    if_tolerable(alloc, style, start.block + index, is_forced, cost, ends)?;
+    let to = front_of(start.block + index);
+    let is_forced = is_forced(galley, to);
+    let is_spent = is_spent(galley, to);
+    let cost = text_cost(
+        style,
+        start.room,
+        sums,
+        &NoteSums::start(),
+        is_spent,
+        penalty,
+    );
+    if_tolerable(alloc, style, to, is_forced, cost, ends)?;
     Ok(!is_forced)
 }
 
 // All ends of the columns from a block, in a room that text may stand in.
 fn walk(alloc: Global, galley: &Galley, style: &Style, start: Start) -> Result<EndList, AllocError>
     requires single { AreSingle galley.now.blocks }
+    requires plain { IsPlainStyle style.now }
     requires within { start.block ≤ length galley.now.blocks }
     requires room { nat_abs start.room < 2 ^ 40 }
     requires text { int_le style.now.min_text start.room ≡ true }

@@ -1,7 +1,7 @@
 use Rattle.std.proofs.Common.{arith, ap, length}
 use Rattle.pg_list.specs.Counts.{item_count}
 use Rattle.pg_list.proofs.Sizes.{blocks_le}
-use Rattle.pg_walk.proofs.breaks.rest_of.Goals as goal
+use Rattle.pg_walk.proofs.walk.rest_of.Goals as goal
 
 pub returns-clause-few : goal.returns-clause-few
 returns-clause-few c =
