@@ -3,7 +3,7 @@ use Rattle.std.proofs.Common.{◌≡◌, ◌∙◌, refl, ap, sym, arith, ℕ, �
 use Rattle.std.specs.Prelude.{◌==◌, if◌then◌else◌}
 use Rattle.std.proofs.lemmas.Int.{ints}
 use Rattle.pg_list.specs.declared.item.Item.{Item}
-use Rattle.pg_flat.specs.Badness.{is_over, page_badness}
+use Rattle.pg_flat.specs.Badness.{is_over}
 use Rattle.pg_flat.specs.Break.{break_penalty, is_spent}
 use Rattle.pg_flat.specs.Totals.{trimmed}
 use Rattle.pg_flat.specs.Whole.{square}
@@ -12,6 +12,7 @@ use Rattle.pg_style.specs.declared.style.Class.{Class}
 use Rattle.pg_sums.specs.AreSums.{AreTotals}
 use Rattle.pg_sums.specs.Step.{badness_by}
 use Rattle.pg_sums.specs.declared.totals.Totals.{Totals}
+use Rattle.pg_sums.proofs.Badness.{badness_is}
 use Rattle.pg_notes.specs.NotesValue.{heights}
 use Rattle.pg_notes.specs.declared.sums.NoteSum.{NoteSum}
 use Rattle.pg_rules.specs.ColumnRules.{fitness_by}
@@ -52,24 +53,11 @@ module _ (style : StyleValue) (none : style.classes ≡ []) (notes : List NoteSu
   module _ (items : List Item) (n : ℕ) (t : Totals)
       (are : AreTotals style.topskip style.maxdepth (trimmed (take n items)) t) (spent : Bool)
       (spent_is : spent ≡ is_spent items n) where
-    same : (b b' : Bool) (g g' : ℤ) → b' ≡ b → g' ≡ g →
-        badness_by b' g' t ≡ page_badness b g (total_at style items n) (trimmed (take n items))
-    same b b' g g' p q =
-        rw (
-          p,
-          q,
-          ← are.total_is,
-          ← are.finite_is,
-          ← are.fil_is,
-          ← are.fill_is,
-          ← are.filll_is,
-          ← are.shrink_is,
-        ) refl
-
     pub cost_is : (penalty p : ℤ) → p ≡ penalty → break_penalty items n ≡ Some penalty →
         cost_by style z t notes spent p ≡ cost_at style room items n
     cost_is penalty p e at =
-        costs_are style room items n _ _ _ _ _ _ goal_is are.total_is (same _ _ _ _ spent_is goal_is)
+        costs_are style room items n _ _ _ _ _ _ goal_is are.total_is
+        (badness_is style.topskip style.maxdepth (trimmed (take n items)) t are _ _ _ _ spent_is goal_is)
         (ap (λ (g : ℤ). if style.version == 1 then 2 else fitness_by t.total g
         (badness_by spent (goal_by style z notes) t)) goal_is)
         (at ∙ ap Some (sym e)) refl

@@ -1,5 +1,5 @@
 -- One offset of the walk, in the words of its code.
-use Rattle.std.proofs.Common.{◌≡◌, ◌∙◌, sym, ap, subst, ℕ, ℤ, pos, ◌+◌, ◌<◌, arith, zero, suc, length, Bool, true, false, List, [], ◌∷◌, ◌++◌, Option, Some, None, drop, take, inl, inr}
+use Rattle.std.proofs.Common.{◌≡◌, ◌∙◌, sym, ap, subst, ℕ, ℤ, pos, ◌+◌, ◌<◌, ◌≤◌, arith, zero, suc, length, Bool, true, false, List, [], ◌∷◌, ◌++◌, Option, Some, None, drop, take, inl, inr}
 use Rattle.std.proofs.lemmas.Bool.{cases_Bool}
 use Rattle.std.proofs.lemmas.Int.{ints}
 use Rattle.std.proofs.Math.ListN.{get_or}
@@ -12,7 +12,9 @@ use Rattle.pg_plain.specs.Plain.{AreSingle, single_items}
 use Rattle.pg_plain.proofs.Singles.{drop_items, drop_single}
 use Rattle.pg_list.specs.declared.blocks.Block.TheVariants.{One, Choice}
 use Rattle.pg_list.specs.declared.galley.Place.{Place}
+use Rattle.std.specs.List.{list_any}
 use Rattle.pg_list.specs.Places.{place}
+use Rattle.pg_list.specs.Shapes.{is_box}
 use Rattle.pg_flat.specs.Badness.{is_over}
 use Rattle.pg_flat.specs.Break.{break_penalty, is_forced, passes_between}
 use Rattle.pg_flat.specs.Totals.{shrink, total, trimmed}
@@ -127,3 +129,8 @@ not_le a b e = elim (cases_Bool (int_le b a)) [
 pub too_low : (a b room least : ℤ) → a ≡ room → b ≡ least → int_lt a b ≡ true → int_le least room ≡ false
 too_low a b room least e f less =
     not_le room least (sym (ap (λ (z : ℤ). int_lt z least) e) ∙ (sym (ap (λ (z : ℤ). int_lt a z) f) ∙ less))
+
+-- items with a box are some
+pub box_some : (n : ℕ) (items : List Item) → list_any is_box (take n items) ≡ true → 1 ≤ n
+box_some zero items box = absurd cc
+box_some (suc n) items box = omega arith

@@ -2,7 +2,6 @@
 ghost use Rattle.std.specs.Prelude.{◌≡◌, ◌<◌, ◌≤◌, ◌+◌, ◌-◌, ◌^◌, IfOk, OnOk, [], ◌∷◌, ◌++◌, ◌||◌, nat_le, if◌then◌else◌, suc, take, drop, length, true, nat_abs, pos, ℤ, int_le};
 ghost use Rattle.std.specs.List.{AllByRecursion};
 ghost use Rattle.pg_list.specs.Shapes.{IsBlock};
-ghost use Rattle.pg_list.specs.Places.{place};
 ghost use Rattle.pg_flat.specs.Break.{passes_between};
 ghost use Rattle.pg_flat.specs.Rigid.{AreRigid};
 ghost use Rattle.pg_sums.specs.AreSums.{AreSums};
@@ -17,7 +16,7 @@ use pg_breaks::{break_cost, is_forced, is_spent};
 use pg_column::{TextCost, text_cost};
 use pg_list::{Block, Galley, Place};
 use pg_notes::NoteSums;
-use pg_plain::add_block;
+use pg_plain::{add_block, front_of};
 use pg_plan::Picks;
 use pg_style::Style;
 use pg_sums::Sums;
@@ -38,18 +37,6 @@ fn rest_of(galley: &Galley, from: usize) -> &[Block]
     ensures few { length galley.now.blocks ≤ 2 ^ 20 }
 {
     &galley.blocks().as_slice()[from..]
-}
-
-// The front of a block.
-fn front_of(block: usize) -> Place
-    requires { block < 2 ^ 32 }
-    ensures { result ≡ place block 0 0 }
-{
-    Place {
-        block: block as u32,
-        variant: 0,
-        index: 0,
-    }
 }
 
 // The penalty of a break behind a box, in front of a block, where it is one. The sums are those of the items of the

@@ -6,7 +6,8 @@ use Rattle.pg_list.specs.Shapes.{is_box}
 use Rattle.pg_flat.specs.Break.{break_penalty}
 use Rattle.pg_place_laws.proofs.Tests.{if_true}
 use Rattle.pg_walk.specs.Walk.{items_from}
-use Rattle.pg_walk.proofs.Fronts.{box_some, front_items, front_named, front_steps}
+use Rattle.pg_plain.proofs.Fronts.{front_items, front_named, front_steps}
+use Rattle.pg_walk.proofs.Step.{box_some}
 use Rattle.pg_walk.proofs.walk.end_penalty.Goals as goal
 
 pub returns-then-has_box : goal.returns-then-has_box

@@ -4,7 +4,7 @@ use Rattle.pg_list.specs.declared.item.Item.{Item}
 use Rattle.pg_list.specs.Places.{place}
 use Rattle.pg_flat.specs.Break.{is_forced, is_spent}
 use Rattle.pg_walk.specs.Walk.{items_from}
-use Rattle.pg_walk.proofs.Fronts.{front_items, front_named, front_steps}
+use Rattle.pg_plain.proofs.Fronts.{front_items, front_named, front_steps}
 use Rattle.pg_walk.proofs.Numbers.{cost_is}
 use Rattle.pg_walk.proofs.Step.{broken_here, joined_ends, kept_end, none_here, over_here, under_here}
 use Rattle.pg_walk.proofs.walk.try_end.Goals as goal

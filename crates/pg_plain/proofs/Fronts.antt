@@ -1,21 +1,17 @@
 -- The fronts of single blocks, as places in the text of a column.
-use Rattle.std.proofs.Common.{◌≡◌, ◌∙◌, ap, arith, ℕ, zero, suc, ◌+◌, ◌≤◌, List, [], length, drop, take, true, Some}
-use Rattle.std.specs.List.{list_any}
+use Rattle.std.proofs.Common.{◌≡◌, ◌∙◌, ap, arith, ℕ, ◌+◌, ◌≤◌, List, [], length, drop, Some}
 use Rattle.pg_list.specs.declared.item.Item.{Item}
 use Rattle.pg_list.specs.declared.blocks.Block.{Block}
 use Rattle.pg_list.specs.declared.galley.Place.{Place}
 use Rattle.pg_list.specs.Places.{place}
-use Rattle.pg_list.specs.Shapes.{is_box}
 use Rattle.pg_flat.specs.Flat.{blocks_at, flat_items_at, steps_to}
 use Rattle.pg_breaks.specs.Read.{AreNamed, items_at}
-use Rattle.pg_plain.specs.Plain.{AreSingle}
+use Rattle.pg_plain.specs.Plain.{AreSingle, single_items}
 use Rattle.pg_plain.proofs.Contexts.{steps_is}
-use Rattle.pg_plain.proofs.Singles.{drop_items, drop_single, items_are}
-use Rattle.pg_walk.specs.Walk.{items_from}
-use Rattle.pg_walk.proofs.Columns.{variants_none}
+use Rattle.pg_plain.proofs.Singles.{drop_items, drop_single, items_are, variants_none}
 
 module _ (blocks : List Block) (single : AreSingle blocks) (from index : ℕ) where
-  pub front_items : items_at blocks (place from 0 0) [] ≡ items_from blocks from
+  pub front_items : items_at blocks (place from 0 0) [] ≡ drop from (single_items blocks)
   front_items = items_are from (drop from blocks) [] (drop_single from blocks single) ∙ drop_items from blocks single
 
   pub front_named : AreNamed (blocks_at blocks (place from 0 0)) []
@@ -28,8 +24,3 @@ module _ (blocks : List Block) (single : AreSingle blocks) (from index : ℕ) wh
       ap (steps_to blocks (flat_items_at blocks (place from 0 0) [])) is
       ∙ steps_is blocks single from (from + index) (omega arith) within
       ∙ ap Some (omega arith)
-
--- items with a box are some
-pub box_some : (n : ℕ) (items : List Item) → list_any is_box (take n items) ≡ true → 1 ≤ n
-box_some zero items box = absurd cc
-box_some (suc n) items box = omega arith
