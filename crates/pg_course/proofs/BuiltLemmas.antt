@@ -1,6 +1,6 @@
 -- A galley that is built has boxes and rigid glue alone, and a style that is built is plain.
-use Rattle.std.proofs.Common.{◌≡◌, refl, List, [], ◌∷◌, true, false, Bool, ℕ, ◌<◌, length, arith}
-use Rattle.std.specs.Prelude.{◌&&◌, ◌==◌, pos}
+use Rattle.std.proofs.Common.{◌≡◌, refl, List, [], ◌∷◌, true, false, Bool, ◌<◌, length, arith}
+use Rattle.std.specs.Prelude.{◌==◌, pos}
 use Rattle.std.specs.Bool.{OnTrue}
 use Rattle.std.specs.List.{list_all}
 use Rattle.std.specs.Ordering.{int_eq}

@@ -1,5 +1,5 @@
 -- What a run promises, by what was found for its galley.
-use Rattle.std.proofs.Common.{◌≡◌, ◌≤◌, ◌<◌, ◌^◌, ◌∙◌, ℕ, sym, ap, List, [], ◌∷◌, refl, subst, true, false, arith}
+use Rattle.std.proofs.Common.{◌≡◌, ◌≤◌, ◌<◌, ◌^◌, ℕ, sym, ap, List, [], ◌∷◌, refl, subst, true, false, arith}
 use Rattle.std.proofs.Common.{append-nil}
 use Rattle.std.specs.Prelude.{Option, Some, None, Result, Ok, Err, IfSome, nat_le}
 use Rattle.std.specs.List.{list_all}

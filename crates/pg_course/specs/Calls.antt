@@ -1,5 +1,5 @@
 -- What the function of a command promises, over any shelf and any sink.
-use Rattle.std.specs.Prelude.{◌≡◌, ◌≢◌, ◌↔◌, ℕ, List, Option, Some, None, IfSome}
+use Rattle.std.specs.Prelude.{◌≡◌, ◌≢◌, ◌↔◌, ℕ, List, Option, Some, None, Result, Err, IfSome}
 use Rattle.std.specs.Io.KnownBytes.{Keeps}
 use Rattle.pg_floats.specs.declared.fault.FloatFault.{FloatFault}
 use Rattle.pg_floats.specs.declared.fault.FloatFault.TheVariants as fault
@@ -8,10 +8,10 @@ use Rattle.pg_command.specs.declared.ending.Ending.{Ending}
 use Rattle.pg_command.specs.declared.ending.Ending.TheVariants as ending
 use Rattle.pg_command.specs.declared.status.Status.{Status}
 use Rattle.pg_command.specs.declared.status.Status.TheVariants.{Usage}
-use Rattle.pg_command.specs.Words.{Command, run, show}
+use Rattle.pg_command.specs.Words.{Command, StyleName, run, show}
 use Rattle.pg_command.specs.Lines.{status_of, line_of}
 use Rattle.pg_course.specs.Course.{Ended, EndedBefore, EndsBy, BeginsBy, OnSettled, OnReadFault, OnWriteFault}
-use Rattle.pg_course.specs.Course.{OnMemory, ReadLine, UnreadFile}
+use Rattle.pg_course.specs.Course.{OnMemory, ReadLine, Stop, UnreadFile, UnreadStyle, stop}
 
 -- a shelf over a call: what it tells, how many faults it counted before and after, and its last failed name after
 pub record OverShelf : Type 0 where
@@ -42,6 +42,23 @@ WroteWhole None out = Keeps out.old out.new
 WroteWhole (Some (run style galley wrap)) out = Keeps out.old out.new
 WroteWhole (Some (show galley wrap)) out = Keeps out.old out.new
 
+-- why the file of a name was not read, and the line that tells it
+abbrev pub NoFile : List ℕ → OverShelf → List ℕ → Type 0
+NoFile name shelf line = UnreadFile name shelf.told shelf.before shelf.after shelf.last line
+
+-- why the style of a name was not read, and the line that tells it
+abbrev pub NoStyle : StyleName → OverShelf → List ℕ → Type 0
+NoStyle style shelf line = UnreadStyle style shelf.told shelf.before shelf.after shelf.last line
+
+-- the promise of a function that reads what a file says, where that ends the run, by its ending
+pub record Stopped {A : Type 0} (said : Held → Result A Stop) (Unread : OverShelf → List ℕ → Type 0)
+    (shelf : OverShelf) (ending : Ending) : Type 0 where
+  pub settled : OnSettled (status_of ending) (IfSome shelf.told (λ held.
+      said held ≡ Err (stop (status_of ending) (line_of ending))))
+  pub read : OnReadFault (status_of ending) (Unread shelf (line_of ending))
+  pub no_write : OnWriteFault (status_of ending) ⊥
+  pub no_usage : status_of ending ≢ Usage
+
 -- how a run ends where a galley has no list of floats
 abbrev pub ending_of : FloatFault → Ending
 ending_of (fault.Class number) = ending.UnknownClass number
@@ -62,8 +79,7 @@ pub record GoesOn (C : Held → List (List ℕ) → Status → List ℕ → Type
     (out : OverSink) (ending : Ending) : Type 0 where
   pub settled : OnSettled (status_of ending) (IfSome shelf.told (λ held.
       EndsBy (C held) out.old out.new (status_of ending) (line_of ending)))
-  pub read : OnReadFault (status_of ending)
-      (UnreadFile name shelf.told shelf.before shelf.after shelf.last (line_of ending))
+  pub read : OnReadFault (status_of ending) (NoFile name shelf (line_of ending))
   pub read_keeps : OnReadFault (status_of ending) (Keeps out.old out.new)
   pub write : OnWriteFault (status_of ending) (Rose out.before out.after)
   pub front : OnWriteFault (status_of ending) (IfSome shelf.told (λ held. BeginsBy (C held) out.old out.new))

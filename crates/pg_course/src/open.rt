@@ -4,8 +4,9 @@ ghost use Rattle.pg_plain.specs.Plain.{IsPlainStyle};
 ghost use Rattle.pg_command.specs.declared.status.Status.TheVariants.{Usage};
 ghost use Rattle.pg_command.specs.Words.{style_name, IsStyle};
 ghost use Rattle.pg_command.specs.Lines.{status_of, line_of};
-ghost use Rattle.pg_course.specs.Course.{OnSettled, OnReadFault, OnWriteFault, UnreadFile, UnreadStyle, fetched};
-ghost use Rattle.pg_course.specs.Course.{opened, opened_style, said_style, read_by, stop};
+ghost use Rattle.pg_course.specs.Calls.{NoFile, NoStyle, Stopped, over_shelf};
+ghost use Rattle.pg_course.specs.Course.{OnSettled, OnReadFault, OnWriteFault, fetched, opened, opened_style};
+ghost use Rattle.pg_course.specs.Course.{said_style, read_by, stop};
 ghost use Rattle.pg_stylefile.specs.Style.{style_of_text};
 
 use crate::built::is_built_style;
@@ -29,12 +30,8 @@ fn fetch_file<'a, H: Shelf>(
     ensures bytes { IfOk result (λ bytes. IfSome (H.held shelf.old) (λ held.
         fetched name.now (held name.now) ≡ Ok bytes.items)) }
     ensures short { IfOk result (λ bytes. length bytes.items ≤ 2 ^ 26) }
-    ensures settled { IfErr result (λ ending. OnSettled (status_of ending) (IfSome (H.held shelf.old) (λ held.
-        fetched name.now (held name.now) ≡ Err (stop (status_of ending) (line_of ending))))) }
-    ensures read { IfErr result (λ ending. OnReadFault (status_of ending) (UnreadFile name.now
-        (H.held shelf.old) (H.faults shelf.old) (H.faults shelf.new) (H.last_failed shelf.new) (line_of ending))) }
-    ensures no_write { IfErr result (λ ending. OnWriteFault (status_of ending) ⊥) }
-    ensures no_usage { IfErr result (λ ending. status_of ending ≢ Usage) }
+    ensures stopped { IfErr result (Stopped (λ held. fetched name.now (held name.now)) (NoFile name.now)
+        (over_shelf (H.held shelf.old) (H.faults shelf.old) (H.faults shelf.new) (H.last_failed shelf.new))) }
     ensures same { H.held shelf.new ≡ H.held shelf.old }
     ensures later { H.faults shelf.old ≤ H.faults shelf.new }
 {
@@ -57,12 +54,10 @@ pub fn open_galley<'a, H: Shelf>(
 ) -> Result<Galley, Ending<'a>>
     ensures galley { IfOk result (λ galley. IfSome (H.held shelf.old) (λ held.
         opened name.now wrap (held name.now) ≡ Ok galley)) }
-    ensures settled { IfErr result (λ ending. OnSettled (status_of ending) (IfSome (H.held shelf.old) (λ held.
-        opened name.now wrap (held name.now) ≡ Err (stop (status_of ending) (line_of ending))))) }
-    ensures read { IfErr result (λ ending. OnReadFault (status_of ending) (UnreadFile name.now
-        (H.held shelf.old) (H.faults shelf.old) (H.faults shelf.new) (H.last_failed shelf.new) (line_of ending))) }
-    ensures no_write { IfErr result (λ ending. OnWriteFault (status_of ending) ⊥) }
-    ensures no_usage { IfErr result (λ ending. status_of ending ≢ Usage) }
+    ensures stopped { IfErr result (Stopped (λ held. opened name.now wrap (held name.now)) (NoFile name.now)
+        (over_shelf (H.held shelf.old) (H.faults shelf.old) (H.faults shelf.new) (H.last_failed shelf.new))) }
+    ensures same { H.held shelf.new ≡ H.held shelf.old }
+    ensures later { H.faults shelf.old ≤ H.faults shelf.new }
 {
     let bytes = fetch_file(alloc, name, shelf)?;
     match read_galley(alloc, &bytes, wrap) {
@@ -108,13 +103,9 @@ fn open_style_file<'a, H: Shelf>(
     ensures style { IfOk result (λ style. IfSome (H.held shelf.old) (λ held.
         read_by (λ bytes. said_style name.now (style_of_text bytes)) (fetched name.now (held name.now)) ≡ Ok style)) }
     ensures plain { IfOk result (λ style. IsPlainStyle style) }
-    ensures settled { IfErr result (λ ending. OnSettled (status_of ending) (IfSome (H.held shelf.old) (λ held.
-        read_by (λ bytes. said_style name.now (style_of_text bytes)) (fetched name.now (held name.now))
-        ≡ Err (stop (status_of ending) (line_of ending))))) }
-    ensures read { IfErr result (λ ending. OnReadFault (status_of ending) (UnreadFile name.now
-        (H.held shelf.old) (H.faults shelf.old) (H.faults shelf.new) (H.last_failed shelf.new) (line_of ending))) }
-    ensures no_write { IfErr result (λ ending. OnWriteFault (status_of ending) ⊥) }
-    ensures no_usage { IfErr result (λ ending. status_of ending ≢ Usage) }
+    ensures stopped { IfErr result (Stopped (λ held.
+        read_by (λ bytes. said_style name.now (style_of_text bytes)) (fetched name.now (held name.now))) (NoFile name.now)
+        (over_shelf (H.held shelf.old) (H.faults shelf.old) (H.faults shelf.new) (H.last_failed shelf.new))) }
     ensures same { H.held shelf.new ≡ H.held shelf.old }
     ensures later { H.faults shelf.old ≤ H.faults shelf.new }
 {
@@ -132,12 +123,8 @@ pub fn open_style<'a, H: Shelf>(
     ensures style { IfOk result (λ style. IfSome (H.held shelf.old) (λ held.
         opened_style (style_name word.entry) held ≡ Ok style)) }
     ensures plain { IfOk result (λ style. IsPlainStyle style) }
-    ensures settled { IfErr result (λ ending. OnSettled (status_of ending) (IfSome (H.held shelf.old) (λ held.
-        opened_style (style_name word.entry) held ≡ Err (stop (status_of ending) (line_of ending))))) }
-    ensures read { IfErr result (λ ending. OnReadFault (status_of ending) (UnreadStyle (style_name word.entry)
-        (H.held shelf.old) (H.faults shelf.old) (H.faults shelf.new) (H.last_failed shelf.new) (line_of ending))) }
-    ensures no_write { IfErr result (λ ending. OnWriteFault (status_of ending) ⊥) }
-    ensures no_usage { IfErr result (λ ending. status_of ending ≢ Usage) }
+    ensures stopped { IfErr result (Stopped (opened_style (style_name word.entry)) (NoStyle (style_name word.entry))
+        (over_shelf (H.held shelf.old) (H.faults shelf.old) (H.faults shelf.new) (H.last_failed shelf.new))) }
     ensures same { H.held shelf.new ≡ H.held shelf.old }
     ensures later { H.faults shelf.old ≤ H.faults shelf.new }
 {
