@@ -104,7 +104,8 @@ fn open_style_file<'a, H: Shelf>(
         read_by (λ bytes. said_style name.now (style_of_text bytes)) (fetched name.now (held name.now)) ≡ Ok style)) }
     ensures plain { IfOk result (λ style. IsPlainStyle style) }
     ensures stopped { IfErr result (Stopped (λ held.
-        read_by (λ bytes. said_style name.now (style_of_text bytes)) (fetched name.now (held name.now))) (NoFile name.now)
+        read_by (λ bytes. said_style name.now (style_of_text bytes)) (fetched name.now (held name.now)))
+        (NoFile name.now)
         (over_shelf (H.held shelf.old) (H.faults shelf.old) (H.faults shelf.new) (H.last_failed shelf.new))) }
     ensures same { H.held shelf.new ≡ H.held shelf.old }
     ensures later { H.faults shelf.old ≤ H.faults shelf.new }
