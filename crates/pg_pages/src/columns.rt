@@ -1,12 +1,9 @@
 //! A column of text: its numbers and its items.
-ghost use Rattle.std.specs.Prelude.{◌≡◌, ◌≤◌, ◌^◌, ◌<◌, ◌+◌, ◌++◌, ◌∷◌, [], OnOk, length, slice_get, List, ℤ, true, nat_abs, pos, ◌≤ℤ◌, ◌-ℤ◌};
-ghost use Rattle.std.specs.Int.{int_max};
-ghost use Rattle.std.specs.Option.{option_map_or};
+ghost use Rattle.std.specs.Prelude.{◌≡◌, ◌≤◌, ◌^◌, ◌++◌, ◌∷◌, [], OnOk, length, true, pos, ◌≤ℤ◌};
 ghost use Rattle.std.specs.List.{AllByRecursion};
 ghost use Rattle.pg_list.specs.Shapes.{begins_with_box};
 ghost use Rattle.pg_list.specs.Shapes.{IsBlock};
 ghost use Rattle.pg_scaled.specs.Ranges.{IsScaled};
-ghost use Rattle.pg_list.specs.declared.item.Item.{Item as AnItem};
 ghost use Rattle.pg_flat.specs.Rigid.{AreRigid};
 ghost use Rattle.pg_flat.specs.Totals.{top_glue, trimmed};
 ghost use Rattle.pg_scaled.specs.Scaled.{Grows, scaled_text};
@@ -26,8 +23,7 @@ use pg_notes::NoteSums;
 use pg_plain::{add_block, front_of, room};
 use pg_scaled::print_scaled;
 use pg_style::Style;
-use pg_sums::Sums;
-use pg_whole::{minus, wide};
+use pg_sums::{Sums, lift};
 use std::alloc::AllocError;
 
 // A name, and a scaled number behind it.
@@ -147,14 +143,6 @@ pub fn without_front(blocks: &[Block]) -> &[Block]
         rest = after;
     }
     rest
-}
-
-// The glue above a first box of this height; a higher one has none.
-fn lift(topskip: i32, height: i32) -> i64
-    ensures { result ≡ int_max (pos 0) (topskip -ℤ height) }
-{
-    let space = minus(wide(topskip), wide(height));
-    if space > 0 { space } else { 0 }
 }
 
 // What stands above the first box.

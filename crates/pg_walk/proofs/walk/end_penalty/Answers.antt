@@ -4,7 +4,7 @@ use Rattle.pg_list.specs.declared.item.Item.{Item}
 use Rattle.pg_list.specs.Places.{place}
 use Rattle.pg_list.specs.Shapes.{is_box}
 use Rattle.pg_flat.specs.Break.{break_penalty}
-use Rattle.pg_place_laws.proofs.Tests.{if_true}
+use Rattle.pg_lemmas.proofs.Bools.{if_true}
 use Rattle.pg_walk.specs.Walk.{items_from}
 use Rattle.pg_plain.proofs.Fronts.{front_items, front_named, front_steps}
 use Rattle.pg_walk.proofs.Step.{box_some}
