@@ -21,13 +21,6 @@ singles_length [] = omega arith
 singles_length (One item ∷ xs) = omega (arith, singles_length xs)
 singles_length (Choice variants ∷ xs) = omega (arith, singles_length xs)
 
--- the blocks up to and including the next
-pub one_more : {X : Type 0} (xs : List X) (i : ℕ) (x : X) → i < length xs → x ≡ get_or xs i x →
-    take (i + 1) xs ≡ take i xs ++ x ∷ []
-one_more xs i x less is =
-    let next : i + 1 ≡ suc i = omega arith in
-    ap (λ (k : ℕ). take k xs) next ∙ take-suc xs i x less ∙ ap (λ y. take i xs ++ y ∷ []) (sym is)
-
 pub grows_on : (a b c : List ℕ) → Grows a b → Grows b c → Grows a c
 grows_on a b c one two =
     (omega (arith, one.0, two.0), sym (take-take (length a) (length b) c one.0) ∙ ap (λ (xs : List ℕ). take (length a) xs) two.1 ∙ one.1)

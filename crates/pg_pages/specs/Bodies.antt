@@ -6,9 +6,7 @@ use Rattle.pg_list.specs.declared.item.Item.TheVariants.{Insert}
 use Rattle.pg_list.specs.Bodies.{body_of}
 use Rattle.pg_scaled.specs.Scaled.{scaled_text}
 use Rattle.pg_pages.specs.Words.{line}
-
-abbrev pub is_no_feed : ℕ → Bool
-is_no_feed byte = not (byte == 10)
+use Rattle.pg_scan.specs.Lines.{is_no_feed}
 
 -- a point in front of each further line
 abbrev pub dotted : List ℕ → List ℕ

@@ -42,11 +42,6 @@ own_text item = plain_text item
 abbrev pub own_items : List Item → List ℕ
 own_items items = flat_map own_text items
 
--- a box or rule stands in front
-abbrev pub front_is_box : List Item → Bool
-front_is_box [] = false
-front_is_box (item ∷ items) = is_box item
-
 -- what stands before the first item of the text area
 unfoldable pub text_head : ℤ → List Item → List ℕ
 text_head topskip items = line (codes "area text") ++ top_line topskip items

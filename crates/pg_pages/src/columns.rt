@@ -1,6 +1,7 @@
 //! A column of text: its numbers and its items.
 ghost use Rattle.std.specs.Prelude.{◌≡◌, ◌≤◌, ◌^◌, ◌++◌, ◌∷◌, [], OnOk, length, true, pos, ◌≤ℤ◌};
 ghost use Rattle.std.specs.List.{AllByRecursion};
+ghost use Rattle.pg_list.specs.Shapes.{begins_with_box};
 ghost use Rattle.pg_list.specs.Shapes.{IsBlock};
 ghost use Rattle.pg_scaled.specs.Ranges.{IsScaled};
 ghost use Rattle.pg_flat.specs.Rigid.{AreRigid};
@@ -10,7 +11,7 @@ ghost use Rattle.pg_sums.specs.AreSums.{AreSums};
 ghost use Rattle.pg_rules.specs.Legal.{document};
 ghost use Rattle.pg_plain.specs.Plain.{IsPlainStyle, single_items};
 ghost use Rattle.pg_pages.specs.Words.{whole_text};
-ghost use Rattle.pg_pages.specs.PlainText.{numbers_text, sizes_text, costs_text, demerits_line, own_items, own_text, front_is_box, line_between};
+ghost use Rattle.pg_pages.specs.PlainText.{numbers_text, sizes_text, costs_text, demerits_line, own_items, own_text, line_between};
 ghost use Rattle.pg_plain.specs.Plain.{fits_between};
 
 use crate::bodies::{print_body, print_set};
@@ -120,7 +121,7 @@ pub fn print_items(blocks: &[Block], out: &mut Vec<u8>) -> Result<(), AllocError
 // Whether a box stands in front.
 fn begins_with_box(blocks: &[Block]) -> bool
     requires { AreRigid blocks.now }
-    ensures { result ≡ front_is_box (single_items blocks.now) }
+    ensures { result ≡ begins_with_box (single_items blocks.now) }
 {
     match blocks {
         [Block::One(item), ..] => item_is_box(item),

@@ -20,12 +20,8 @@ use Rattle.pg_style.specs.Values.{StyleValue}
 use Rattle.pg_walk.specs.declared.end.End.{End}
 use Rattle.pg_walk.specs.Ends.{IsBefore}
 use Rattle.pg_walk.specs.Walk.{badness_at, end_penalty, is_over_at, is_passable_at, is_end_at, is_tolerable_at, keeps_at, end_at, ends_below}
-
-range_more : (a n : ℕ) → range_with_len a (suc n) ≡ range_with_len a n ++ (a + n) ∷ []
-range_more a zero = let here : a ≡ a + 0 = omega arith in ap (λ (k : ℕ). k ∷ []) here
-range_more a (suc n) =
-    let next : a + 1 + n ≡ a + suc n = omega arith in
-    ap (λ (ks : List ℕ). a ∷ ks) (range_more (a + 1) n ∙ ap (λ (k : ℕ). range_with_len (a + 1) n ++ k ∷ []) next)
+use Rattle.pg_lemmas.proofs.Bools.{where_neither}
+use Rattle.pg_lemmas.proofs.Lists.{range_more}
 
 stop_fails : (a b c d : Bool) → c ≡ false → (a && (b && (c && d))) ≡ false
 stop_fails false b c d e = refl
@@ -38,10 +34,6 @@ last_fails false b c d e = refl
 last_fails true false c d e = refl
 last_fails true true false d e = refl
 last_fails true true true d e = e
-
-no_box : (b x : Bool) → (not (b && false) || x) ≡ true
-no_box true x = refl
-no_box false x = refl
 
 not_both : (b : Bool) → b ≡ true → b ≡ false → {X : Type 0} → X
 not_both b e f = absurd cc
@@ -158,7 +150,7 @@ module _ (style : StyleValue) (room : ℤ) (items : List Item) (block : ℕ) whe
   blocked : (j m : ℕ) → is_passable_at style room items j ≡ false → j < m → keeps_at style room items m ≡ false
   unfolding keeps_at
   blocked zero m stop less = not_both (is_passable_at style room items 0)
-      (no_box (is_some (break_penalty items 0)) (not (is_forced items 0 || is_over_at style room items 0))) stop
+      (where_neither (is_some (break_penalty items 0)) (not (is_forced items 0 || is_over_at style room items 0))) stop
   blocked (suc i) m stop less =
       let next : 1 + i ≡ suc i = omega arith in
       let count = length-range_with_len 1 (m - 1) in
