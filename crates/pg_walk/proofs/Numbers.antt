@@ -1,5 +1,5 @@
 -- The numbers of a column under a style without classes.
-use Rattle.std.proofs.Common.{◌≡◌, ◌∙◌, refl, ap, sym, arith, ℕ, ◌+◌, List, [], take, Bool, false, Some, ℤ, pos, ◌+ℤ◌, ◌-ℤ◌}
+use Rattle.std.proofs.Common.{◌≡◌, ◌∙◌, refl, ap, sym, arith, ℕ, ◌+◌, List, [], take, Bool, false, Some, ℤ, pos, ◌+ℤ◌}
 use Rattle.std.specs.Prelude.{◌==◌, if◌then◌else◌}
 use Rattle.std.proofs.lemmas.Int.{ints}
 use Rattle.pg_list.specs.declared.item.Item.{Item}

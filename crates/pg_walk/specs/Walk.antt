@@ -1,5 +1,5 @@
 -- At which of the items behind a place a column of text may end, in a room, and with which numbers.
-use Rattle.std.specs.Prelude.{ℕ, ◌+◌, Bool, ◌==◌, ◌&&◌, ◌||◌, not, nat_le, if◌then◌else◌, List, [], take, drop, filter, map, Option, Some, None, is_some, unwrap_or, ℤ, pos, ◌+ℤ◌, int_le}
+use Rattle.std.specs.Prelude.{ℕ, ◌+◌, Bool, ◌==◌, ◌&&◌, ◌||◌, not, nat_le, if◌then◌else◌, List, [], take, drop, filter, map, Option, None, is_some, unwrap_or, ℤ, pos, ◌+ℤ◌, int_le}
 use Rattle.std.specs.List.{list_any, range_with_len}
 use Rattle.std.specs.Option.{option_map_or}
 use Rattle.pg_list.specs.declared.item.Item.{Item}
