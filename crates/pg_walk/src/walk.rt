@@ -45,7 +45,8 @@ fn end_penalty(galley: &Galley, start: usize, index: usize, sums: &Sums) -> Opti
     requires single { AreSingle galley.now.blocks }
     requires within { start + index ≤ length galley.now.blocks }
     requires small { start + index < 2 ^ 32 }
-    ensures { (topskip maxdepth : ℤ) → AreSums topskip maxdepth (take index (items_from galley.now.blocks start)) sums.now →
+    ensures { (topskip maxdepth : ℤ) →
+        AreSums topskip maxdepth (take index (items_from galley.now.blocks start)) sums.now →
         result ≡ end_penalty_of (items_from galley.now.blocks start) index }
 {
     if sums.has_box() {
