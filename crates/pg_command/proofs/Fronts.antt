@@ -50,7 +50,3 @@ front_after (Some xs) (Some ys) (Some zs) a b first (n, front) = (
 pub on_err : {T E P : Type 0} → (r : Result T E) → P → OnErr r P
 on_err (Ok x) p = tt
 on_err (Err e) p = p
-
--- three parts and what follows them
-pub three_and_more : (a b c rest : List ℕ) → (a ++ (b ++ c)) ++ rest ≡ a ++ (b ++ (c ++ rest))
-three_and_more a b c rest = append_assoc a (b ++ c) rest ∙ ap (λ (l : List ℕ). a ++ l) (append_assoc b c rest)

@@ -12,7 +12,6 @@ mod status;
 mod words;
 
 pub use ending::Ending;
-pub use line::Piece;
 pub use say::say_line;
 pub use status::Status;
-pub use words::{Job, Options, StyleWord, command};
+pub use words::{Job, StyleWord, command};

@@ -39,6 +39,7 @@ pub fn are_built(blocks: &[Block]) -> bool
     ensures built { result ≡ list_all is_built_block_test blocks.now }
     ensures rigid { OnTrue result (AreRigid blocks.now) }
 {
+    // A name of its own, so that both clauses speak of one answer.
     let built = all_built(blocks);
     built
 }
@@ -70,6 +71,7 @@ pub fn is_built_style(style: &Style) -> bool
     ensures built { result ≡ is_built_style_test style.now }
     ensures plain { OnTrue result (IsPlainStyle style.now) }
 {
+    // A name of its own, so that both clauses speak of one answer.
     let built = passes_style_test(style);
     built
 }

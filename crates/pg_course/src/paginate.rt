@@ -27,6 +27,7 @@ pub enum PageText {
 fn each_once(galley: &Galley, style: &Style)
     ensures { LegalHaveEachOnce galley.now style.now }
 {
+    // Both hand on what the types keep, which the law asks for.
     style.stays_in_range();
     let _ = galley.blocks().as_slice();
     legal_plans_have_each_once(galley, style);

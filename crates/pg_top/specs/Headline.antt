@@ -1,5 +1,5 @@
 -- What the program promises, over any shelf and any sinks.
-use Rattle.std.specs.Prelude.{◌≡◌, ◌↔◌, ℕ, List, [], ⊤, Option, Some, None, IfSome}
+use Rattle.std.specs.Prelude.{◌≡◌, ◌↔◌, ℕ, List, [], ⊤, Option, None, IfSome}
 use Rattle.std.specs.Io.KnownBytes.{Keeps}
 use Rattle.pg_outside.specs.Outside.{Held, Rose}
 use Rattle.pg_command.specs.declared.status.Status.{Status}
