@@ -13,7 +13,7 @@ use Rattle.pg_command.specs.declared.status.Status.TheVariants.{Done, NoLegal}
 use Rattle.pg_course.specs.declared.paginate.PageText.{PageText}
 use Rattle.pg_course.specs.declared.paginate.PageText.TheVariants as page
 
--- the page text of the best pagination, with its cost; it holds each box, note and float once
+-- the page text of the best pagination, with its cost; that pagination has each box, note and float once
 pub record IsBestText (galley : GalleyValue) (style : StyleValue) (text : List ℕ) : Type 0 where
   pub plan : Pagination
   pub best : Best galley style plan
