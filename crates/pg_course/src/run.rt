@@ -1,10 +1,11 @@
 //! The command `run`.
-ghost use Rattle.std.specs.Prelude.{◌≡◌, Some};
+ghost use Rattle.std.specs.Prelude.{◌≡◌, Err, MatchOption, Some};
 ghost use Rattle.pg_flat.specs.Rigid.{AreRigid};
 ghost use Rattle.pg_plain.specs.Plain.{IsPlainStyle};
+ghost use Rattle.pg_floats.specs.AreFloats.{MakesList};
 ghost use Rattle.pg_command.specs.Words.{run as run_command, style_name, IsStyle};
 ghost use Rattle.pg_course.specs.Course.{PaginateGalley, BuiltGalley, RunGalley, RunCourse, opened};
-ghost use Rattle.pg_course.specs.Calls.{Goes, GoesOn, Writes, ending_of, over_shelf, over_sink};
+ghost use Rattle.pg_course.specs.Calls.{AreTaken, Goes, GoesOn, Writes, ending_of, over_shelf, over_sink};
 
 use crate::built::are_built;
 use crate::open::{open_galley, open_style};
@@ -63,6 +64,14 @@ fn run_built<'a, O: Sink, L: Ledger>(
     write_page_text(alloc, galley, style, out, steps)
 }
 
+// Why a galley has no list of floats, if it has none.
+fn float_fault(alloc: Global, galley: &Galley, style: &Style) -> Option<FloatFault>
+    ensures { MatchOption result (AreTaken galley.now.blocks style.now)
+        (λ fault. MakesList (Err fault) galley.now.blocks style.now) }
+{
+    FloatList::of(alloc, galley, style).err()
+}
+
 // How a run ends where a galley has no list of floats.
 fn float_ending<'a>(fault: FloatFault) -> Ending<'a>
     ensures { result ≡ ending_of fault }
@@ -87,9 +96,9 @@ fn run_galley<'a, O: Sink, L: Ledger>(
     ensures writes { Writes (RunGalley style.now name.now galley.now)
         (over_sink (O.written out.old) (O.written out.new) (O.faults out.old) (O.faults out.new)) result }
 {
-    match FloatList::of(alloc, galley, style) {
-        Err(fault) => float_ending(fault),
-        Ok(_) => run_built(alloc, galley, style, name, out, steps),
+    match float_fault(alloc, galley, style) {
+        Some(fault) => float_ending(fault),
+        None => run_built(alloc, galley, style, name, out, steps),
     }
 }
 
