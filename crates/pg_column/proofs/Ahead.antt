@@ -51,12 +51,12 @@ inside b v j (x ∷ items) item e =
     (sym (ap (λ (k : ℕ). drop k (variant_flat_items b v (x ∷ items))) q ∙ drop_later [] b v 1 (j + 1) items
     ∙ ap (λ (k : ℕ). later_flat_items b v k (drop (j + 1) items)) m))))
 
-none_inside : (b v j : ℕ) (items : List Item) → slice_get items (suc j) ≡ None →
+pub none_inside : (b v j : ℕ) (items : List Item) → slice_get items (suc j) ≡ None →
     drop (suc j) (variant_flat_items b v items) ≡ []
 none_inside b v j [] e = refl
 none_inside b v j (x ∷ items) e = drop_later [] b v 1 j items ∙ ap (later_flat_items b v (1 + j)) (drop_none j items e)
 
-at_front : (b v : ℕ) (items : List Item) (item : Item) → slice_get items 0 ≡ Some item →
+pub at_front : (b v : ℕ) (items : List Item) (item : Item) → slice_get items 0 ≡ Some item →
     variant_flat_items b v items
     ≡ record { place = place b 0 0; item = item; is_front = true } ∷ drop 1 (variant_flat_items b v items)
 at_front b v [] item e = absurd cc

@@ -79,43 +79,43 @@ module _ (it : ColumnContext) (all : AllByRecursion IsBlock it.document.blocks) 
   abbrev at_end : (ℕ → Bool) → Bool
   at_end test = option_map_or test (size_of it) false
 
-  at_is : (test : ℕ → Bool) → at_end test ≡ test n
+  pub at_is : (test : ℕ → Bool) → at_end test ≡ test n
   at_is test = ap (λ (o : Option ℕ). option_map_or test o false) size
 
-  within : n ≤ length (flat_items_of it)
+  pub within : n ≤ length (flat_items_of it)
   within = steps_within it.document.blocks (flat_items_of it) it.column.to n size
 
-  spent_is : place_spent it.document.blocks it.column.to ≡ is_spent (items_of it) n
+  pub spent_is : place_spent it.document.blocks it.column.to ≡ is_spent (items_of it) n
   spent_is = spent-column it.document.blocks all it.column.to it.column.from it.column.picks n named size
 
-  forced_is : place_forced it.document.blocks it.column.to ≡ is_forced (items_of it) n
+  pub forced_is : place_forced it.document.blocks it.column.to ≡ is_forced (items_of it) n
   forced_is = forced-column it.document.blocks all it.column.to it.column.from it.column.picks n named size
 
-  penalty_is : 1 ≤ n → place_penalty it.document.blocks it.column.to ≡ break_penalty (items_of it) n
+  pub penalty_is : 1 ≤ n → place_penalty it.document.blocks it.column.to ≡ break_penalty (items_of it) n
   penalty_is h = penalty-column it.document.blocks all it.column.to it.column.from it.column.picks n named size h
 
   module _ (w : Walked) (is : IsWalked it.document all is-style it.column.from it.column.picks named (room it) n w)
     where
-      over_at : text_is_over it n ≡ is_over_by it.document.style (room it) w.totals w.notes
+      pub over_at : text_is_over it n ≡ is_over_by it.document.style (room it) w.totals w.notes
       over_at = over_is it.document all is-style it.column.from it.column.picks named n (kept w) (room it) is.sums
 
-      box_at : w.totals.has_box ≡ list_any is_box (take n (items_of it))
+      pub box_at : w.totals.has_box ≡ list_any is_box (take n (items_of it))
       box_at = box_is it.document all is-style it.column.from it.column.picks named n (kept w) is.sums
 
-      some_items : w.totals.has_box ≡ true → 1 ≤ n
+      pub some_items : w.totals.has_box ≡ true → 1 ≤ n
       some_items e = by n (sym box_at ∙ e)
         where
           by : (k : ℕ) → list_any is_box (take k (items_of it)) ≡ true → 1 ≤ k
           by zero e = absurd cc
           by (suc k) e = omega arith
 
-      badness_at : badness_by (place_spent it.document.blocks it.column.to)
+      pub badness_at : badness_by (place_spent it.document.blocks it.column.to)
           (goal_by it.document.style (room it) w.notes) w.totals
           ≡ text_badness it n
       badness_at = badness_is it n it.document.style refl is-style w.totals w.notes (room it) refl is.sums.totals_are
           is.sums.notes_are (place_spent it.document.blocks it.column.to) spent_is
 
-      numbers_at : (penalty : ℤ) → w.totals.has_box ≡ true → place_penalty it.document.blocks it.column.to
+      pub numbers_at : (penalty : ℤ) → w.totals.has_box ≡ true → place_penalty it.document.blocks it.column.to
           ≡ Some penalty →
           (k : ℕ) → size_of it ≡ Some k → AreNumbers it k
           (cost_by it.document.style (room it) w.totals w.notes (place_spent it.document.blocks it.column.to) penalty)
@@ -129,7 +129,7 @@ module _ (it : ColumnContext) (all : AllByRecursion IsBlock it.document.blocks) 
           some_same : (a b : ℕ) → Some a ≡ Some b → a ≡ b
           some_same a b e = cc
 
-      formed_is : is_well_formed it ≡ (w.totals.has_box && is_some (place_penalty it.document.blocks it.column.to))
+      pub formed_is : is_well_formed it ≡ (w.totals.has_box && is_some (place_penalty it.document.blocks it.column.to))
       formed_is = if_true (is_text it) _ _ text
           ∙ (at_is (λ n. list_any is_box (take n (items_of it)) && is_some (break_penalty (items_of it) n))
           ∙ by_bool w.totals.has_box
@@ -142,7 +142,7 @@ module _ (it : ColumnContext) (all : AllByRecursion IsBlock it.document.blocks) 
           none : (a b c d : Bool) → a ≡ false → c ≡ false → (a && b) ≡ (c && d)
           none a b c d p q = rw (p, q) refl
 
-      tolerable_is : is_tolerable it ≡ (not (is_over_by it.document.style (room it) w.totals w.notes)
+      pub tolerable_is : is_tolerable it ≡ (not (is_over_by it.document.style (room it) w.totals w.notes)
           && is_tolerable_by it.document (room it) w it.column.to)
       tolerable_is = where_true (is_text it) _ text
           ∙ (at_is (λ n. not (text_is_over it n)
@@ -154,14 +154,14 @@ module _ (it : ColumnContext) (all : AllByRecursion IsBlock it.document.blocks) 
               ≡ (not a' && (b' || nat_le c' it.document.style.tolerance))
           same a a' b b' c c' p q r = rw (p, q, r) refl
 
-      passes_is : passes_breaks it ≡ w.passes
+      pub passes_is : passes_breaks it ≡ w.passes
       passes_is = where_true (is_text it) _ text
           ∙ (at_is (passes_between (items_of it) (text_is_over it)) ∙ sym is.passes)
 
-      room_is : has_room it ≡ int_le it.document.style.min_text (room it)
+      pub room_is : has_room it ≡ int_le it.document.style.min_text (room it)
       room_is = if_true (is_text it) _ _ text
 
-      limits_is : keeps_note_limits it ≡ is_none (first_over_limit it.document.style.classes w.notes)
+      pub limits_is : keeps_note_limits it ≡ is_none (first_over_limit it.document.style.classes w.notes)
       limits_is = where_true (is_text it) _ text
           ∙ (at_is (λ n. are_notes_within_limits it.document.style (trimmed (take n (items_of it))))
           ∙ (limits_trimmed it.document.style (take n (items_of it))

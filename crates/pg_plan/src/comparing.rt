@@ -9,7 +9,8 @@ use crate::pages::{PageMove, Pagination};
 use pg_list::Place;
 use std::cmp::Ordering;
 
-fn compare_places(a: &Place, b: &Place) -> Ordering
+/// Compares two places by block, variant and index.
+pub fn compare_places(a: &Place, b: &Place) -> Ordering
     ensures { result ≡ place_cmp a.now b.now }
 {
     let index = a.index.cmp(&b.index);
@@ -53,8 +54,9 @@ fn compare_wide(a: &[u16], is_a_first: bool, b: &[u16], is_b_first: bool) -> Ord
     }
 }
 
+/// Compares picks entry by entry from the last; where one list ends first, it is first.
 #[tactic(auto, using(crate::proofs::PickLemmas::pick_lemmas))]
-fn compare_picks(a: &[u32], b: &[u32]) -> Ordering
+pub fn compare_picks(a: &[u32], b: &[u32]) -> Ordering
     ensures { result ≡ picks_cmp a.now b.now }
 {
     let mut left = a;

@@ -13,7 +13,7 @@ mod states;
 #[cfg(test)]
 mod tests;
 
-pub use comparing::{compare, compare_moves};
+pub use comparing::{compare, compare_moves, compare_picks, compare_places};
 pub use laws::{equal_moves_are_same, moves_are_ordered, paginations_are_ordered};
 pub use lists::{Ages, Counts, Picks};
 pub use pages::{Column, Columns, Moves, Page, PageMove, Pages, Pagination};

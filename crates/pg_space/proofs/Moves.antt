@@ -34,8 +34,8 @@ use Rattle.pg_place_laws.proofs.Tests.{place_refl}
 use Rattle.pg_beginning_laws.proofs.Order.{place_total}
 use Rattle.pg_space_laws.specs.PageSpace.{FollowBest, page_meaning}
 use Rattle.pg_space_laws.proofs.Least.{best_unique}
-use Rattle.pg_walk.specs.declared.end.End.{End}
-use Rattle.pg_walk.specs.Ends.{AreEnds, HasEnd, IsBefore, IsColumnIn, IsEndOf}
+use Rattle.pg_ends.specs.declared.end.End.{End}
+use Rattle.pg_ends.specs.Ends.{AreEnds, HasEnd, IsBefore, IsColumnIn, IsEndOf}
 use Rattle.pg_space.specs.PlainSteps.{fitness_cost, kept_fitness, plain_state, step_to, steps_of, text_move}
 use Rattle.pg_space.proofs.Members.{in_filter, in_map, of_filter, of_map, pairs_map}
 use Rattle.pg_space.proofs.PlainStates.{form_is, plain_form, state_is, with_form}

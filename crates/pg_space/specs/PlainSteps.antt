@@ -10,7 +10,7 @@ use Rattle.pg_style.specs.Values.{StyleValue}
 use Rattle.pg_flat.specs.Flat.{is_same_place}
 use Rattle.pg_rules.specs.Cost.{differs, run_demerits}
 use Rattle.pg_table.specs.declared.step.Step.{Step}
-use Rattle.pg_walk.specs.declared.end.End.{End}
+use Rattle.pg_ends.specs.declared.end.End.{End}
 
 -- the state of a beginning that ends at a place, where the last column had this fitness
 abbrev pub plain_state : Place → Option ℕ → State

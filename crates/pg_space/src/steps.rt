@@ -3,11 +3,11 @@ ghost use Rattle.std.specs.Prelude.{◌≡◌, ◌≤◌, ◌++◌, ◌∷◌, [
 ghost use Rattle.pg_rules.specs.Cost.{run_demerits as the_run_demerits};
 ghost use Rattle.pg_space.specs.PlainSteps.{plain_state as the_plain_state, text_move as the_text_move, kept_fitness as the_kept_fitness, fitness_cost as the_fitness_cost, step_to as the_step_to, steps_of};
 
+use pg_ends::End;
 use pg_list::Place;
 use pg_plan::{Ages, Column, Counts, PageMove, Picks, Side, State};
 use pg_style::Style;
 use pg_table::{Step, StepList};
-use pg_walk::End;
 use std::alloc::{AllocError, Global};
 
 /// The state of a beginning that ends at a place, where the last column had this fitness.

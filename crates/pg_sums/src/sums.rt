@@ -85,6 +85,13 @@ impl Sums {
         self.count += 1;
     }
 
+    /// All sums.
+    pub fn totals(&self) -> Totals
+        ensures { result ≡ self.now.totals }
+    {
+        self.totals
+    }
+
     /// The natural size: the glue above the first box, all widths, heights and depths, less the depth that hangs.
     pub fn total(&self) -> i64
         ensures sums { (topskip maxdepth : ℤ) (items : List AnItem) →

@@ -17,8 +17,8 @@ use Rattle.pg_list.specs.declared.item.Item.{Item}
 use Rattle.pg_list.specs.Shapes.{is_box}
 use Rattle.pg_flat.specs.Break.{break_penalty, is_forced, passes_between}
 use Rattle.pg_style.specs.Values.{StyleValue}
-use Rattle.pg_walk.specs.declared.end.End.{End}
-use Rattle.pg_walk.specs.Ends.{IsBefore}
+use Rattle.pg_ends.specs.declared.end.End.{End}
+use Rattle.pg_ends.specs.Ends.{IsBefore}
 use Rattle.pg_walk.specs.Walk.{badness_at, end_penalty, is_over_at, is_passable_at, is_end_at, is_tolerable_at, keeps_at, end_at, ends_below}
 use Rattle.pg_lemmas.proofs.Bools.{where_neither}
 use Rattle.pg_lemmas.proofs.Lists.{range_more}

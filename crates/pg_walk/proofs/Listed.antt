@@ -21,8 +21,8 @@ use Rattle.pg_rules.specs.History.{column_fitness}
 use Rattle.pg_rules.specs.ColumnRules.{text_fitness}
 use Rattle.pg_rules.specs.IsState.{IsPlace}
 use Rattle.pg_plain.specs.Plain.{AreSingle, single_items, IsPlainStyle}
-use Rattle.pg_walk.specs.declared.end.End.{End}
-use Rattle.pg_walk.specs.Ends.{AreEnds, HasEnd, IsColumnIn, IsEndOf}
+use Rattle.pg_ends.specs.declared.end.End.{End}
+use Rattle.pg_ends.specs.Ends.{AreEnds, HasEnd, IsColumnIn, IsEndOf}
 use Rattle.pg_walk.specs.Walk.{cost_at, end_at, ends_below, is_end_at, keeps_at}
 use Rattle.pg_walk.proofs.Below.{IsListed, contained, listed, ordered}
 use Rattle.pg_walk.proofs.Columns.{badness_is, demerits-are, end-of-size, kept_fitness_is, goal, items, keeps, no-pick-demerits, size-of-kept, size-to, the_total_is}

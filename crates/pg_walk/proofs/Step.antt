@@ -20,7 +20,7 @@ use Rattle.pg_flat.specs.Break.{break_penalty, is_forced, passes_between}
 use Rattle.pg_flat.specs.Totals.{shrink, total, trimmed}
 use Rattle.pg_style.specs.Values.{StyleValue}
 use Rattle.pg_place_laws.proofs.Tests.{le_int, less_int}
-use Rattle.pg_walk.specs.declared.end.End.{End}
+use Rattle.pg_ends.specs.declared.end.End.{End}
 use Rattle.pg_column.specs.declared.cost.TextCost.{TextCost}
 use Rattle.pg_walk.specs.Walk.{badness_at, cost_at, end_at, end_penalty, ends_below, is_over_at, is_passable_at, items_from, total_at}
 use Rattle.pg_walk.proofs.Below.{end-some, not_end, over-end, under-end}

@@ -14,7 +14,7 @@ use Rattle.pg_style.specs.Values.{StyleValue}
 use Rattle.pg_plain.specs.Plain.{single_items}
 use Rattle.pg_rules.specs.ColumnRules.{fitness_by}
 use Rattle.pg_rules.specs.Cost.{penalty_demerits}
-use Rattle.pg_walk.specs.declared.end.End.{End}
+use Rattle.pg_ends.specs.declared.end.End.{End}
 use Rattle.pg_column.specs.declared.cost.TextCost.{TextCost}
 
 -- the items from a block on

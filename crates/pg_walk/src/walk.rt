@@ -8,12 +8,12 @@ ghost use Rattle.pg_sums.specs.AreSums.{AreSums};
 ghost use Rattle.pg_rules.specs.IsState.{IsPlace};
 ghost use Rattle.pg_rules.specs.Legal.{document};
 ghost use Rattle.pg_plain.specs.Plain.{AreSingle, IsPlainStyle};
-ghost use Rattle.pg_walk.specs.Ends.{AreEnds};
+ghost use Rattle.pg_ends.specs.Ends.{AreEnds};
 ghost use Rattle.pg_walk.specs.Walk.{end_penalty as end_penalty_of, ends_below, is_over_at, is_passable_at, items_from};
 
-use crate::end::{End, EndList};
 use pg_breaks::{break_cost, is_forced, is_spent};
 use pg_column::{TextCost, text_cost};
+use pg_ends::{End, EndList};
 use pg_list::{Block, Galley, Place};
 use pg_notes::NoteSums;
 use pg_plain::{add_block, front_of};

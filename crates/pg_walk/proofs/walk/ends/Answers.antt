@@ -2,8 +2,8 @@ use Rattle.std.proofs.Common.{rules, ◌≡◌, ◌∙◌, ◌-◌, ap, sym, sub
 use Rattle.std.proofs.lemmas.Int.{to_z-of_z}
 use Rattle.pg_rules.specs.Legal.{document}
 use Rattle.pg_plain.proofs.Singles.{rigid_single}
-use Rattle.pg_walk.specs.declared.end.End.{End}
-use Rattle.pg_walk.specs.Ends.{AreEnds}
+use Rattle.pg_ends.specs.declared.end.End.{End}
+use Rattle.pg_ends.specs.Ends.{AreEnds}
 use Rattle.pg_walk.specs.Walk.{ends_below, items_from}
 use Rattle.pg_walk.proofs.Below.{low-room}
 use Rattle.pg_walk.proofs.Step.{if_ok, too_low}

@@ -8,7 +8,7 @@ use Rattle.pg_rules.specs.Cost.{pick_demerits}
 use Rattle.pg_rules.specs.History.{column_fitness}
 use Rattle.pg_rules.specs.Room.{ColumnContext, Document, is_text, room, size_of}
 use Rattle.pg_column.specs.Numbers.{AreNumbers}
-use Rattle.pg_walk.specs.declared.end.End.{End}
+use Rattle.pg_ends.specs.declared.end.End.{End}
 
 -- a column of text from a place of the galley, in a room of this height
 pub record IsColumnIn (doc : Document) (from : Place) (height : ℤ) (it : ColumnContext) : Type 0 where

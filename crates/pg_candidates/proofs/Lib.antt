@@ -1,0 +1,3 @@
+pub mod Stretched
+pub mod Putting
+pub mod Kept

@@ -1,0 +1,94 @@
+-- An end put in at its spot, by a search in ends that are in order.
+use Rattle.std.proofs.Common.{◌≡◌, refl, sym, ap, ◌∙◌, subst, ℕ, zero, suc, ◌≤◌, ◌<◌, List, [], ◌∷◌, length, arith, Bool, true, false}
+use Rattle.std.specs.Prelude.{if◌then◌else◌, get_or, slice_get, slice_set}
+use Rattle.std.specs.List.{insert}
+use Rattle.std.specs.List.Sorted.{IsPartitionedBy, IsPartitionPoint}
+use Rattle.std.specs.Ordering.{ordering_reverse}
+use Rattle.std.specs.declared.cmp.Ordering.{Ordering}
+use Rattle.std.specs.declared.cmp.Ordering.TheVariants.{Less, Equal, Greater}
+use Rattle.pg_ends.specs.declared.end.End.{End}
+use Rattle.pg_walk_laws.specs.Best.{Ascend, IsFirst, end_cmp, insert_end, is_better, placed_by}
+use Rattle.pg_walk_laws.proofs.BestLaws.{end_total}
+use Rattle.pg_candidates.specs.Spots.{is_before, is_less, spot_by, spot_in}
+use Rattle.pg_candidates.specs.declared.best.Spot.{Spot}
+use Rattle.pg_candidates.specs.declared.best.Spot.TheVariants.{Before, Instead, Nowhere}
+
+less_is : (o : Ordering) → is_less o ≡ true → o ≡ Less
+less_is Less e = refl
+less_is Equal e = absurd cc
+less_is Greater e = absurd cc
+
+-- ---- what is in order has a partition point
+
+first_at : (f : End) (fs : List End) (k : ℕ) (d : End) → IsFirst f fs → k < length fs → end_cmp f (get_or fs k d) ≡ Less
+first_at f [] k d h l = absurd (omega (arith, l))
+first_at f (g ∷ fs) zero d h l = h.0
+first_at f (g ∷ fs) (suc k) d h l = first_at f fs k d h.1 (omega (arith, l))
+
+before_chain : (f g e : End) → end_cmp f g ≡ Less → is_before g e ≡ true → is_before f e ≡ true
+before_chain f g e p q = ap is_less (end_total.trans f g e p (less_is (end_cmp g e) q))
+
+pub parted : (e : End) (fs : List End) → Ascend fs → IsPartitionedBy (λ f. is_before f e) fs
+parted e [] h i j d le l t = absurd (omega (arith, l))
+parted e (f ∷ fs) h zero zero d le l t = t
+parted e (f ∷ fs) h zero (suc j) d le l t =
+    before_chain f (get_or fs j d) e (first_at f fs j d h.0 (omega (arith, l))) t
+parted e (f ∷ fs) h (suc i) zero d le l t = absurd (omega (arith, le))
+parted e (f ∷ fs) h (suc i) (suc j) d le l t = parted e fs h.1 i j d (omega (arith, le)) (omega (arith, l)) t
+
+-- ---- at it an end is put in
+
+abbrev pub put : Spot → List End → ℕ → End → List End
+put Before fs i e = insert fs i e
+put Instead fs i e = slice_set fs i e
+put Nowhere fs i e = fs
+
+abbrev pub Point : End → List End → ℕ → Type 0
+Point e fs i = IsPartitionPoint (λ f. is_before f e ≡ true) (λ f. is_before f e ≡ false) fs i
+
+turned : (e f : End) (o : Ordering) → end_cmp f e ≡ o → end_cmp e f ≡ ordering_reverse o
+turned e f o p = end_total.antisymm e f ∙ ap ordering_reverse p
+
+put_more : (s : Spot) (f : End) (fs : List End) (i : ℕ) (e : End) → put s (f ∷ fs) (suc i) e ≡ f ∷ put s fs i e
+put_more Before f fs i e = refl
+put_more Instead f fs i e = refl
+put_more Nowhere f fs i e = refl
+
+put_first : (e f : End) (fs : List End) (o : Ordering) → end_cmp e f ≡ o → is_less (ordering_reverse o) ≡ false →
+    put (spot_by o (is_better e f)) (f ∷ fs) 0 e ≡ placed_by o e f fs (insert_end e fs)
+put_first e f fs Less p n = refl
+put_first e f fs Equal p n = by (is_better e f)
+  where
+    by : (b : Bool) → put (if b then Instead else Nowhere) (f ∷ fs) 0 e ≡ (if b then e else f) ∷ fs
+    by true = refl
+    by false = refl
+put_first e f fs Greater p n = absurd cc
+
+pub put_is : (e : End) (fs : List End) (i : ℕ) → i ≤ length fs → Point e fs i →
+    put (spot_in (slice_get fs i) e) fs i e ≡ insert_end e fs
+put_is e [] zero le point = refl
+put_is e [] (suc i) le point = absurd (omega (arith, le))
+put_is e (f ∷ fs) zero le point =
+    let no : is_before f e ≡ false = point.1 0 f (omega arith) (omega arith) in
+    let back : end_cmp f e ≡ ordering_reverse (end_cmp e f) = end_total.antisymm f e in
+    put_first e f fs (end_cmp e f) refl (ap is_less (sym back) ∙ no)
+put_is e (f ∷ fs) (suc i) le point =
+    let yes : end_cmp f e ≡ Less = less_is (end_cmp f e) (point.0 0 f (omega arith) (omega arith)) in
+    let rest : put (spot_in (slice_get fs i) e) fs i e ≡ insert_end e fs =
+    put_is e fs i (omega (arith, le)) (
+      (λ k d lo hi. point.0 (suc k) d (omega arith) (omega (arith, hi))),
+      (λ k d lo hi. point.1 (suc k) d (omega (arith, lo)) (omega (arith, hi))),
+    ) in
+    put_more (spot_in (slice_get fs i) e) f fs i e ∙ (ap (λ gs. f ∷ gs) rest
+    ∙ sym (ap (λ (o : Ordering). placed_by o e f fs (insert_end e fs)) (turned e f Less yes)))
+
+-- found in a copy of the list
+pub put_found : (e : End) (fs xs ys : List End) (i : ℕ) (s : Spot) → Ascend fs → xs ≡ fs → ys ≡ fs → i ≤ length xs →
+    (IsPartitionedBy (λ f. is_before f e) xs → Point e xs i) → s ≡ spot_in (slice_get ys i) e →
+    put s fs i e ≡ insert_end e fs
+put_found e fs xs ys i s h p q le point at =
+    let there : Point e fs i =
+    subst (λ (zs : List End). Point e zs i) p
+    (point (subst (IsPartitionedBy (λ f. is_before f e)) (sym p) (parted e fs h))) in
+    ap (λ (t : Spot). put t fs i e) at ∙ (ap (λ (zs : List End). put (spot_in (slice_get zs i) e) fs i e) q
+    ∙ put_is e fs i (subst (λ (zs : List End). i ≤ length zs) p le) there)

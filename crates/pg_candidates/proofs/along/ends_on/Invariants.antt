@@ -1,0 +1,29 @@
+use Rattle.std.proofs.Common.{◌≡◌, ◌+◌, ◌++◌, length, true}
+use Rattle.pg_list.specs.Places.{place}
+use Rattle.pg_rules.specs.Legal.{document}
+use Rattle.pg_column.specs.Passed.{fits}
+use Rattle.pg_walk_laws.specs.Walk.{ends_along, past_stretch}
+use Rattle.pg_stretch.specs.Ahead.{IsSettled, front_ahead, items_ahead}
+use Rattle.pg_stretch.specs.View.{IsFor, view}
+use Rattle.pg_candidates.proofs.along.ends_on.Given as goal
+
+abbrev pub invariant-ahead : goal.invariant-ahead
+invariant-ahead l = record {
+  settled : IsSettled l.galley.blocks l.at;
+  front : front_ahead l.galley.blocks l.at ≡ front_ahead l.galley.blocks l.fn.start;
+  style : IsFor l.style l.passed;
+  bound : fits l.passed.bound l.top ≡ true;
+  sums : l.passed.sums.count + length (items_ahead l.galley.blocks l.at)
+      ≡ l.fn.before.sums.count + length (items_ahead l.galley.blocks l.fn.start);
+  notes : l.passed.notes.count + length (items_ahead l.galley.blocks l.at)
+      ≡ l.fn.before.notes.count + length (items_ahead l.galley.blocks l.fn.start);
+  past : past_stretch (document l.galley l.style) l.top (view l.passed) (items_ahead l.galley.blocks l.at)
+      ≡ past_stretch (document l.galley l.style) l.top (view l.fn.before) (items_ahead l.galley.blocks l.fn.start);
+  ends : l.found ++ ends_along (document l.galley l.style) l.top l.picks l.demerits
+      (place (front_ahead l.galley.blocks l.at) 0 0) (view l.passed) (items_ahead l.galley.blocks l.at)
+      ≡ l.initial.found ++ ends_along (document l.galley l.style) l.top l.picks l.demerits
+      (place (front_ahead l.galley.blocks l.fn.start) 0 0) (view l.fn.before) (items_ahead l.galley.blocks l.fn.start);
+}
+
+abbrev pub decreases-ahead : goal.decreases-ahead
+decreases-ahead l = length (items_ahead l.galley.blocks l.at)

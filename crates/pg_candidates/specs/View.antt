@@ -1,0 +1,16 @@
+-- What contracts see of candidates.
+use Rattle.std.specs.Prelude.{Option, Some, None}
+use Rattle.pg_column.specs.Passed.{Passed}
+use Rattle.pg_walk_laws.specs.Candidates.{Candidate}
+use Rattle.pg_stretch.specs.View.{view}
+use Rattle.pg_stretch.specs.declared.passing.State.{State}
+use Rattle.pg_candidates.specs.declared.candidate.Candidate.{Candidate as CandidateParts}
+
+-- a candidate with what was passed
+abbrev pub candidate_of : CandidateParts → Candidate
+candidate_of c = record { to = c.to; picks = c.picks; passed = view c.passed; pick_demerits = c.pick_demerits }
+
+-- what was passed where a stretch was
+abbrev pub passed_of : Option State → Option Passed
+passed_of None = None
+passed_of (Some state) = Some (view state.passed)

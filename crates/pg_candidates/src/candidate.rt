@@ -1,0 +1,61 @@
+//! A candidate, and a list of them.
+ghost use Rattle.std.specs.Prelude.{◌≡◌, ◌++◌, ◌∷◌, [], OnOk, map};
+ghost use Rattle.pg_candidates.specs.View.{candidate_of};
+
+use pg_list::Place;
+use pg_plan::Picks;
+use pg_stretch::Passed;
+use std::alloc::{AllocError, Global};
+use std::marker::Model;
+
+/// Where columns from a place may end: the picks of the choices that begin on the way, what is passed, and the demerits
+/// of the variants picked.
+#[derive(Drop)]
+pub struct Candidate {
+    pub to: Place,
+    pub picks: Picks,
+    pub passed: Passed,
+    pub pick_demerits: i64,
+}
+
+/// Candidates from one place.
+#[derive(Drop)]
+pub struct CandidateList {
+    items: Vec<Candidate>,
+}
+
+impl Model for CandidateList {
+    ghost use Rattle.std.specs.Prelude.{List, map};
+    ghost use Rattle.pg_walk_laws.specs.Candidates.{Candidate};
+    ghost use Rattle.pg_candidates.specs.View.{candidate_of};
+
+    ghost Value = { List Candidate };
+
+    ghost view = { λ a. map candidate_of a.items.items };
+}
+
+impl CandidateList {
+    /// No candidates. No memory is taken.
+    pub fn new(alloc: Global) -> CandidateList
+        ensures { result ≡ [] }
+    {
+        CandidateList {
+            items: Vec::new(alloc),
+        }
+    }
+
+    /// Adds a candidate behind the others.
+    pub fn push(&mut self, candidate: Candidate) -> Result<(), AllocError>
+        ensures { OnOk result (self.new ≡ self.old ++ candidate_of candidate ∷ []) }
+    {
+        self.items.push(candidate)?;
+        Ok(())
+    }
+
+    // The candidates, one after another.
+    pub(crate) fn as_slice(&self) -> &[Candidate]
+        ensures { map candidate_of result.now ≡ self.now }
+    {
+        self.items.as_slice()
+    }
+}

@@ -1,0 +1,16 @@
+pub mod Bounds
+pub mod BestLaws
+pub mod Keeps
+pub mod Ends
+pub mod Examples
+pub mod Stretches
+pub mod Complete
+pub mod Ways
+pub mod Whole
+pub mod Covering
+pub mod Sound
+pub mod Contracts
+pub mod SpaceLaws
+pub mod Tables
+pub mod Reach
+pub mod ReachLabels
