@@ -47,7 +47,8 @@ steps_within blocks xs to n e = by_bool (is_same_place to (end_of blocks))
 
 -- ---- by the tests one by one
 
-abbrev fault_by : Bool → Bool → Bool → Bool → Bool → Bool → Option ℕ
+-- the least of rules 3 to 6, 11 and 13 that is not kept
+abbrev pub fault_by : Bool → Bool → Bool → Bool → Bool → Bool → Option ℕ
 fault_by formed tolerable passes room limits loose =
     option_or (unless formed 3) (option_or (unless tolerable 4) (option_or (unless passes 5) (option_or (unless room 6)
     (option_or (unless limits 11) (unless loose 13)))))

@@ -100,7 +100,7 @@ first_none blocks block left e f = ap (λ (bs : List Block). names bs left) (fir
 
 -- ---- a test of the variants picked
 
-none_picked : (blocks : List Block) → picked_variants blocks [] ≡ []
+pub none_picked : (blocks : List Block) → picked_variants blocks [] ≡ []
 none_picked [] = refl
 none_picked (One item ∷ blocks) = none_picked blocks
 none_picked (Choice variants ∷ blocks) = refl

@@ -11,4 +11,4 @@ mod laws;
 mod sums;
 
 pub use laws::front_has_no_notes;
-pub use sums::NoteSums;
+pub use sums::{NoteSum, NoteSums};

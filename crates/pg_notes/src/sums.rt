@@ -196,6 +196,13 @@ impl NoteSums {
         self.count += 1;
     }
 
+    /// The sum of each class.
+    pub fn as_slice(&self) -> &[NoteSum]
+        ensures { result.now ≡ self.now.sums }
+    {
+        &self.sums
+    }
+
     // The heights of all classes, within the bound that the number of items gives.
     fn taken(&self, style: &Style) -> u64
         ensures value { result ≡ heights_of style.now.classes self.now.sums }

@@ -50,7 +50,7 @@ bool_itself : (a : Bool) → same_bool a a ≡ true
 bool_itself true = refl
 bool_itself false = refl
 
-totals_same : (a b : Totals) → same_totals a b ≡ true → a ≡ b
+pub totals_same : (a b : Totals) → same_totals a b ≡ true → a ≡ b
 totals_same a b e =
     let t1 = both_of (int_eq a.total b.total) _ e in
     let t2 = both_of (int_eq a.depth b.depth) _ t1.1 in
@@ -71,7 +71,7 @@ totals_same a b e =
         (record { total = t'; depth = d'; has_box = h'; finite = g1; fil = g2; fill = g3; filll = g4; shrink = s' })
     make t d h f1 f2 f3 f4 s t' d' h' g1 g2 g3 g4 s' a b c d1 d2 d3 d4 e = cc
 
-totals_itself : (a : Totals) → same_totals a a ≡ true
+pub totals_itself : (a : Totals) → same_totals a a ≡ true
 totals_itself a =
     both _ _ (int_itself a.total) (both _ _ (int_itself a.depth) (both _ _ (bool_itself a.has_box)
     (both _ _ (int_itself a.finite) (both _ _ (int_itself a.fil) (both _ _ (int_itself a.fill)

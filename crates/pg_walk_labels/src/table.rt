@@ -1,0 +1,85 @@
+//! The labels of a filled table, one after another.
+ghost use Rattle.std.specs.Prelude.{◌≡◌, ◌<◌, ◌≤◌, ◌^◌, Contains, IfOk, OnOk, length, nat_abs, ℕ};
+ghost use Rattle.pg_rules.specs.Legal.{document};
+ghost use Rattle.pg_stretch.specs.declared.passing.State.{State as AState};
+ghost use Rattle.pg_table.specs.Label.{Grounded, IsTable};
+ghost use Rattle.pg_table.specs.declared.table.Entry.{Entry as AnEntry};
+ghost use Rattle.pg_walk_space.specs.Meaning.{IsOwn, space_meaning};
+ghost use Rattle.pg_walk_labels.specs.Collected.{AreSmall, Collects, HasEnds};
+
+use crate::label::add_label;
+use crate::runs::picks_of;
+use pg_candidates::CandidateList;
+use pg_list::Galley;
+use pg_steps::Steps;
+use pg_stretch::State;
+use pg_style::Style;
+use pg_table::{Entry, Table};
+use pg_walk_space::{Key, WalkSpace};
+use std::alloc::{AllocError, Global};
+use std::marker::Brand;
+use std::sync::ledger::{Blank, Ledger};
+
+// A filled table of the walk, with a counter of its own.
+fn filled<L: Ledger>(
+    alloc: Global,
+    space: &WalkSpace<'_>,
+    blank: Blank,
+) -> Result<Table<State, u32, Key>, AllocError>
+    requires name { blank.name ≡ L.name }
+    requires parts { blank.parts ≡ L.parts }
+    requires one { blank.parts ≡ 1 }
+    ensures { IfOk result (IsTable (space_meaning (document space.now.galley.now space.now.style.now) space.now.top
+        space.now.start)) }
+{
+    let mut steps = Steps::<L>::new(blank);
+    let mut table = Table::new(alloc);
+    table.fill(space, &mut steps)?;
+    Ok(table)
+}
+
+// Adds the ends of each label.
+fn add_labels(
+    alloc: Global,
+    galley: &Galley,
+    style: &Style,
+    top: i64,
+    labels: &[Entry<State, u32>],
+    found: &mut CandidateList,
+) -> Result<(), AllocError>
+    requires few { length galley.now.blocks ≤ 2 ^ 20 }
+    requires grounded { Grounded labels.now }
+    requires small { AreSmall (document galley.now style.now) top labels.now }
+    ensures { OnOk result (HasEnds (document galley.now style.now) top labels.now labels.now found.old found.new) }
+{
+    let mut index = 0usize;
+    'labels: while index < labels.len() {
+        let picks = picks_of(alloc, labels, index)?;
+        add_label(galley, style, top, &labels[index], &picks, found)?;
+        index += 1;
+    }
+    Ok(())
+}
+
+/// Adds the ends along the stretches of the picks at the fronts of the walk from a state, of which those with equal
+/// sums at one front are one: for each label of the filled table and each pick that is loose enough at its front, the
+/// ends along the stretch of the pick, behind the picks of the label.
+///
+/// Condition: the state is one of the walk. The one refusal is want of memory.
+pub fn collect(
+    alloc: Global,
+    galley: &Galley,
+    style: &Style,
+    top: i64,
+    start: State,
+    found: &mut CandidateList,
+) -> Result<(), AllocError>
+    requires { IsOwn (document galley.now style.now) top start }
+    ensures { OnOk result (Collects (document galley.now style.now) top start found.old found.new) }
+{
+    style.stays_in_range();
+    let _ = galley.blocks().as_slice();
+    let space = WalkSpace::new(alloc, galley, style, top, start);
+    let table = filled::<Brand>(alloc, &space, Blank::new(1))?;
+    add_labels(alloc, galley, style, top, table.labels(), found)
+}

@@ -1,0 +1,2 @@
+pub mod Lifted
+pub mod Moves

@@ -1,0 +1,11 @@
+//! The walk over a column's text as a space of the table: states at the fronts of choices, picks as moves.
+//!
+//! Proved: `WalkSpace` keeps the laws that the table wants of a space (`specs/WalkLawful`), with the moves of the walk
+//! of pg_walk_laws (`specs/Meaning`).
+#![tactic(auto)]
+
+mod picks;
+mod space;
+
+pub use picks::{is_loose_enough, variants_at};
+pub use space::{Key, WalkSpace};
