@@ -5,7 +5,6 @@ pub mod Judged
 pub mod Moves
 pub mod Picks
 pub mod Progress
-pub mod Rules
 pub mod Seats
 pub mod Settled
 pub mod Spots

@@ -22,5 +22,5 @@ mod spot;
 mod walk;
 mod whole;
 
-pub use rule::{JudgeFault, Rule};
+pub use rule::JudgeFault;
 pub use whole::judge;
