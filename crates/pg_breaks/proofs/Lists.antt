@@ -1,14 +1,9 @@
 -- Items and offsets of a list in two parts.
 use Rattle.std.proofs.Common.{◌≡◌, refl, ap, ℕ, zero, suc, ◌+◌, ◌<◌, ◌≤◌, List, [], ◌∷◌, ◌++◌, length, drop, arith, Bool, true, false, Some, ◌⊎◌, inl, inr}
-use Rattle.std.specs.Prelude.{slice_get, not, ◌==◌, ◌&&◌}
-use Rattle.std.proofs.lemmas.Bool.Decides.{nat_tests}
+use Rattle.std.specs.Prelude.{slice_get, not, ◌&&◌}
 use Rattle.pg_list.specs.declared.item.Item.{Item}
-use Rattle.pg_list.specs.declared.galley.Place.{Place}
-use Rattle.pg_list.specs.Places.{place}
 use Rattle.pg_list.specs.Shapes.{is_discardable}
 use Rattle.pg_flat.specs.Break.{has_at, follows_solid}
-use Rattle.pg_flat.specs.Flat.{is_same_place}
-use Rattle.std.proofs.lemmas.Bool.{eqb-true}
 
 abbrev pub is_solid : Item → Bool
 is_solid item = not (is_discardable item)

@@ -52,7 +52,7 @@ too_loose : verdict_on (paragraph 0) (points 34) (at 0) (1 ∷ []) (place 0 1 6)
 unfolding paragraph
 too_loose = refl
 
-behind : List Block → Document
+unfoldable pub behind : List Block → Document
 behind blocks = document (record { width = points 345; blocks = two_lengths ∷ blocks }) (choice_style 1)
 
 past_a_forced_break : verdict_on (behind (One gap ∷ One line ∷ One eject ∷ One line ∷ [])) (points 58) (place 0 0 6)

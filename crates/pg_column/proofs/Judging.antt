@@ -47,7 +47,8 @@ steps_within blocks xs to n e = by_bool (is_same_place to (end_of blocks))
 
 -- ---- by the tests one by one
 
-abbrev fault_by : Bool → Bool → Bool → Bool → Bool → Bool → Option ℕ
+-- the least of rules 3 to 6, 11 and 13 that is not kept
+abbrev pub fault_by : Bool → Bool → Bool → Bool → Bool → Bool → Option ℕ
 fault_by formed tolerable passes room limits loose =
     option_or (unless formed 3) (option_or (unless tolerable 4) (option_or (unless passes 5) (option_or (unless room 6)
     (option_or (unless limits 11) (unless loose 13)))))
@@ -79,16 +80,16 @@ module _ (it : ColumnContext) (all : AllByRecursion IsBlock it.document.blocks) 
   abbrev at_end : (ℕ → Bool) → Bool
   at_end test = option_map_or test (size_of it) false
 
-  at_is : (test : ℕ → Bool) → at_end test ≡ test n
+  pub at_is : (test : ℕ → Bool) → at_end test ≡ test n
   at_is test = ap (λ (o : Option ℕ). option_map_or test o false) size
 
   pub within : n ≤ length (flat_items_of it)
   within = steps_within it.document.blocks (flat_items_of it) it.column.to n size
 
-  spent_is : place_spent it.document.blocks it.column.to ≡ is_spent (items_of it) n
+  pub spent_is : place_spent it.document.blocks it.column.to ≡ is_spent (items_of it) n
   spent_is = spent-column it.document.blocks all it.column.to it.column.from it.column.picks n named size
 
-  forced_is : place_forced it.document.blocks it.column.to ≡ is_forced (items_of it) n
+  pub forced_is : place_forced it.document.blocks it.column.to ≡ is_forced (items_of it) n
   forced_is = forced-column it.document.blocks all it.column.to it.column.from it.column.picks n named size
 
   pub penalty_is : 1 ≤ n → place_penalty it.document.blocks it.column.to ≡ break_penalty (items_of it) n

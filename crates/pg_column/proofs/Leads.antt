@@ -1,5 +1,5 @@
 -- The items ahead lead to a place just where it stands among them and so many fronts before it.
-use Rattle.std.proofs.Common.{◌≡◌, refl, sym, ap, ◌∙◌, ℕ, zero, suc, ◌+◌, ◌-◌, ◌≤◌, ◌<◌, List, [], ◌∷◌, length, take, arith, Bool, true, false, Option, Some, None}
+use Rattle.std.proofs.Common.{◌≡◌, refl, sym, ap, ◌∙◌, ℕ, zero, suc, ◌+◌, ◌-◌, ◌≤◌, ◌<◌, List, [], ◌∷◌, length, arith, Bool, true, false, Option, Some, None}
 use Rattle.std.specs.Prelude.{◌==◌, ◌&&◌, cond, not, nat_lt, if◌then◌else◌, option_map}
 use Rattle.std.specs.List.{position, position_or_len}
 use Rattle.std.specs.Option.{option_map_or}
@@ -7,7 +7,6 @@ use Rattle.std.proofs.lemmas.Bool.Decides.{nat_tests}
 use Rattle.pg_list.specs.declared.galley.Place.{Place}
 use Rattle.pg_list.specs.declared.blocks.Block.{Block}
 use Rattle.pg_flat.specs.Flat.{FlatItem, end_of, fronts, is_same_place, steps_to}
-use Rattle.std.proofs.lemmas.List.Sums.{sum_by-cons}
 use Rattle.pg_column.specs.Ahead.{leads_to}
 use Rattle.pg_lemmas.proofs.Bools.{both_of, by_bool, if_false, if_true}
 use Rattle.pg_lemmas.proofs.Numbers.{less_of, not_less, less_true}

@@ -2,9 +2,7 @@
 use Rattle.std.proofs.Common.{◌≡◌, refl, sym, ap, ◌∙◌, subst, ℕ, ◌+◌, List, take, Bool, Option, Some, ℤ, pos, ◌+ℤ◌, ◌-ℤ◌}
 use Rattle.std.specs.Prelude.{◌==◌, if◌then◌else◌}
 use Rattle.std.specs.Option.{option_map_or}
-use Rattle.pg_flat.specs.Badness.{page_badness}
 use Rattle.pg_flat.specs.Break.{break_penalty, is_spent}
-use Rattle.pg_flat.specs.Totals.{total}
 use Rattle.pg_flat.specs.Whole.{square}
 use Rattle.pg_style.specs.Ranges.{IsStyle}
 use Rattle.pg_style.specs.Values.{StyleValue}
@@ -16,6 +14,7 @@ use Rattle.pg_notes.proofs.Sizes.{notes_trimmed}
 use Rattle.pg_sums.specs.AreSums.{AreSums, AreTotals}
 use Rattle.pg_sums.specs.Step.{badness_by}
 use Rattle.pg_sums.specs.SumsValue.{SumsValue}
+use Rattle.pg_sums.proofs.Badness.{badness_is as kept_badness_is}
 use Rattle.pg_sums.specs.declared.totals.Totals.{Totals}
 use Rattle.pg_rules.specs.ColumnRules.{fitness_by, segment, text_badness, text_goal}
 use Rattle.pg_rules.specs.Cost.{penalty_demerits}
@@ -36,26 +35,10 @@ module _ (it : ColumnContext) (n : ℕ) (style : StyleValue) (same : it.document
       goal_same : (a a' b b' : ℤ) → a ≡ a' → b' ≡ b → (a' -ℤ b') ≡ (a -ℤ b)
       goal_same a a' b b' p q = rw (p, q) refl
 
-  badness_same : (spent spent' : Bool) (goal goal' : ℤ) → spent' ≡ spent → goal' ≡ goal →
-      badness_by spent' goal' t
-      ≡ page_badness spent goal (total it.document.style.topskip it.document.style.maxdepth (segment it n))
-      (segment it n)
-  badness_same spent spent' goal goal' a b =
-      rw (
-        a,
-        b,
-        ← totals.total_is,
-        ← totals.finite_is,
-        ← totals.fil_is,
-        ← totals.fill_is,
-        ← totals.filll_is,
-        ←
-            totals.shrink_is,
-      ) refl
-
   pub badness_is : (spent : Bool) → spent ≡ is_spent (items_of it) n →
       badness_by spent (goal_by style height ns) t ≡ text_badness it n
-  badness_is spent spent_is = badness_same _ _ _ _ spent_is goal_is
+  badness_is spent spent_is = kept_badness_is it.document.style.topskip it.document.style.maxdepth (segment it n) t totals
+      _ _ _ _ spent_is goal_is
 
   module _ (spent : Bool) (spent_is : spent ≡ is_spent (items_of it) n) (penalty : ℤ)
       (penalty_is : break_penalty (items_of it) n ≡ Some penalty) where

@@ -25,7 +25,7 @@ use Rattle.pg_rules.specs.ColumnRules.{column_variants, text_goal, text_total, t
 use Rattle.pg_rules.specs.Cost.{penalty_demerits, text_demerits, pick_demerits}
 use Rattle.pg_rules.specs.BestPicks.{keeps_text}
 use Rattle.pg_plain.specs.Plain.{AreSingle, single_items, IsPlainStyle}
-use Rattle.pg_plain.proofs.Singles.{items_are, flat_length, drop_single, drop_items, position_is}
+use Rattle.pg_plain.proofs.Singles.{variants_none, items_are, flat_length, drop_single, drop_items, position_is}
 use Rattle.pg_lemmas.proofs.Bools.{both_of, if_true}
 use Rattle.pg_flat.proofs.Places.{same_place}
 
@@ -39,12 +39,6 @@ fronts_none n [] picks (suc m) single = refl
 fronts_none n (One item ∷ blocks) picks zero single = refl
 fronts_none n (One item ∷ blocks) picks (suc m) single = fronts_none (n + 1) blocks picks m single.1
 fronts_none n (Choice variants ∷ blocks) picks m single = absurd single.0
-
--- no variant is picked
-pub variants_none : (blocks : List Block) (picks : List ℕ) → AreSingle blocks → picked_variants blocks picks ≡ []
-variants_none [] picks single = refl
-variants_none (One item ∷ blocks) picks single = variants_none blocks picks single.1
-variants_none (Choice variants ∷ blocks) picks single = absurd single.0
 
 -- the i-th item stands at the i-th block
 place_of : (n : ℕ) (blocks : List Block) (picks : List ℕ) (i : ℕ) (d : FlatItem) → AreSingle blocks →

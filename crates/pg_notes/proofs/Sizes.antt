@@ -1,5 +1,5 @@
 -- The sizes of a class's inserts, item by item, and without the discardable ones at the front.
-use Rattle.std.proofs.Common.{◌≡◌, ◌≢◌, refl, ap, ◌∙◌, ℕ, List, [], ◌∷◌, ◌++◌, length, arith, Bool, true, false, Option, Some, None, ℤ, pos, ◌+ℤ◌}
+use Rattle.std.proofs.Common.{◌≡◌, ◌≢◌, refl, ap, ◌∙◌, ℕ, List, [], ◌∷◌, ◌++◌, length, arith, Bool, false, Option, Some, None, ℤ, pos, ◌+ℤ◌}
 use Rattle.std.specs.Prelude.{◌==◌, not, if◌then◌else◌, option_map, cond, int_le, ◌&&◌}
 use Rattle.std.specs.List.{find, list_all, cons_option}
 use Rattle.std.proofs.lemmas.List.{append-nil}

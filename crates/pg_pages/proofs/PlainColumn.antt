@@ -1,34 +1,31 @@
 -- The page text of a plain column is the plain one.
-use Rattle.std.proofs.Common.{◌≡◌, ◌∙◌, sym, refl, ap, ◌+◌, ◌-◌, ◌<◌, ◌≤◌, ℕ, arith, subst, List, [], ◌++◌, take, drop, length, append-nil, append_assoc, Bool, true, false, Option, ℤ, pos, ◌-ℤ◌}
+use Rattle.std.proofs.Common.{◌≡◌, ◌∙◌, sym, refl, ap, ◌+◌, ◌-◌, ◌<◌, ◌≤◌, ℕ, arith, subst, List, [], ◌++◌, take, drop, length, append-nil, append_assoc, Bool, true, false, Option}
 use Rattle.std.specs.Prelude.{◌==◌, ◌&&◌, not, if◌then◌else◌, int_lt, codes}
 use Rattle.std.specs.List.{flat_map}
 use Rattle.std.specs.Option.{option_map_or}
 use Rattle.std.proofs.lemmas.Bool.Decides.{nat_tests}
-use Rattle.std.proofs.lemmas.Int.{ints}
 use Rattle.std.proofs.lemmas.List.{drop-drop}
 use Rattle.pg_list.specs.declared.item.Item.{Item}
 use Rattle.pg_flat.specs.Break.{is_spent}
 use Rattle.pg_flat.specs.Rigid.{AreRigid}
 use Rattle.pg_flat.specs.Totals.{trimmed}
 use Rattle.pg_glue.specs.declared.Sense.TheVariants.{Stretch, Shrink}
-use Rattle.pg_glue.specs.Widths.{set_widths}
 use Rattle.pg_plan.specs.declared.pages.PageMove.{PageMove}
 use Rattle.pg_plan.specs.declared.states.Side.{Side}
 use Rattle.pg_plan.specs.declared.states.Side.TheVariants.{S}
 use Rattle.pg_style.specs.Values.{StyleValue}
 use Rattle.pg_style.specs.declared.style.First.{First}
-use Rattle.pg_rules.specs.ColumnRules.{segment, text_total, text_goal, text_badness}
-use Rattle.pg_rules.specs.Cost.{text_demerits, penalty_demerits}
+use Rattle.pg_rules.specs.ColumnRules.{segment, text_total, text_goal}
 use Rattle.pg_rules.specs.History.{next_page, next_side, placed_of, context, side_of}
 use Rattle.pg_rules.specs.Room.{Document, items_of, size_of, is_text}
 use Rattle.pg_plain.specs.Plain.{single_items, items_between, plain_move, plain_context, IsPlainStyle}
 use Rattle.pg_plain.proofs.Singles.{rigid_single}
-use Rattle.pg_plain.proofs.Contexts.{bare_is, with_style, first_column, page_number, context_is, goal_is, items_of_singles, size_is}
+use Rattle.pg_plain.proofs.Contexts.{bare_is, with_style, first_column, page_number, context_is, items_of_singles, size_is}
 use Rattle.pg_pages.specs.SetGlue.{glue_widths, stretching, shrinking, own_width}
 use Rattle.pg_pages.specs.Words.{line}
-use Rattle.pg_pages.specs.PageText.{floats_text, notes_text, area, text_column, column_text, column_body, float_column, column_line, page_line, page_head, set_line, text_area, end_penalty, top_line, top_area, bottom_area}
-use Rattle.pg_pages.specs.PlainText.{numbers_between, numbers_text, text_head, text_of_items, text_between, plain_page_text, own_items}
-use Rattle.pg_pages.proofs.Plain.{AllRigid, items_rigid, rigid_drop, rigid_take, rigid_trimmed, nothing_added, still, stretching_still, shrinking_still, stretching_widths, shrinking_widths, the_text_of_items}
+use Rattle.pg_pages.specs.PageText.{floats_text, notes_text, area, text_column, column_text, column_body, float_column, column_line, page_line, page_head, set_line, text_area, top_line, top_area, bottom_area}
+use Rattle.pg_pages.specs.PlainText.{line_between, text_head, text_of_items, text_between, plain_page_text, own_items}
+use Rattle.pg_pages.proofs.Plain.{AllRigid, items_rigid, rigid_drop, rigid_take, rigid_trimmed, still, stretching_still, shrinking_still, stretching_widths, shrinking_widths, the_text_of_items}
 
 -- ---- no floats and no notes
 
@@ -79,28 +76,6 @@ widths_are doc rigid from to =
     (still (flat_map shrinking items) _ Shrink (shrinking_still items all) ∙ shrinking_widths items all) refl
     ∙ ap (flat_map own_width) (segment_is doc rigid from to)
 
--- ---- its numbers
-
-pub badness_is : (doc : Document) → IsPlainStyle doc.style → AreRigid doc.blocks → (from to : ℕ) → from ≤ to
-    → text_badness (plain_context doc from to) (to - from) ≡ (numbers_between doc from to).badness
-badness_is doc plain rigid from to onward =
-    let goal = goal_is doc plain from to (to - from) in
-    let items = segment_is doc rigid from to in
-    rw (spent_is doc rigid from to onward, goal, items) refl
-
-pub set_line_is : (doc : Document) → IsPlainStyle doc.style → AreRigid doc.blocks → (from to : ℕ) → from ≤ to
-    → set_line (plain_context doc from to) (to - from) ≡ numbers_text (numbers_between doc from to)
-unfolding set_line numbers_text
-set_line_is doc plain rigid from to onward =
-    let it = plain_context doc from to in
-    let n = to - from in
-    let badness = badness_is doc plain rigid from to onward in
-    let demerits : text_demerits it n ≡ (numbers_between doc from to).demerits =
-    let nothing = nothing_added penalty_demerits (items_of it) n (rigid_column doc rigid from to) refl in
-    rw (nothing, badness) (omega (arith, ints)) in
-    let penalty : end_penalty it n ≡ pos 0 = nothing_added (λ (z : ℤ). z) (items_of it) n (rigid_column doc rigid from to) refl in
-    rw (demerits, penalty, badness, goal_is doc plain from to n, segment_is doc rigid from to) refl
-
 -- ---- the whole
 
 parts : (set top text bottom notes set' text' : List ℕ) → set ≡ set' → top ≡ [] → text ≡ text' →
@@ -118,15 +93,15 @@ text_area_is doc rigid from to =
     ∙ sym (append_assoc (line (codes "area text")) (top_line doc.style.topskip (trimmed (items_between doc.blocks from to))) (own_items (trimmed (items_between doc.blocks from to)))))
 
 pub text_is : (doc : Document) → IsPlainStyle doc.style → AreRigid doc.blocks → (from to : ℕ) → from ≤ to
-    → text_column (plain_context doc from to) (to - from) ≡ numbers_text (numbers_between doc from to) ++ text_between doc from to
+    → text_column (plain_context doc from to) (to - from) ≡ line_between doc from to ++ text_between doc from to
 text_is doc plain rigid from to onward =
     let it = plain_context doc from to in
     let n = to - from in
     let top : top_area it ≡ [] = ap (area (codes "top")) (no_floats doc plain []) in
     let bottom : bottom_area it ≡ [] = ap (area (codes "bottom")) (no_floats doc plain _) in
     let notes : area (codes "notes") (notes_text doc.style (segment it n)) ≡ [] = ap (area (codes "notes")) (no_notes doc.style plain (segment it n)) in
-    parts (set_line it n) (top_area it) (text_area it n) (bottom_area it) (area (codes "notes") (notes_text doc.style (segment it n))) (numbers_text (numbers_between doc from to)) (text_between doc from to)
-    (set_line_is doc plain rigid from to onward) top (text_area_is doc rigid from to) bottom notes
+    parts (set_line it n) (top_area it) (text_area it n) (bottom_area it) (area (codes "notes") (notes_text doc.style (segment it n))) (line_between doc from to) (text_between doc from to)
+    refl top (text_area_is doc rigid from to) bottom notes
 
 pub side_is : (style : StyleValue) → IsPlainStyle style → (ms : List PageMove) → next_side style ms ≡ S
 side_is style plain ms = ap (λ (first : First). side_of first (next_page style ms)) plain.single_sides
@@ -146,7 +121,7 @@ joined head head' line body body' e f = rw (e, f) (append_assoc head' line body'
 
 pub body_is : (doc : Document) → IsPlainStyle doc.style → AreRigid doc.blocks → (from to : ℕ) → from < to →
     to ≤ length doc.blocks
-    → column_body (plain_context doc from to) ≡ numbers_text (numbers_between doc from to) ++ text_between doc from to
+    → column_body (plain_context doc from to) ≡ line_between doc from to ++ text_between doc from to
 body_is doc plain rigid from to onward within =
     let it = plain_context doc from to in
     let forward : from ≤ to = omega (arith, onward) in
@@ -162,5 +137,5 @@ pub column_is : (doc : Document) → IsPlainStyle doc.style → AreRigid doc.blo
 column_is doc plain rigid from to onward within ms =
     let m = plain_move from to in
     ap (λ (number : ℕ). (if number == 1 then page_head doc m ms else []) ++ column_line number m.column ++ column_body (context doc m ms)) (first_column doc.style plain.one_column ms)
-    ∙ joined (page_head doc m ms) (page_line (length ms + 1) S 0 []) (column_line 1 m.column) (column_body (context doc m ms)) (numbers_text (numbers_between doc from to) ++ text_between doc from to)
+    ∙ joined (page_head doc m ms) (page_line (length ms + 1) S 0 []) (column_line 1 m.column) (column_body (context doc m ms)) (line_between doc from to ++ text_between doc from to)
     (head_is doc plain from to ms) (ap column_body (context_is doc plain from to ms) ∙ body_is doc plain rigid from to onward within)

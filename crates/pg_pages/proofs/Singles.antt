@@ -1,9 +1,7 @@
 -- The items of blocks, one block more, and texts that grow.
-use Rattle.std.proofs.Common.{◌≡◌, ◌∙◌, sym, refl, ap, ◌+◌, ◌<◌, ◌≤◌, ℕ, zero, suc, arith, List, [], ◌∷◌, ◌++◌, take, length}
+use Rattle.std.proofs.Common.{◌≡◌, ◌∙◌, sym, refl, ap, ◌≤◌, ℕ, zero, suc, arith, List, [], ◌∷◌, ◌++◌, take, length}
 use Rattle.std.proofs.Common.{append_assoc}
 use Rattle.std.specs.Prelude.{OnOk, Result, Ok, Err}
-use Rattle.std.proofs.Math.Seq.{take-suc}
-use Rattle.std.proofs.Math.ListN.{get_or}
 use Rattle.std.proofs.lemmas.List.{take-take}
 use Rattle.pg_list.specs.declared.item.Item.{Item}
 use Rattle.pg_list.specs.declared.blocks.Block.{Block}
@@ -20,13 +18,6 @@ pub singles_length : (xs : List Block) → length (single_items xs) ≤ length x
 singles_length [] = omega arith
 singles_length (One item ∷ xs) = omega (arith, singles_length xs)
 singles_length (Choice variants ∷ xs) = omega (arith, singles_length xs)
-
--- the blocks up to and including the next
-pub one_more : {X : Type 0} (xs : List X) (i : ℕ) (x : X) → i < length xs → x ≡ get_or xs i x →
-    take (i + 1) xs ≡ take i xs ++ x ∷ []
-one_more xs i x less is =
-    let next : i + 1 ≡ suc i = omega arith in
-    ap (λ (k : ℕ). take k xs) next ∙ take-suc xs i x less ∙ ap (λ y. take i xs ++ y ∷ []) (sym is)
 
 pub grows_on : (a b c : List ℕ) → Grows a b → Grows b c → Grows a c
 grows_on a b c one two =

@@ -1,14 +1,12 @@
 -- How an item's shown text stands in a page text.
-use Rattle.std.specs.Prelude.{ℕ, Bool, not, ◌==◌, if◌then◌else◌, List, [], ◌∷◌, ◌++◌, take, drop, codes, ℤ}
+use Rattle.std.specs.Prelude.{ℕ, ◌==◌, if◌then◌else◌, List, [], ◌∷◌, ◌++◌, take, drop, codes, ℤ}
 use Rattle.std.specs.List.{flat_map, prefix_len}
 use Rattle.pg_list.specs.declared.item.Item.{Item}
 use Rattle.pg_list.specs.declared.item.Item.TheVariants.{Insert}
 use Rattle.pg_list.specs.Bodies.{body_of}
 use Rattle.pg_scaled.specs.Scaled.{scaled_text}
 use Rattle.pg_pages.specs.Words.{line}
-
-abbrev pub is_no_feed : ℕ → Bool
-is_no_feed byte = not (byte == 10)
+use Rattle.pg_scan.specs.Lines.{is_no_feed}
 
 -- a point in front of each further line
 abbrev pub dotted : List ℕ → List ℕ

@@ -25,7 +25,8 @@ abbrev pub own_width : Item → List ℤ
 own_width (Glue width stretch order shrink body) = width ∷ []
 own_width _ = []
 
--- stretched to the goal, but for an end with no box behind it; shrunk to it; or as the glue is
+-- stretched to the goal, but where the end is spent, that is, with only discardable items behind it; shrunk to it; or
+-- as the glue is
 abbrev pub glue_widths : ColumnContext → ℕ → List ℤ
 glue_widths it n =
     if int_lt (text_total it n) (text_goal it n) && not (is_spent (items_of it) n)

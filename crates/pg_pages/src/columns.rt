@@ -1,42 +1,30 @@
 //! A column of text: its numbers and its items.
-ghost use Rattle.std.specs.Prelude.{◌≡◌, ◌≤◌, ◌^◌, ◌<◌, ◌+◌, ◌++◌, ◌∷◌, [], OnOk, length, slice_get, List, ℤ, true, nat_abs, pos, ◌≤ℤ◌, ◌-ℤ◌};
-ghost use Rattle.std.specs.Int.{int_max};
-ghost use Rattle.std.specs.Option.{option_map_or};
+ghost use Rattle.std.specs.Prelude.{◌≡◌, ◌≤◌, ◌^◌, ◌++◌, ◌∷◌, [], OnOk, length, true, pos, ◌≤ℤ◌};
 ghost use Rattle.std.specs.List.{AllByRecursion};
+ghost use Rattle.pg_list.specs.Shapes.{begins_with_box};
 ghost use Rattle.pg_list.specs.Shapes.{IsBlock};
 ghost use Rattle.pg_scaled.specs.Ranges.{IsScaled};
-ghost use Rattle.pg_list.specs.declared.item.Item.{Item as AnItem};
 ghost use Rattle.pg_flat.specs.Rigid.{AreRigid};
 ghost use Rattle.pg_flat.specs.Totals.{top_glue, trimmed};
-ghost use Rattle.pg_flat.specs.Whole.{square};
 ghost use Rattle.pg_scaled.specs.Scaled.{Grows, scaled_text};
 ghost use Rattle.pg_sums.specs.AreSums.{AreSums};
 ghost use Rattle.pg_rules.specs.Legal.{document};
-ghost use Rattle.pg_plain.specs.Plain.{IsPlainStyle, plain_room, single_items};
+ghost use Rattle.pg_plain.specs.Plain.{IsPlainStyle, single_items};
 ghost use Rattle.pg_pages.specs.Words.{whole_text};
-ghost use Rattle.pg_pages.specs.PlainText.{numbers_text, sizes_text, costs_text, demerits_line, own_items, own_text, front_is_box, numbers_from, numbers_between as numbers_of_column};
-ghost use Rattle.pg_plain.specs.Plain.{not_over, fits_between};
+ghost use Rattle.pg_pages.specs.PlainText.{numbers_text, sizes_text, costs_text, demerits_line, own_items, own_text, line_between};
+ghost use Rattle.pg_plain.specs.Plain.{fits_between};
 
 use crate::bodies::{print_body, print_set};
 use crate::words::print_whole;
+use pg_breaks::is_spent;
+use pg_column::{TextCost, text_cost};
 use pg_list::{Block, Galley, Item, item_is_box};
-use pg_plain::{add_block, demerits, room};
+use pg_notes::NoteSums;
+use pg_plain::{add_block, front_of, room};
 use pg_scaled::print_scaled;
 use pg_style::Style;
-use pg_sums::Sums;
-use pg_whole::{minus, wide};
+use pg_sums::{Sums, lift};
 use std::alloc::AllocError;
-
-/// The numbers of a text column, lengths in scaled points: what its text is set to, its natural size, the badness
-/// of the difference (TeX: The Program, §108), the penalty at its end, and its demerits.
-#[derive(Clone, Copy, Debug, Drop)]
-pub struct TextNumbers {
-    pub goal: i64,
-    pub total: i64,
-    pub badness: u16,
-    pub penalty: i32,
-    pub demerits: i64,
-}
 
 // A name, and a scaled number behind it.
 pub fn print_length(name: &[u8], length: i64, out: &mut Vec<u8>) -> Result<(), AllocError>
@@ -57,7 +45,7 @@ fn print_number(name: &[u8], number: i128, out: &mut Vec<u8>) -> Result<(), Allo
 }
 
 // The goal and the total.
-fn print_sizes(numbers: &TextNumbers, out: &mut Vec<u8>) -> Result<(), AllocError>
+fn print_sizes(numbers: &TextCost, out: &mut Vec<u8>) -> Result<(), AllocError>
     ensures ok { OnOk result (out.new.items ≡ out.old.items ++ sizes_text numbers.now) }
     ensures grows { Grows out.old.items out.new.items }
 {
@@ -66,7 +54,7 @@ fn print_sizes(numbers: &TextNumbers, out: &mut Vec<u8>) -> Result<(), AllocErro
 }
 
 // The badness and the penalty.
-fn print_costs(numbers: &TextNumbers, out: &mut Vec<u8>) -> Result<(), AllocError>
+fn print_costs(numbers: &TextCost, out: &mut Vec<u8>) -> Result<(), AllocError>
     ensures ok { OnOk result (out.new.items ≡ out.old.items ++ costs_text numbers.now) }
     ensures grows { Grows out.old.items out.new.items }
 {
@@ -86,7 +74,7 @@ fn print_demerits(demerits: i64, out: &mut Vec<u8>) -> Result<(), AllocError>
 
 // The line of a text column's numbers.
 #[tactic(auto, unfolding(crate::specs::PlainText::numbers_text))]
-pub fn print_numbers(numbers: &TextNumbers, out: &mut Vec<u8>) -> Result<(), AllocError>
+pub fn print_numbers(numbers: &TextCost, out: &mut Vec<u8>) -> Result<(), AllocError>
     ensures ok { OnOk result (out.new.items ≡ out.old.items ++ numbers_text numbers.now) }
     ensures grows { Grows out.old.items out.new.items }
 {
@@ -133,7 +121,7 @@ pub fn print_items(blocks: &[Block], out: &mut Vec<u8>) -> Result<(), AllocError
 // Whether a box stands in front.
 fn begins_with_box(blocks: &[Block]) -> bool
     requires { AreRigid blocks.now }
-    ensures { result ≡ front_is_box (single_items blocks.now) }
+    ensures { result ≡ begins_with_box (single_items blocks.now) }
 {
     match blocks {
         [Block::One(item), ..] => item_is_box(item),
@@ -155,14 +143,6 @@ pub fn without_front(blocks: &[Block]) -> &[Block]
         rest = after;
     }
     rest
-}
-
-// The glue above a first box of this height; a higher one has none.
-fn lift(topskip: i32, height: i32) -> i64
-    ensures { result ≡ int_max (pos 0) (topskip -ℤ height) }
-{
-    let space = minus(wide(topskip), wide(height));
-    if space > 0 { space } else { 0 }
 }
 
 // What stands above the first box.
@@ -195,35 +175,17 @@ pub fn sums_of(topskip: i32, maxdepth: i32, blocks: &[Block]) -> Sums
     sums
 }
 
-// The numbers of a column of these blocks that is not over.
-fn numbers_of(style: &Style, blocks: &[Block], is_last: bool) -> TextNumbers
-    requires plain { IsPlainStyle style.now }
-    requires few { length blocks.now ≤ 2 ^ 20 }
-    requires ranges { AllByRecursion IsBlock blocks.now }
-    requires fits { not_over style.now (single_items blocks.now) ≡ true }
-    ensures { result ≡ numbers_from style.now is_last (single_items blocks.now) }
-{
-    let sums = sums_of(style.topskip, style.maxdepth, blocks);
-    let goal = room(style);
-    let badness = sums.page_badness(goal, is_last);
-    TextNumbers {
-        goal,
-        total: sums.total(),
-        badness,
-        penalty: 0,
-        demerits: demerits(style.line, badness),
-    }
-}
-
-/// The numbers of the column from one block to another, which is not over.
-pub fn numbers_between(galley: &Galley, style: &Style, from: usize, to: usize) -> TextNumbers
+/// The numbers of the column from one block to another, which is not over. All penalties of such a galley are 0.
+pub fn numbers_between(galley: &Galley, style: &Style, from: usize, to: usize) -> TextCost
     requires plain { IsPlainStyle style.now }
     requires rigid { AreRigid galley.now.blocks }
     requires onward { from ≤ to }
     requires within { to ≤ length galley.now.blocks }
     requires fits { fits_between (document galley.now style.now) from to ≡ true }
-    ensures { result ≡ numbers_of_column (document galley.now style.now) from to }
+    ensures { numbers_text result ≡ line_between (document galley.now style.now) from to }
 {
     let blocks = &galley.blocks().as_slice()[from..to];
-    numbers_of(style, blocks, to >= galley.solid() as usize)
+    let sums = sums_of(style.topskip, style.maxdepth, blocks);
+    let is_spent = is_spent(galley, front_of(to));
+    text_cost(style, room(style), &sums, &NoteSums::start(), is_spent, 0)
 }

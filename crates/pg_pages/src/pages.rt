@@ -12,7 +12,7 @@ ghost use Rattle.pg_pages.specs.Words.{line, counts_text, place_text};
 ghost use Rattle.pg_pages.specs.PageText.{page_text, none_text, head_counts, head_line, page_side, page_run, page_line, column_line, column_ends as ends_of, column_counts as counts_of};
 ghost use Rattle.pg_flat.specs.Totals.{trimmed};
 ghost use Rattle.pg_plain.specs.Plain.{single_items};
-ghost use Rattle.pg_pages.specs.PlainText.{ArePlainPages, IsPlainPage, numbers_between as numbers_of, numbers_text, text_between, text_of_page, text_head, text_of_items};
+ghost use Rattle.pg_pages.specs.PlainText.{ArePlainPages, IsPlainPage, line_between, text_between, text_of_page, text_head, text_of_items};
 ghost use Rattle.pg_plain.specs.Plain.{fits_between};
 
 use crate::columns::{
@@ -189,7 +189,8 @@ fn print_column_body(
     requires within { to ≤ length galley.now.blocks }
     requires fits { fits_between (document galley.now style.now) from to ≡ true }
     ensures ok { OnOk result (out.new.items ≡ out.old.items
-        ++ (numbers_text (numbers_of (document galley.now style.now) from to) ++ text_between (document galley.now style.now) from to)) }
+        ++ (line_between (document galley.now style.now) from to
+        ++ text_between (document galley.now style.now) from to)) }
     ensures grows { Grows out.old.items out.new.items }
 {
     print_numbers(&numbers_between(galley, style, from, to), out)?;

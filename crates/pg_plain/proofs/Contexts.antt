@@ -1,6 +1,6 @@
 -- What the rules see of a column of text.
-use Rattle.std.proofs.Common.{◌≡◌, ◌∙◌, refl, sym, ap, subst, arith, ℕ, ◌+◌, ◌-◌, ◌≤◌, ◌<◌, List, [], ◌∷◌, length, drop, Bool, true, false, Some, None, pos, inl, inr}
-use Rattle.std.specs.Prelude.{◌==◌, if◌then◌else◌}
+use Rattle.std.proofs.Common.{◌≡◌, ◌∙◌, refl, sym, ap, subst, arith, ℕ, ◌+◌, ◌-◌, ◌≤◌, ◌<◌, List, [], ◌∷◌, length, drop, Some, None, pos, inl, inr}
+use Rattle.std.specs.Prelude.{◌==◌}
 use Rattle.std.specs.List.{position}
 use Rattle.std.proofs.lemmas.Bool.{cases_Bool}
 use Rattle.std.proofs.lemmas.Bool.Decides.{nat_tests}
@@ -12,7 +12,7 @@ use Rattle.pg_flat.specs.Flat.{FlatItem, flat_items_at, flat_items_from, is_same
 use Rattle.pg_plan.specs.declared.pages.PageMove.{PageMove}
 use Rattle.pg_style.specs.Values.{StyleValue}
 use Rattle.pg_style.specs.declared.style.Class.{Class}
-use Rattle.pg_rules.specs.Room.{Document, items_of, size_of, top_height, bottom_height}
+use Rattle.pg_rules.specs.Room.{Document, items_of, room, size_of, top_height, bottom_height}
 use Rattle.pg_rules.specs.ColumnRules.{text_goal}
 use Rattle.pg_rules.specs.History.{next_column, next_page, placed_of, wide_of, context, made_wide, with_wide}
 use Rattle.pg_plain.specs.Plain.{AreSingle, single_items, IsPlainStyle, plain_move, plain_context, plain_room}
@@ -57,6 +57,20 @@ context_is doc plain from to ms =
     rw (wide, before) refl
 
 -- ---- its room
+
+bare_room : (doc : Document) (from to : ℕ) →
+    room (plain_context (with_style doc (bare doc.style)) from to) ≡ plain_room doc.style
+bare_room doc from to =
+    let it = plain_context (with_style doc (bare doc.style)) from to in
+    let top : top_height it ≡ pos 0 = either_way _ (pos 0) in
+    let bottom : bottom_height it ≡ pos 0 = either_way _ (pos 0) in
+    omega (arith, ints, top, bottom)
+
+pub room_is : (doc : Document) → IsPlainStyle doc.style → (from to : ℕ) →
+    room (plain_context doc from to) ≡ plain_room doc.style
+room_is doc plain from to =
+    subst (λ (style : StyleValue). room (plain_context (with_style doc style) from to) ≡ plain_room doc.style)
+    (sym (bare_is doc.style plain)) (bare_room doc from to)
 
 bare_goal : (doc : Document) (from to n : ℕ) →
     text_goal (plain_context (with_style doc (bare doc.style)) from to) n ≡ plain_room doc.style

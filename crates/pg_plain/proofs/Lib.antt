@@ -1,3 +1,4 @@
 pub mod Singles
 pub mod Contexts
 pub mod Tails
+pub mod Fronts

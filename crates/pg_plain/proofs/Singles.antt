@@ -8,7 +8,7 @@ use Rattle.pg_list.specs.declared.blocks.Block.{Block}
 use Rattle.pg_list.specs.declared.blocks.Block.TheVariants.{One, Choice}
 use Rattle.pg_list.specs.Places.{place}
 use Rattle.pg_list.specs.declared.galley.Place.{Place}
-use Rattle.pg_flat.specs.Flat.{FlatItem, flat_items_from, is_same_place}
+use Rattle.pg_flat.specs.Flat.{FlatItem, flat_items_from, is_same_place, picked_variants}
 use Rattle.pg_flat.specs.Rigid.{AreRigid}
 use Rattle.pg_plain.specs.Plain.{AreSingle, single_items}
 
@@ -48,6 +48,12 @@ drop_items zero blocks single = refl
 drop_items (suc k) [] single = refl
 drop_items (suc k) (One item ∷ blocks) single = drop_items k blocks single.1
 drop_items (suc k) (Choice variants ∷ blocks) single = absurd single.0
+
+-- no variant is picked
+pub variants_none : (blocks : List Block) (picks : List ℕ) → AreSingle blocks → picked_variants blocks picks ≡ []
+variants_none [] picks single = refl
+variants_none (One item ∷ blocks) picks single = variants_none blocks picks single.1
+variants_none (Choice variants ∷ blocks) picks single = absurd single.0
 
 abbrev pub not_at : Place → FlatItem → Bool
 not_at to it = not (is_same_place it.place to)

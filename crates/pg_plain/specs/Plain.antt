@@ -55,7 +55,8 @@ plain_room style = style.height +ℤ extra style 0
 
 -- a column of these items is not over
 abbrev pub not_over : StyleValue → List Item → Bool
-not_over style items = not (is_over (total style.topskip style.maxdepth (trimmed items)) (shrink (trimmed items)) (plain_room style))
+not_over style items =
+    not (is_over (total style.topskip style.maxdepth (trimmed items)) (shrink (trimmed items)) (plain_room style))
 
 abbrev pub fits_between : Document → ℕ → ℕ → Bool
 fits_between doc from to = not_over doc.style (items_between doc.blocks from to)

@@ -1,13 +1,13 @@
-//! The room of a column, its sums and its demerits.
+//! The room of a column, its sums and the fronts of blocks.
 ghost use Rattle.std.specs.Prelude.{◌≡◌, ◌≤◌, ◌<◌, ◌+◌, ◌^◌, ◌++◌, ◌∷◌, [], slice_get, List, ℤ, nat_abs, pos};
 ghost use Rattle.std.specs.Option.{option_map_or};
+ghost use Rattle.pg_list.specs.Places.{place};
 ghost use Rattle.pg_list.specs.Shapes.{IsBlock};
 ghost use Rattle.pg_list.specs.declared.item.Item.{Item as AnItem};
-ghost use Rattle.pg_flat.specs.Whole.{square};
 ghost use Rattle.pg_sums.specs.AreSums.{AreSums};
 ghost use Rattle.pg_plain.specs.Plain.{plain_room, single_items};
 
-use pg_list::Block;
+use pg_list::{Block, Place};
 use pg_style::{Run, Style};
 use pg_sums::Sums;
 use pg_whole::{plus, wide};
@@ -24,13 +24,16 @@ pub fn add_block(sums: &mut Sums, block: &Block)
     }
 }
 
-/// The demerits of a text column without a penalty at its end: the square of its badness and the style's demerits
-/// of a line (the form of TeX: The Program, §859).
-pub fn demerits(line: u16, badness: u16) -> i64
-    ensures { result ≡ square (pos (line + badness)) }
+/// The place of the front of a block.
+pub fn front_of(block: usize) -> Place
+    requires { block < 2 ^ 32 }
+    ensures { result ≡ place block 0 0 }
 {
-    let sum = i64::from(line) + i64::from(badness);
-    sum * sum
+    Place {
+        block: block as u32,
+        variant: 0,
+        index: 0,
+    }
 }
 
 // What a run adds to the height; a run that is not there adds nothing.
@@ -47,7 +50,7 @@ fn extra(runs: &[Run], run: usize) -> i64
 /// The room of each column, in scaled points: the style's height and what its first run adds.
 pub fn room(style: &Style) -> i64
     ensures value { result ≡ plain_room style.now }
-    ensures size { nat_abs result < 2 ^ 52 }
+    ensures size { nat_abs result < 2 ^ 40 }
 {
     plus(wide(style.height), extra(style.runs.as_slice(), 0))
 }

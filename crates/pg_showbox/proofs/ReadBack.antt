@@ -31,7 +31,7 @@ use Rattle.pg_scan.specs.Lines.{IsClean}
 use Rattle.pg_showbox.specs.Shown.{IsDeeper, IsShown, IsShownBlock, deeper_text}
 use Rattle.pg_showbox.proofs.RunLemmas.{run_more}
 use Rattle.pg_scan.proofs.LineLemmas.{no_return}
-use Rattle.pg_scan.proofs.WholeReads.{whole_reads}
+use Rattle.pg_showbox.proofs.WholeReads.{whole_reads}
 use Rattle.pg_scaled.proofs.ReadsBack.{AreDigits, from_all_digits}
 use Rattle.std.proofs.lemmas.Fmt.{decimal_is_IsNumeral}
 use Rattle.std.proofs.lemmas.Int.{ints}

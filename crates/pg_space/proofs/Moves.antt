@@ -326,8 +326,8 @@ module _ (blocks : List Block) (style : StyleValue) (one : length style.runs ≡
         to : a.to ≡ b.to
         to = ap (λ (m : PageMove). m.column.to) same
 
-        fitness : a.cost.fitness ≡ b.cost.fitness
-        fitness =
+        same_fitness : a.cost.fitness ≡ b.cost.fitness
+        same_fitness =
             let k = of_filter away_from ends a ca in
             let l = of_filter away_from ends b cb in
             sym (fitness_is a k.0 (not_true (is_same_place at a.to) k.1))
@@ -337,7 +337,7 @@ module _ (blocks : List Block) (style : StyleValue) (one : length style.runs ≡
         by : IsBefore a b → ⊥
         by (inl p) = let e : place_cmp a.to b.to ≡ Equal =
             ap (place_cmp a.to) (sym to) ∙ tied_itself place_total a.to in absurd (cc (e, p))
-        by (inr (e, l)) = let f : a.cost.fitness ≡ b.cost.fitness = fitness in omega arith
+        by (inr (e, l)) = let f : a.cost.fitness ≡ b.cost.fitness = same_fitness in omega arith
 
     moves_are : AreMoves (page_meaning doc) u (steps_of s u ends)
     moves_are = record {

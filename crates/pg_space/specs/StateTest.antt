@@ -1,5 +1,5 @@
 -- The test of a state under a plain style.
-use Rattle.std.specs.Prelude.{ℕ, Bool, true, false, ◌==◌, ◌&&◌, ◌||◌, not, nat_le, nat_lt, List, [], ◌∷◌, length, Option, Some, None}
+use Rattle.std.specs.Prelude.{ℕ, Bool, true, false, ◌==◌, ◌&&◌, ◌||◌, not, nat_le, nat_lt, List, [], ◌∷◌, length, Option}
 use Rattle.std.specs.Option.{is_none, option_map_or}
 use Rattle.pg_list.specs.declared.blocks.Block.{Block}
 use Rattle.pg_list.specs.declared.galley.Place.{Place}
@@ -15,10 +15,6 @@ use Rattle.pg_plan.specs.declared.states.Side.TheVariants.{S}
 abbrev pub has_place : List Block → Place → Bool
 has_place blocks at = (is_same_place at (end_of blocks) || nat_lt at.index (length (items_around blocks at)))
     && (not (at.index == 0) || (at.variant == 0))
-
-abbrev pub is_none : {X : Type 0} → Option X → Bool
-is_none None = true
-is_none (Some x) = false
 
 abbrev pub is_empty_list : {X : Type 0} → List X → Bool
 is_empty_list [] = true

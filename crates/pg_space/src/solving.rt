@@ -8,7 +8,7 @@ ghost use Rattle.pg_plain.specs.Plain.{IsPlainStyle};
 ghost use Rattle.pg_rules.specs.Legal.{document};
 ghost use Rattle.pg_space_laws.specs.PageSpace.{page_meaning};
 ghost use Rattle.pg_table.specs.Label.{IsBestOf, IsTable};
-ghost use Rattle.pg_space.specs.Solves.{Solves};
+ghost use Rattle.pg_space.specs.Solves.{Solves, TakesSteps};
 
 use crate::runs::moves_of;
 use crate::space::PageSpace;
@@ -28,7 +28,7 @@ pub enum Outcome {
 }
 
 /// The best pagination of the galley with its cost, or `NoLegal` where none is legal. The galley is of boxes and glue
-/// that neither stretches nor shrinks, the style is plain. It takes one step for each label.
+/// that neither stretches nor shrinks, the style is plain. It takes one step for each label of a filled table.
 pub fn solve<L: Ledger>(
     alloc: Global,
     galley: &Galley,
@@ -37,7 +37,8 @@ pub fn solve<L: Ledger>(
 ) -> Result<Outcome, AllocError>
     requires rigid { AreRigid galley.now.blocks }
     requires plain { IsPlainStyle style.now }
-    ensures { IfOk result (Solves galley.now style.now) }
+    ensures solves { IfOk result (Solves galley.now style.now) }
+    ensures steps { IfOk result (λ outcome. TakesSteps galley.now style.now steps.old steps.new) }
 {
     let space = PageSpace::new(alloc, galley, style);
     let mut table = Table::new(alloc);

@@ -1,22 +1,17 @@
 -- A stretch has no more items than stand ahead of it up to its front.
-use Rattle.std.proofs.Common.{◌≡◌, refl, sym, ap, ◌∙◌, subst, ℕ, zero, suc, ◌+◌, ◌≤◌, ◌<◌, List, [], ◌∷◌, ◌++◌, length, length-append, drop, arith, Bool, true, false, Option, Some, None}
+use Rattle.std.proofs.Common.{◌≡◌, refl, ap, ◌∙◌, ℕ, zero, suc, ◌+◌, ◌≤◌, ◌<◌, List, [], ◌∷◌, ◌++◌, length, length-append, drop, arith, Bool, true, false, Option, Some, None}
 use Rattle.std.specs.Prelude.{◌==◌, if◌then◌else◌, slice_get, unwrap_or, option_map}
 use Rattle.std.proofs.lemmas.List.{length-drop}
-use Rattle.pg_list.specs.Counts.{block_size, item_count}
-use Rattle.pg_list.specs.declared.item.Item.{Item}
+use Rattle.pg_list.specs.Counts.{item_count}
 use Rattle.pg_list.specs.declared.blocks.Block.{Block}
 use Rattle.pg_list.specs.declared.blocks.Block.TheVariants.{One, Choice}
 use Rattle.pg_list.specs.declared.galley.Place.{Place}
 use Rattle.pg_list.specs.Places.{items_around, picked_items, place}
 use Rattle.pg_list.proofs.Sizes.{item_count_cons, picked_le}
-use Rattle.pg_flat.specs.Flat.{FlatItem, later_flat_items, variant_flat_items}
-use Rattle.pg_breaks.proofs.Walk.{later_length}
+use Rattle.pg_flat.specs.Flat.{variant_flat_items}
+use Rattle.pg_breaks.proofs.Walk.{variant_length}
 use Rattle.pg_column.proofs.Ahead.{drop_at, drop_none}
 use Rattle.pg_walk_laws.specs.Walk.{first_front, first_items, next_front, picked_front, picked_stretch, singles}
-
-variant_long : (b v : ℕ) (items : List Item) → length (variant_flat_items b v items) ≡ length items
-variant_long b v [] = refl
-variant_long b v (x ∷ items) = ap suc (later_length b v 1 items)
 
 pub singles_left : (blocks : List Block) (n : ℕ) →
     length (singles n (drop n blocks)) + item_count (drop (next_front n (drop n blocks)) blocks)
@@ -48,7 +43,7 @@ inner_left blocks b v i =
     let both = length-append (drop i (variant_flat_items b v (items_around blocks (place b v 0))))
     (singles (b + 1) (drop (b + 1) blocks)) in
     let own = length-drop i (variant_flat_items b v (items_around blocks (place b v 0))) in
-    let long = variant_long b v (items_around blocks (place b v 0)) in
+    let long = variant_length b v (items_around blocks (place b v 0)) in
     let here : length (items_around blocks (place b v 0)) + item_count (drop (b + 1) blocks) ≤ item_count (drop b blocks) =
     at (slice_get blocks b) refl in
     omega (arith, behind, both, own, long, here)

@@ -27,12 +27,11 @@ pub struct Totals {
     pub shrink: i64,
 }
 
-// What stands above a first box: as much as puts it at the topskip, and nothing above a higher one (§1001).
-fn lift(topskip: i32, height: i32) -> i64
-    requires topskip { IsScaled topskip }
-    requires height { IsScaled height }
+/// The glue above a first box or rule of this height, in scaled points: as much as puts it at the topskip, and nothing
+/// above a higher one (TeX: The Program, §1001).
+pub fn lift(topskip: i32, height: i32) -> i64
     ensures value { result ≡ int_max (pos 0) (topskip -ℤ height) }
-    ensures size { nat_abs result ≤ 2 ^ 31 }
+    ensures size { IsScaled topskip → IsScaled height → nat_abs result ≤ 2 ^ 31 }
 {
     let room = minus(wide(topskip), wide(height));
     if room > 0 { room } else { 0 }

@@ -170,3 +170,26 @@ fn an_output_that_fails(rt: HostRuntime) -> Result<(), Fail> {
     assert_eq!(rt; end.say.as_slice(), b"pg: output failed\n".as_slice());
     Ok(())
 }
+
+// A galley's text is written in one piece: of a write that fails midway a front stands, and there is no second write.
+#[test]
+fn a_text_is_written_in_one_piece(rt: HostRuntime) -> Result<(), Fail> {
+    let alloc = rt.alloc();
+    let mut failing = World::of(alloc, TWO_LINES.to_vec(alloc)?)?;
+    failing.failing_writes.push((1, 8))?;
+    let end = call(alloc, "show g", failing)?;
+    assert_eq!(rt; end.status, Status::WriteFault);
+    assert_eq!(rt; end.out.as_slice(), b"\\vbox(0.".as_slice());
+    assert_eq!(rt; end.say.as_slice(), b"pg: output failed\n".as_slice());
+
+    for words in ["show g", "run --height 58.0 g"] {
+        let mut failing = World::of(alloc, TWO_LINES.to_vec(alloc)?)?;
+        failing.failing_writes.push((2, 0))?;
+        let end = call(alloc, words, failing)?;
+        assert_eq!(rt; end.status, Status::Done, "of {words}");
+        assert_eq!(rt; end.say.as_slice(), b"".as_slice(), "of {words}");
+    }
+    let end = call(alloc, "show g", World::of(alloc, TWO_LINES.to_vec(alloc)?)?)?;
+    assert_eq!(rt; end.out.as_slice(), TWO_LINES);
+    Ok(())
+}

@@ -1,4 +1,4 @@
-//! Tests of the parts that a column is judged by: breaks, sums, badness, glue, notes and floats.
+//! Tests of the parts that a column is judged by, and of the verdict: breaks, sums, badness, glue, notes, floats.
 //!
 //! What they show and no clause does: that the definitions mean what TeX means, in two documents of which TeX's own
 //! page builder told all that it looked at; and that cases worked out by hand from the rules have the answers that
@@ -7,6 +7,8 @@
 
 #[cfg(test)]
 mod breaks;
+#[cfg(test)]
+mod columns;
 #[cfg(test)]
 mod floats;
 #[cfg(test)]

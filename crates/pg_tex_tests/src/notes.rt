@@ -23,8 +23,8 @@ b i:201:6.0 g b i:200:9.0|21.0|201
 b i:201:6.0 g b i:200:101.0|113.0|200
 b i:100:50.0 g b i:200:9.0|13.0|-";
 
-// Two classes of notes, and one of floats.
-fn note_style(alloc: Global) -> Option<Style> {
+/// The plain style of columns of 58 points with two classes of notes, and one of floats.
+pub fn note_style(alloc: Global) -> Option<Style> {
     let distance = Distance::new(alloc, &[0]).ok()?;
     let mut classes = Classes::new(alloc);
     classes.insert(Class {

@@ -78,6 +78,7 @@ fn push_line(text: &mut Vec<u8>, word: &str) -> Result<(), AllocError> {
         "m" => text.extend_from_slice(b".\\mark{x}")?,
         "choice" => text.extend_from_slice(b".\\special{pg:choice}")?,
         "variant" => text.extend_from_slice(b".\\special{pg:variant 0 0}")?,
+        "loose" => text.extend_from_slice(b".\\special{pg:variant 1 100}")?,
         "end" => text.extend_from_slice(b".\\special{pg:end}")?,
         _ => push_numbered(text, word)?,
     }
@@ -87,7 +88,7 @@ fn push_line(text: &mut Vec<u8>, word: &str) -> Result<(), AllocError> {
 
 /// A galley in words: `b` a box 7 points above and 2 below its baseline, `g` glue of 3 points, `f` the same with
 /// infinite stretch, `k` a kern of 3 points, `m` a mark, `p:10` a penalty, `i:100:5.0` an insert of class 100 and 5
-/// points, and `choice`, `variant` and `end` the markers of a choice.
+/// points, and `choice`, `variant` and `end` the markers of a choice, `loose` that of a variant one line longer.
 pub fn galley(alloc: Global, words: &str) -> Result<Galley, Fail> {
     let mut text = b"\\vbox(0.0+0.0)x345.0\n".to_vec(alloc)?;
     for word in words.split(' ') {

@@ -1,32 +1,14 @@
 -- What the program promises, over any shelf and any sinks.
-use Rattle.std.specs.Prelude.{◌≡◌, ◌↔◌, ℕ, List, [], ⊤, Option, Some, None, IfSome}
+use Rattle.std.specs.Prelude.{◌≡◌, ◌↔◌, ℕ, List, [], ⊤, Option, None, IfSome}
 use Rattle.std.specs.Io.KnownBytes.{Keeps}
 use Rattle.pg_outside.specs.Outside.{Held, Rose}
-use Rattle.pg_top.specs.declared.status.Status.{Status}
-use Rattle.pg_top.specs.declared.status.Status.TheVariants.{Done, NoLegal, Usage, Refused, ReadFault, WriteFault, Memory, NotProved}
-use Rattle.pg_top.specs.Words.{Command, run, show, command_of}
-use Rattle.pg_top.specs.Lines.{usage_line, output_line, memory_line, Says}
-use Rattle.pg_top.specs.Course.{Course, Ended, EndedBefore, OnSettled, OnReadFault, OnWriteFault, OnMemory, ReadLine}
-
--- a shelf over a call: what it tells, how many faults it counted before and after, and its last failed name after
-pub record OverShelf : Type 0 where
-  pub told : Option Held
-  pub before : ℕ
-  pub after : ℕ
-  pub last : Option (List ℕ)
-
-abbrev pub over_shelf : Option Held → ℕ → ℕ → Option (List ℕ) → OverShelf
-over_shelf told before after last = record { told = told; before = before; after = after; last = last }
-
--- a sink over a call: what was written, and how many faults it counted, before and after
-pub record OverSink : Type 0 where
-  pub old : Option (List ℕ)
-  pub new : Option (List ℕ)
-  pub before : ℕ
-  pub after : ℕ
-
-abbrev pub over_sink : Option (List ℕ) → Option (List ℕ) → ℕ → ℕ → OverSink
-over_sink old new before after = record { old = old; new = new; before = before; after = after }
+use Rattle.pg_command.specs.declared.status.Status.{Status}
+use Rattle.pg_command.specs.declared.status.Status.TheVariants.{Done, NoLegal, Usage, Refused, ReadFault, WriteFault}
+use Rattle.pg_command.specs.declared.status.Status.TheVariants.{Memory, NotProved}
+use Rattle.pg_command.specs.Words.{Command, command_of}
+use Rattle.pg_command.specs.Lines.{usage_line, output_line, memory_line, Says}
+use Rattle.pg_course.specs.Course.{Course, Ended, EndedBefore, OnSettled, OnReadFault, OnWriteFault, OnMemory, ReadLine}
+use Rattle.pg_course.specs.Calls.{OverShelf, OverSink, WroteWhole}
 
 -- a file could not be read, with a cause, and nothing was written
 pub record ReadFailed (command : Option Command) (shelf : OverShelf) (out : OverSink) : Type 0 where
@@ -38,12 +20,6 @@ pub record ReadFailed (command : Option Command) (shelf : OverShelf) (out : Over
 pub record WriteFailed (command : Option Command) (shelf : OverShelf) (out : OverSink) : Type 0 where
   pub cause : Rose out.before out.after
   pub front : IfSome shelf.told (λ held. EndedBefore command held out.old out.new)
-
--- the texts that are written before memory runs out: none of a command that writes one text
-abbrev pub WroteWhole : Option Command → OverSink → Type 0
-WroteWhole None out = Keeps out.old out.new
-WroteWhole (Some (run style galley wrap)) out = Keeps out.old out.new
-WroteWhole (Some (show galley wrap)) out = Keeps out.old out.new
 
 -- the course ends with this status, where the bytes are told; memory may run out instead
 abbrev pub EndsAsCourse : Option Command → Option Held → Status → Type 0

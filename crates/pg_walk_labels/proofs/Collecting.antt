@@ -1,7 +1,7 @@
 -- What is collected along the labels in code is what the walk asks for.
 use Rattle.std.proofs.Common.{◌≡◌, refl, sym, subst, ℕ, zero, suc, ◌+◌, inl, inr, Some, Bool, true, false, List, [], ◌∷◌, ◌++◌, arith, ℤ, pos, ◌+ℤ◌}
 use Rattle.std.specs.Prelude.{if◌then◌else◌, reverse, slice_get}
-use Rattle.std.proofs.lemmas.List.{reverse-append}
+use Rattle.pg_walk_laws.proofs.Tables.{turned}
 use Rattle.std.proofs.lemmas.Option.{same_Some}
 use Rattle.pg_list.specs.Places.{place}
 use Rattle.pg_list.specs.declared.galley.Place.{Place}
@@ -77,9 +77,6 @@ module _ (doc : Document) (top : ℤ) (u : WalkState) (cost : ℤ) (ms : List �
   listed k (w ∷ vs) (suc n) v c t e m =
       among_right (pick_ends doc top u cost ms k w) (ends_from doc top u cost ms (k + 1) vs) c
       (listed (k + 1) vs n v c t e (subst (λ (j : ℕ). IsAmong c (Along j v)) (omega arith) m))
-
-turned : (m : ℕ) (ms : List ℕ) → reverse (m ∷ ms) ≡ reverse ms ++ m ∷ []
-turned m ms = reverse-append (m ∷ []) ms
 
 module _ (doc : Document) (top : ℤ) (from : Place) (start : State) (es : List (Entry State ℕ))
     (table : IsTable (space_meaning doc top start) es) (new : List Candidate)

@@ -4,9 +4,9 @@ use Rattle.pg_list.specs.declared.galley.Place.{Place}
 use Rattle.pg_list.specs.Places.{place}
 use Rattle.pg_rules.specs.Legal.{document}
 use Rattle.pg_rules.specs.Room.{Document}
-use Rattle.pg_list.specs.declared.blocks.Block.{Block}
 use Rattle.pg_list.specs.declared.blocks.Block.TheVariants.{One, Choice}
-use Rattle.pg_rules.proofs.Examples.{at, choice_style, eject, gap, line, one_choice, paragraph as two_lengths, plain, points, ten_lines}
+use Rattle.pg_column.proofs.Examples.{behind}
+use Rattle.pg_rules.proofs.Examples.{at, choice_style, eject, gap, line, one_choice, plain, points, ten_lines}
 use Rattle.pg_ends.specs.declared.end.End.{End}
 use Rattle.pg_walk_laws.specs.Candidates.{ends_in, ends_in_each}
 use Rattle.pg_walk_laws.specs.Reached.{reach_of}
@@ -37,7 +37,7 @@ shown to picks badness demerits picked =
 paragraph : Document
 paragraph = document one_choice (choice_style 1)
 
-paragraph-ends : map show (ends_in paragraph (points 34) (candidates_from paragraph (points 34) (at 0)))
+paragraph_ends : map show (ends_in paragraph (points 34) (candidates_from paragraph (points 34) (at 0)))
     ≡ shown (place 0 0 1) (0 ∷ []) 10000 100222600 0
     ∷ shown (place 0 0 4) (0 ∷ []) 10000 100200100 0
     ∷ shown (place 0 0 6) (0 ∷ []) 0 22600 0
@@ -46,40 +46,37 @@ paragraph-ends : map show (ends_in paragraph (points 34) (candidates_from paragr
     ∷ shown (place 0 1 6) (1 ∷ []) 0 100 400
     ∷ []
 unfolding ends_in candidates_from paragraph
-paragraph-ends = refl
+paragraph_ends = refl
 
 lines : Document
 lines = document ten_lines (plain 34)
 
-lines-ends : map (map (λ (end : End). end.to)) (ends_in_each lines (points 10 ∷ points 34 ∷ [])
+lines_ends : map (map (λ (end : End). end.to)) (ends_in_each lines (points 10 ∷ points 34 ∷ [])
     (candidates_from lines (points 34) (at 0))) ≡ (at 1 ∷ []) ∷ (at 1 ∷ at 3 ∷ at 5 ∷ []) ∷ []
 unfolding ends_in candidates_from lines
-lines-ends = refl
+lines_ends = refl
 
 -- ---- the reach of a place
 
 tall_lines : Document
 tall_lines = document ten_lines (plain 58)
 
-reach-start : reach_of tall_lines (at 0) ≡ 12
+reach_start : reach_of tall_lines (at 0) ≡ 12
 unfolding reach_of tall_lines
-reach-start = refl
+reach_start = refl
 
-reach-second : reach_of tall_lines (at 1) ≡ 14
+reach_second : reach_of tall_lines (at 1) ≡ 14
 unfolding reach_of tall_lines
-reach-second = refl
+reach_second = refl
 
-reach-end : reach_of tall_lines (at 19) ≡ 20
+reach_end : reach_of tall_lines (at 19) ≡ 20
 unfolding reach_of tall_lines
-reach-end = refl
+reach_end = refl
 
 -- past a paragraph the longer text decides nothing, the shorter reaches farther; a forced break stops both
-behind : List Block → Document
-behind blocks = document (record { width = points 345; blocks = two_lengths ∷ blocks }) (choice_style 1)
-
-reach-behind : reach_of (behind (One gap ∷ One line ∷ One eject ∷ One line ∷ [])) (place 0 0 6) ≡ 4
+reach_behind : reach_of (behind (One gap ∷ One line ∷ One eject ∷ One line ∷ [])) (place 0 0 6) ≡ 4
 unfolding reach_of behind
-reach-behind = refl
+reach_behind = refl
 
 -- ---- picks that meet
 
@@ -95,7 +92,7 @@ meeting = document (record {
       ∷ One gap ∷ One line ∷ [];
 }) (choice_style 1)
 
-meeting-ends : map show (ends_in meeting (points 34) (candidates_from meeting (points 34) (at 0)))
+meeting_ends : map show (ends_in meeting (points 34) (candidates_from meeting (points 34) (at 0)))
     ≡ shown (place 0 0 1) (0 ∷ []) 10000 100200100 300
     ∷ shown (place 0 1 1) (1 ∷ []) 10000 100200100 200
     ∷ shown (place 0 2 1) (2 ∷ []) 10000 100200100 200
@@ -103,4 +100,4 @@ meeting-ends : map show (ends_in meeting (points 34) (candidates_from meeting (p
     ∷ shown (place 3 0 0) (1 ∷ []) 0 100 200
     ∷ []
 unfolding ends_in candidates_from meeting
-meeting-ends = refl
+meeting_ends = refl

@@ -33,7 +33,7 @@ use Rattle.std.proofs.lemmas.Option.{same_Some}
 use Rattle.pg_walk_laws.proofs.Bounds.{fits_less}
 use Rattle.pg_column.specs.Judged.{is_loose_enough}
 
-turned : (m : ℕ) (ms : List ℕ) → reverse (m ∷ ms) ≡ reverse ms ++ m ∷ []
+pub turned : (m : ℕ) (ms : List ℕ) → reverse (m ∷ ms) ≡ reverse ms ++ m ∷ []
 turned m ms = reverse-append (m ∷ []) ms
 
 module _ (doc : Document) (top : ℤ) (all : AllByRecursion IsBlock doc.blocks) (from : Place)

@@ -1,7 +1,7 @@
 //! The walk over a column's text as a space of the table: states at the fronts of choices, picks as moves.
 //!
-//! Proved: `WalkSpace` is lawful (`specs/WalkLawful`), and a filled table of it tells the labels of the walk of
-//! pg_walk_laws (`table_tells_labels`).
+//! Proved: `WalkSpace` keeps the laws that the table wants of a space (`specs/WalkLawful`), with the moves of the walk
+//! of pg_walk_laws (`specs/Meaning`).
 #![tactic(auto)]
 
 mod picks;

@@ -2,8 +2,9 @@ use Rattle.std.proofs.Common.{◌≡◌, ◌∙◌, sym, ap, ◌+◌, List, [], 
 use Rattle.std.proofs.lemmas.Grind.{flat_map-append}
 use Rattle.pg_plain.specs.Plain.{single_items}
 use Rattle.pg_pages.specs.PlainText.{own_items, own_text}
-use Rattle.pg_pages.proofs.Singles.{singles_append, one_more, grows_on}
+use Rattle.pg_pages.proofs.Singles.{singles_append, grows_on}
 use Rattle.pg_pages.proofs.columns.print_items.Goals as goal
+use Rattle.pg_lemmas.proofs.Lists.{one_more}
 
 pub loop-block-preserved : goal.loop-block-preserved
 loop-block-preserved c =

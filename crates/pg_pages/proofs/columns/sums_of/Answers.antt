@@ -3,8 +3,9 @@ use Rattle.pg_list.specs.declared.item.Item.{Item}
 use Rattle.std.proofs.lemmas.List.{length-take}
 use Rattle.pg_sums.specs.AreSums.{AreSums}
 use Rattle.pg_plain.specs.Plain.{single_items}
-use Rattle.pg_pages.proofs.Singles.{singles_append, singles_length, one_more}
+use Rattle.pg_pages.proofs.Singles.{singles_append, singles_length}
 use Rattle.pg_pages.proofs.columns.sums_of.Goals as goal
+use Rattle.pg_lemmas.proofs.Lists.{one_more}
 
 pub add_block-requires-clause-few : goal.add_block-requires-clause-few
 add_block-requires-clause-few c =

@@ -9,8 +9,9 @@ use Rattle.pg_rules.specs.Legal.{document}
 use Rattle.pg_pages.specs.PageText.{head_line, columns_text, page_text}
 use Rattle.pg_pages.specs.PlainText.{ArePlainPages, text_of_page}
 use Rattle.pg_pages.proofs.PlainPages.{all_at, all_take, page_more}
-use Rattle.pg_pages.proofs.Singles.{one_more, grows_on, take_whole}
+use Rattle.pg_pages.proofs.Singles.{grows_on, take_whole}
 use Rattle.pg_pages.proofs.pages.print_all.Goals as goal
+use Rattle.pg_lemmas.proofs.Lists.{one_more}
 
 pub print_page-requires-clause-page : goal.print_page-requires-clause-page
 print_page-requires-clause-page c =

@@ -1,0 +1,39 @@
+-- Options in front of the names.
+use Rattle.std.proofs.Common.{◌≡◌, ◌≤◌, ◌<◌, ◌-◌, ℕ, arith, List, [], ◌∷◌, refl, length, get_or, take, drop, true}
+use Rattle.std.proofs.Common.{false}
+use Rattle.std.specs.Prelude.{Some, None, map}
+use Rattle.std.proofs.lemmas.List.{take_rest}
+use Rattle.pg_command.specs.declared.words.Options.{Options}
+use Rattle.pg_command.specs.Words.{is_option, with_option, options_in}
+
+-- the first two words, and those behind them
+pub two_words : {X : Type 0} (f : X → List ℕ) (xs : List X) (x y : X) → 2 ≤ length xs → x ≡ get_or xs 0 x
+    → y ≡ get_or xs 1 y
+    → map f xs ≡ f x ∷ f y ∷ map f (take (length xs - 2) (drop 2 xs))
+two_words f [] x y two first second = absurd (omega arith)
+two_words f (a ∷ []) x y two first second = absurd (omega arith)
+two_words f (a ∷ b ∷ cs) x y two first second =
+    rw (take_rest (a ∷ b ∷ cs) 2, first, second) refl
+
+pub few_words : {X : Type 0} (f : X → List ℕ) (options : Options) (xs : List X) → length xs < 2
+    → options_in options (map f xs) ≡ Some (options, map f xs)
+unfolding options_in
+few_words f options [] few = refl
+few_words f options (a ∷ []) few = refl
+few_words f options (a ∷ b ∷ cs) few = absurd (omega arith)
+
+pub no_option : (options : Options) (word value : List ℕ) (words : List (List ℕ)) → is_option word ≡ false
+    → options_in options (word ∷ value ∷ words) ≡ Some (options, word ∷ value ∷ words)
+unfolding options_in
+no_option options word value words test = rw test refl
+
+pub an_option : (options : Options) (word value : List ℕ) (words : List (List ℕ)) (more : Options)
+    → is_option word ≡ true
+    → with_option options word value ≡ Some more → options_in options (word ∷ value ∷ words) ≡ options_in more words
+unfolding options_in
+an_option options word value words more test with = rw (test, with) refl
+
+pub bad_option : (options : Options) (word value : List ℕ) (words : List (List ℕ)) → is_option word ≡ true
+    → with_option options word value ≡ None → options_in options (word ∷ value ∷ words) ≡ None
+unfolding options_in
+bad_option options word value words test with = rw (test, with) refl

@@ -1,0 +1,129 @@
+-- How a run ends: its status, and its line for the user.
+use Rattle.std.specs.Prelude.{ℕ, List, [], ◌∷◌, ◌++◌, codes, decimal, Option, ⊤, ◌⊎◌}
+use Rattle.std.specs.Io.KnownBytes.{Appends}
+use Rattle.pg_outside.specs.Outside.{Rose, AppendsFront}
+use Rattle.pg_showbox.specs.declared.kinds.ListFault.{ListFault}
+use Rattle.pg_showbox.specs.Kinds.{kind_number}
+use Rattle.pg_stylefile.specs.declared.fault.StyleFault.{StyleFault}
+use Rattle.pg_stylefile.specs.Faults as style_faults
+use Rattle.pg_command.specs.declared.ending.Ending.{Ending}
+use Rattle.pg_command.specs.declared.ending.Ending.TheVariants as ending
+use Rattle.pg_command.specs.declared.line.Piece.{Piece}
+use Rattle.pg_command.specs.declared.line.Piece.TheVariants.{Text, Bytes, Number}
+use Rattle.pg_command.specs.declared.status.Status.{Status}
+use Rattle.pg_command.specs.declared.status.Status.TheVariants as status
+
+-- how the program ends with an ending
+abbrev pub status_of : Ending → Status
+status_of ending.Done = status.Done
+status_of ending.NoLegal = status.NoLegal
+status_of ending.Usage = status.Usage
+status_of (ending.TooLong name) = status.Refused
+status_of (ending.NotBuilt name) = status.Refused
+status_of (ending.BadList name fault) = status.Refused
+status_of (ending.BadStyle name fault) = status.Refused
+status_of (ending.UnknownClass class) = status.Refused
+status_of (ending.TooManyFloats count) = status.Refused
+status_of (ending.Unread name) = status.ReadFault
+status_of ending.WriteFault = status.WriteFault
+status_of ending.Memory = status.Memory
+
+-- the numbers of the ends, in their order
+abbrev pub exit_number : Status → ℕ
+exit_number status.Done = 0
+exit_number status.NoLegal = 1
+exit_number status.Usage = 2
+exit_number status.Refused = 3
+exit_number status.ReadFault = 4
+exit_number status.WriteFault = 5
+exit_number status.Memory = 6
+exit_number status.NotProved = 7
+
+-- a line about a file
+abbrev pub file_line : List ℕ → List ℕ → List ℕ
+file_line name text = codes "pg: " ++ (name ++ (text ++ 10 ∷ []))
+
+-- the words are no command
+unfoldable pub usage_line : List ℕ
+usage_line = codes "usage: pg run|edit|check|show|make" ++ 10 ∷ []
+
+-- a file has more bytes than it may have
+unfoldable pub long_line : List ℕ → List ℕ
+long_line name = file_line name (codes ": longer than 67108864 bytes")
+
+-- what a file asks for is not built
+unfoldable pub not_built_line : List ℕ → List ℕ
+not_built_line name = file_line name (codes ": not yet built")
+
+-- a galley's text has a fault in this line, of the kind of this number
+unfoldable pub list_line : List ℕ → ListFault → List ℕ
+list_line name fault =
+    codes "pg: " ++ (name ++ (codes ": line " ++ (decimal fault.line ++
+    (codes ": list fault " ++ (decimal (kind_number fault.kind) ++ 10 ∷ [])))))
+
+-- an empty key is printed as `-`
+abbrev pub key_text : List ℕ → List ℕ
+key_text [] = codes "-"
+key_text (c ∷ cs) = c ∷ cs
+
+-- a style's text has a fault of the kind of this number at this key
+unfoldable pub style_line : List ℕ → StyleFault → List ℕ
+style_line name fault =
+    codes "pg: " ++ (name ++ (codes ": style fault " ++ (decimal (style_faults.kind_number fault.kind) ++
+    (codes " at " ++ (key_text fault.key ++ 10 ∷ [])))))
+
+-- an insert's class is not in the style
+unfoldable pub class_line : ℕ → List ℕ
+class_line class = codes "pg: class " ++ (decimal class ++ codes " is not in the style\n")
+
+-- a galley has so many floats, which are more than are allowed
+unfoldable pub many_line : ℕ → List ℕ
+many_line count = codes "pg: " ++ (decimal count ++ codes " floats are too many\n")
+
+-- a file could not be read
+unfoldable pub unread_line : List ℕ → List ℕ
+unread_line name = file_line name (codes ": cannot be read")
+
+-- the output failed
+unfoldable pub output_line : List ℕ
+output_line = codes "pg: output failed" ++ 10 ∷ []
+
+-- memory ran out
+unfoldable pub memory_line : List ℕ
+memory_line = codes "pg: out of memory" ++ 10 ∷ []
+
+-- the line of an ending, or nothing
+abbrev pub line_of : Ending → List ℕ
+line_of ending.Done = []
+line_of ending.NoLegal = []
+line_of ending.Usage = usage_line
+line_of (ending.TooLong name) = long_line name.now
+line_of (ending.NotBuilt name) = not_built_line name.now
+line_of (ending.BadList name fault) = list_line name.now fault
+line_of (ending.BadStyle name fault) = style_line name.now fault
+line_of (ending.UnknownClass class) = class_line class
+line_of (ending.TooManyFloats count) = many_line count
+line_of (ending.Unread name) = unread_line name.now
+line_of ending.WriteFault = output_line
+line_of ending.Memory = memory_line
+
+-- the line was written, or a front of it and a count rose
+abbrev pub Says : Option (List ℕ) → Option (List ℕ) → ℕ → ℕ → List ℕ → Type 0
+Says old new before now line = Appends old new line ⊎ (Rose before now × AppendsFront old new line)
+
+-- a fact for the ends at which nothing is said
+abbrev pub OnQuiet : Status → Type 0 → Type 0
+OnQuiet status.Done P = P
+OnQuiet status.NoLegal P = P
+OnQuiet end P = ⊤
+
+-- the bytes of a piece; a number is written in decimal digits
+abbrev pub piece_text : Piece → List ℕ
+piece_text (Text text) = text.now
+piece_text (Bytes bytes) = bytes.now
+piece_text (Number number) = decimal number
+
+-- the bytes of all pieces, in turn
+abbrev pub line_text : List Piece → List ℕ
+line_text [] = []
+line_text (piece ∷ pieces) = piece_text piece ++ line_text pieces

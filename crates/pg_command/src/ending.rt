@@ -1,0 +1,58 @@
+//! What ends a run.
+ghost use Rattle.std.specs.Prelude.{◌≡◌};
+ghost use Rattle.pg_command.specs.Lines.{status_of};
+
+use crate::status::Status;
+use pg_showbox::ListFault;
+use pg_stylefile::StyleFault;
+
+/// What ended a run, with the name of the file where one is at fault.
+#[derive(Drop)]
+pub enum Ending<'a> {
+    /// All that was asked for is written.
+    Done,
+    /// The galley has no legal pagination.
+    NoLegal,
+    /// The words are no command.
+    Usage,
+    /// The file has more bytes than it may have.
+    TooLong(&'a str),
+    /// What the file asks for is not built yet.
+    NotBuilt(&'a str),
+    /// The file is no galley.
+    BadList(&'a str, ListFault),
+    /// The file is no style.
+    BadStyle(&'a str, StyleFault),
+    /// The style does not have this class of an insert.
+    UnknownClass(u8),
+    /// The galley has so many floats, which are more than are allowed.
+    TooManyFloats(u32),
+    /// The file cannot be read.
+    Unread(&'a str),
+    /// The output failed.
+    WriteFault,
+    /// Memory ran out.
+    Memory,
+}
+
+impl<'a> Ending<'a> {
+    /// How the program ends with it.
+    pub fn status(&self) -> Status
+        ensures { result ≡ status_of self.now }
+    {
+        match self {
+            Ending::Done => Status::Done,
+            Ending::NoLegal => Status::NoLegal,
+            Ending::Usage => Status::Usage,
+            Ending::TooLong(_)
+            | Ending::NotBuilt(_)
+            | Ending::BadList(..)
+            | Ending::BadStyle(..)
+            | Ending::UnknownClass(_)
+            | Ending::TooManyFloats(_) => Status::Refused,
+            Ending::Unread(_) => Status::ReadFault,
+            Ending::WriteFault => Status::WriteFault,
+            Ending::Memory => Status::Memory,
+        }
+    }
+}

@@ -1,0 +1,134 @@
+//! The line for the user.
+ghost use Rattle.std.specs.Prelude.{◌≡◌, ◌≤◌, ◌++◌};
+ghost use Rattle.pg_command.specs.Lines.{OnQuiet, Says, class_line, key_text, line_of, list_line, many_line, status_of};
+ghost use Rattle.pg_command.specs.Lines.{style_line};
+
+use crate::ending::Ending;
+use crate::line::{Piece, say_pieces};
+use pg_outside::Sink;
+use pg_showbox::ListFault;
+use pg_stylefile::StyleFault;
+
+// A line without a name or number.
+fn say_text<E: Sink>(say: &mut E, text: &str)
+    ensures line { Says (E.written say.old) (E.written say.new) (E.faults say.old) (E.faults say.new) text.now }
+    ensures later { E.faults say.old ≤ E.faults say.new }
+{
+    say_pieces(say, &[Piece::Text(text)]);
+}
+
+// A line about a file.
+fn say_file<'a, E: Sink>(say: &mut E, before: &'a str, name: &'a str, after: &'a str)
+    ensures line { Says (E.written say.old) (E.written say.new) (E.faults say.old) (E.faults say.new)
+        (before.now ++ (name.now ++ after.now)) }
+    ensures later { E.faults say.old ≤ E.faults say.new }
+{
+    say_pieces(
+        say,
+        &[Piece::Text(before), Piece::Text(name), Piece::Text(after)],
+    );
+}
+
+// The line for a fault of a galley's text.
+fn say_list_fault<E: Sink>(say: &mut E, name: &str, fault: &ListFault)
+    ensures line { Says (E.written say.old) (E.written say.new) (E.faults say.old) (E.faults say.new)
+        (list_line name.now fault.now) }
+    ensures later { E.faults say.old ≤ E.faults say.new }
+{
+    say_pieces(
+        say,
+        &[
+            Piece::Text("pg: "),
+            Piece::Text(name),
+            Piece::Text(": line "),
+            Piece::Number(fault.line),
+            Piece::Text(": list fault "),
+            Piece::Number(u32::from(fault.kind.number())),
+            Piece::Text("\n"),
+        ],
+    );
+}
+
+// The key as it is printed.
+fn shown_key(key: &[u8]) -> &[u8]
+    ensures { result.now ≡ key_text key.now }
+{
+    if key.is_empty() { b"-".as_slice() } else { key }
+}
+
+// The line for a fault of a style file.
+fn say_style_fault<'a, E: Sink>(say: &mut E, name: &'a str, fault: &'a StyleFault)
+    ensures line { Says (E.written say.old) (E.written say.new) (E.faults say.old) (E.faults say.new)
+        (style_line name.now fault.now) }
+    ensures later { E.faults say.old ≤ E.faults say.new }
+{
+    say_pieces(
+        say,
+        &[
+            Piece::Text("pg: "),
+            Piece::Text(name),
+            Piece::Text(": style fault "),
+            Piece::Number(u32::from(fault.kind.number())),
+            Piece::Text(" at "),
+            Piece::Bytes(shown_key(fault.key.as_slice())),
+            Piece::Text("\n"),
+        ],
+    );
+}
+
+// The line for a class that the style does not have.
+fn say_class<E: Sink>(say: &mut E, class: u8)
+    ensures line { Says (E.written say.old) (E.written say.new) (E.faults say.old) (E.faults say.new)
+        (class_line class) }
+    ensures later { E.faults say.old ≤ E.faults say.new }
+{
+    say_pieces(
+        say,
+        &[
+            Piece::Text("pg: class "),
+            Piece::Number(u32::from(class)),
+            Piece::Text(" is not in the style\n"),
+        ],
+    );
+}
+
+// The line for too many floats.
+#[tactic(auto, unfolding(crate::specs::Lines::many_line))]
+fn say_count<E: Sink>(say: &mut E, count: u32)
+    ensures line { Says (E.written say.old) (E.written say.new) (E.faults say.old) (E.faults say.new)
+        (many_line count) }
+    ensures later { E.faults say.old ≤ E.faults say.new }
+{
+    say_pieces(
+        say,
+        &[
+            Piece::Text("pg: "),
+            Piece::Number(count),
+            Piece::Text(" floats are too many\n"),
+        ],
+    );
+}
+
+/// Writes the line of how a run ended, in pieces and without memory. A fault ends the writing.
+///
+/// Where there is no line, nothing is written and the sink is as it was.
+pub fn say_line<E: Sink>(ending: &Ending<'_>, say: &mut E)
+    ensures line { Says (E.written say.old) (E.written say.new) (E.faults say.old) (E.faults say.new)
+        (line_of ending.now) }
+    ensures later { E.faults say.old ≤ E.faults say.new }
+    ensures quiet { OnQuiet (status_of ending.now) (say.new ≡ say.old) }
+{
+    match ending {
+        Ending::Done | Ending::NoLegal => {}
+        Ending::Usage => say_text(say, "usage: pg run|edit|check|show|make\n"),
+        Ending::TooLong(name) => say_file(say, "pg: ", name, ": longer than 67108864 bytes\n"),
+        Ending::NotBuilt(name) => say_file(say, "pg: ", name, ": not yet built\n"),
+        Ending::BadList(name, fault) => say_list_fault(say, name, fault),
+        Ending::BadStyle(name, fault) => say_style_fault(say, name, fault),
+        Ending::UnknownClass(class) => say_class(say, *class),
+        Ending::TooManyFloats(count) => say_count(say, *count),
+        Ending::Unread(name) => say_file(say, "pg: ", name, ": cannot be read\n"),
+        Ending::WriteFault => say_text(say, "pg: output failed\n"),
+        Ending::Memory => say_text(say, "pg: out of memory\n"),
+    }
+}

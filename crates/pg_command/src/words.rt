@@ -1,0 +1,209 @@
+//! The words of a command.
+ghost use Rattle.std.specs.Prelude.{◌≡◌, IfSome, IsTrue, map, ◌∷◌, []};
+ghost use Rattle.std.specs.Option.{option_map};
+ghost use Rattle.std.specs.String.{string_bytes};
+ghost use Rattle.pg_command.specs.Words.{command_in, command_of, texts_of, height_of, wrap_of, is_name};
+ghost use Rattle.pg_command.specs.Words.{is_option as is_option_word, with_option as one_more, no_options};
+ghost use Rattle.pg_command.specs.Words.{options_in, run_named, show_named, IsHeight, HasHeight};
+
+use pg_scaled::{Front, read_scaled};
+use pg_scan::whole_word;
+
+/// Which style a run takes.
+#[derive(Clone, Copy)]
+pub enum StyleWord<'a> {
+    /// The style of the file of this name.
+    Named(&'a str),
+    /// The plain style of this page height in scaled points, above 0 and below 2^30.
+    Plain(i32),
+}
+
+/// What the words ask for, with the names as they stand in the words, and the width at which lines
+/// of the galley are joined.
+#[derive(Clone, Copy)]
+pub enum Job<'a> {
+    /// To paginate a galley.
+    Run {
+        style: StyleWord<'a>,
+        galley: &'a str,
+        wrap: Option<u32>,
+    },
+    /// To print a galley.
+    Show {
+        galley: &'a str,
+        wrap: Option<u32>,
+    },
+}
+
+/// What the options between a command and its names say.
+#[derive(Clone, Copy)]
+pub struct Options {
+    pub height: Option<i32>,
+    pub wrap: Option<u32>,
+}
+
+// A whole scaled number above 0.
+fn height(word: &str) -> Option<i32>
+    ensures value { result ≡ height_of word.now }
+    ensures in_range { IfSome result IsHeight }
+{
+    match read_scaled(word.as_bytes()) {
+        Front::Value { value, len } if len == word.len() && value > 0 => Some(value),
+        _ => None,
+    }
+}
+
+// A width at which lines are joined.
+fn wrap_width(word: &str) -> Option<u32>
+    ensures { result ≡ wrap_of word.now }
+{
+    whole_word(1, 65535, word.as_bytes())
+}
+
+fn is_file_name(word: &str) -> bool
+    ensures { result ≡ is_name word.now }
+{
+    match word.as_bytes() {
+        [] | [b'-', ..] => false,
+        _ => true,
+    }
+}
+
+fn is_option(word: &str) -> bool
+    ensures { result ≡ is_option_word word.now }
+{
+    word == "--height" || word == "--wrap"
+}
+
+// The options with one more, which may not stand among them.
+fn with_option(options: &Options, word: &str, value: &str) -> Option<Options>
+    requires { IfSome options.now.height IsHeight }
+    ensures value { result ≡ one_more options.now word.now value.now }
+    ensures in_range { IfSome result (λ more. IfSome more.height IsHeight) }
+{
+    if word == "--height" {
+        if options.height.is_some() {
+            return None;
+        }
+        let height = height(value)?;
+        Some(Options {
+            height: Some(height),
+            wrap: options.wrap,
+        })
+    } else {
+        if options.wrap.is_some() {
+            return None;
+        }
+        let wrap = wrap_width(value)?;
+        Some(Options {
+            height: options.height,
+            wrap: Some(wrap),
+        })
+    }
+}
+
+// The options in front, and the names behind them.
+fn split_options(words: &[String]) -> Option<(Options, &[String])>
+    ensures value { option_map (λ x. (x.0, map string_bytes x.1.now)) result
+        ≡ options_in no_options (map string_bytes words.now) }
+    ensures in_range { IfSome result (λ x. IfSome x.0.height IsHeight) }
+{
+    let mut options = Options {
+        height: None,
+        wrap: None,
+    };
+    let mut rest = words;
+    'options: while let [word, value, after @ ..] = rest {
+        if !is_option(word.as_str()) {
+            return Some((options, rest));
+        }
+        options = with_option(&options, word.as_str(), value.as_str())?;
+        rest = after;
+    }
+    Some((options, rest))
+}
+
+// A run with these options and names.
+fn run_job<'a>(options: &Options, names: &'a [String]) -> Option<Job<'a>>
+    requires { IfSome options.now.height IsHeight }
+    ensures job { option_map command_in result ≡ run_named options.now (map string_bytes names.now) }
+    ensures in_range { IfSome result HasHeight }
+{
+    match names {
+        [galley] => plain_job(options, galley.as_str()),
+        [style, galley] => styled_job(options, style.as_str(), galley.as_str()),
+        _ => None,
+    }
+}
+
+// A run with the plain style.
+fn plain_job<'a>(options: &Options, galley: &'a str) -> Option<Job<'a>>
+    requires { IfSome options.now.height IsHeight }
+    ensures job { option_map command_in result ≡ run_named options.now (galley.now ∷ []) }
+    ensures in_range { IfSome result HasHeight }
+{
+    if !is_file_name(galley) {
+        return None;
+    }
+    let height = options.height?;
+    Some(Job::Run {
+        style: StyleWord::Plain(height),
+        galley,
+        wrap: options.wrap,
+    })
+}
+
+// A run with the style of a file.
+fn styled_job<'a>(options: &Options, style: &'a str, galley: &'a str) -> Option<Job<'a>>
+    ensures job { option_map command_in result ≡ run_named options.now (style.now ∷ galley.now ∷ []) }
+    ensures in_range { IfSome result HasHeight }
+{
+    if is_file_name(style) && (is_file_name(galley) && !options.height.is_some()) {
+        Some(Job::Run {
+            style: StyleWord::Named(style),
+            galley,
+            wrap: options.wrap,
+        })
+    } else {
+        None
+    }
+}
+
+// A show with these options and names.
+fn show_job<'a>(options: &Options, names: &'a [String]) -> Option<Job<'a>>
+    ensures job { option_map command_in result ≡ show_named options.now (map string_bytes names.now) }
+    ensures in_range { IfSome result HasHeight }
+{
+    let [galley] = names else {
+        return None;
+    };
+    let galley = galley.as_str();
+    if !is_file_name(galley) || options.height.is_some() {
+        return None;
+    }
+    Some(Job::Show {
+        galley,
+        wrap: options.wrap,
+    })
+}
+
+/// What the words after the program's name ask for, or None where they are no command.
+///
+/// A command is `run [--wrap N] STYLE GALLEY`, `run --height H [--wrap N] GALLEY` or `show [--wrap N] GALLEY`.
+/// Options stand between the command and the names, in any order, each at most once and with its value as the next
+/// word. H is wholly a scaled number above 0 and below 16384, N is 1 to 65535 in 1 to 10 digits, and a name is not
+/// empty and does not begin with a minus. No memory is taken.
+pub fn command(words: &Vec<String>) -> Option<Job<'_>>
+    ensures command { option_map command_in result ≡ command_of (texts_of words.now) }
+    ensures in_range { IfSome result HasHeight }
+{
+    let [name, rest @ ..] = words.as_slice() else {
+        return None;
+    };
+    let (options, names) = split_options(rest)?;
+    match name.as_str() {
+        "run" => run_job(&options, names),
+        "show" => show_job(&options, names),
+        _ => None,
+    }
+}

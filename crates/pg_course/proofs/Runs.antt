@@ -1,0 +1,216 @@
+-- What a run promises, by what was found for its galley.
+use Rattle.std.proofs.Common.{◌≡◌, ◌≤◌, ◌<◌, ◌^◌, ℕ, sym, ap, List, [], ◌∷◌, refl, subst, true, false, arith}
+use Rattle.std.proofs.Common.{append-nil}
+use Rattle.std.specs.Prelude.{Option, Some, None, Result, Ok, Err, IfSome, MatchOption, nat_le}
+use Rattle.std.specs.List.{list_all}
+use Rattle.std.specs.Result.{result_err}
+use Rattle.std.specs.Io.KnownBytes.{Appends, Keeps}
+use Rattle.std.proofs.lemmas.Bool.Decides.{nat_tests}
+use Rattle.pg_list.specs.GalleyValue.{GalleyValue}
+use Rattle.pg_list.specs.declared.blocks.Block.{Block}
+use Rattle.pg_style.specs.Values.{StyleValue}
+use Rattle.pg_floats.specs.AreFloats.{MakesList, unknown_class, float_total}
+use Rattle.pg_floats.specs.FloatsValue.{ClassFloatsValue}
+use Rattle.pg_floats.specs.declared.fault.FloatFault.{FloatFault}
+use Rattle.pg_floats.specs.declared.fault.FloatFault.TheVariants as float_fault
+use Rattle.pg_outside.specs.Outside.{AppendsFront, Held, Rose}
+use Rattle.pg_command.specs.declared.ending.Ending.{Ending}
+use Rattle.pg_command.specs.declared.ending.Ending.TheVariants as ending
+use Rattle.pg_command.specs.declared.status.Status.{Status}
+use Rattle.pg_command.specs.declared.status.Status.TheVariants.{Done, NoLegal, Usage, Refused, ReadFault, WriteFault}
+use Rattle.pg_command.specs.declared.status.Status.TheVariants.{Memory, NotProved}
+use Rattle.pg_command.specs.Words.{StyleName, run}
+use Rattle.pg_command.specs.Lines.{line_of, many_line, status_of}
+use Rattle.pg_command.proofs.Fronts.{appends_nothing, front_of_more}
+use Rattle.pg_course.specs.Calls.{AreTaken, OverSink, Writes, ending_of, over_sink}
+use Rattle.pg_course.specs.Course.{Stop, opened, opened_style, PaginateGalley, BuiltGalley, RunGalley, RunCourse}
+use Rattle.pg_course.specs.Course.{StyledCourse, EndsBy, BeginsBy, EndedBefore, OnSettled, OnWriteFault}
+use Rattle.pg_course.specs.Galleys.{is_built_block}
+
+on_settled : {P Q : Type 0} → (status : Status) → (P → Q) → OnSettled status P → OnSettled status Q
+on_settled ReadFault f p = tt
+on_settled WriteFault f p = tt
+on_settled Memory f p = tt
+on_settled Done f p = f p
+on_settled NoLegal f p = f p
+on_settled Usage f p = f p
+on_settled Refused f p = f p
+on_settled NotProved f p = f p
+
+pub on_write_fault : {P Q : Type 0} → (status : Status) → (P → Q) → OnWriteFault status P → OnWriteFault status Q
+on_write_fault WriteFault f p = f p
+on_write_fault Done f p = tt
+on_write_fault NoLegal f p = tt
+on_write_fault Usage f p = tt
+on_write_fault Refused f p = tt
+on_write_fault ReadFault f p = tt
+on_write_fault Memory f p = tt
+on_write_fault NotProved f p = tt
+
+-- what does one course does another that follows from it
+pub writes_as : (C D : List (List ℕ) → Status → List ℕ → Type 0) (out : OverSink) (end : Ending) →
+    ((texts : List (List ℕ)) (status : Status) (line : List ℕ) → C texts status line → D texts status line) →
+    Writes C out end → Writes D out end
+writes_as C D out end f w = record {
+  settled =
+      on_settled (status_of end) (λ (e : EndsBy C out.old out.new (status_of end) (line_of end)). record {
+        texts = e.texts;
+        course = f e.texts (status_of end) (line_of end) e.course;
+        written = e.written;
+      }) w.settled;
+  write = w.write;
+  front =
+      on_write_fault (status_of end) (λ (b : BeginsBy C out.old out.new). record {
+        texts = b.texts;
+        end = b.end;
+        line = b.line;
+        course = f b.texts b.end b.line b.course;
+        front = b.front;
+      }) w.front;
+  memory = w.memory;
+  no_read = w.no_read;
+  no_usage = w.no_usage;
+}
+
+-- one text was written
+pub wrote_pages : (C : List (List ℕ) → Status → List ℕ → Type 0) (old new : Option (List ℕ)) (before after : ℕ)
+    (text : List ℕ) → C (text ∷ []) Done [] → Appends old new text →
+    Writes C (over_sink old new before after) ending.Done
+wrote_pages C old new before after text course appends = record {
+  settled = record { texts = text ∷ []; course = course; written = appends_nothing old new text appends };
+  write = tt;
+  front = tt;
+  memory = tt;
+  no_read = tt;
+  no_usage = λ e. absurd (cc);
+}
+
+pub wrote_none : (C : List (List ℕ) → Status → List ℕ → Type 0) (old new : Option (List ℕ)) (before after : ℕ)
+    (text : List ℕ) → C (text ∷ []) NoLegal [] → Appends old new text →
+    Writes C (over_sink old new before after) ending.NoLegal
+wrote_none C old new before after text course appends = record {
+  settled = record { texts = text ∷ []; course = course; written = appends_nothing old new text appends };
+  write = tt;
+  front = tt;
+  memory = tt;
+  no_read = tt;
+  no_usage = λ e. absurd (cc);
+}
+
+-- a front of one text was written
+pub failed_write : (C : List (List ℕ) → Status → List ℕ → Type 0) (old new : Option (List ℕ)) (before after : ℕ)
+    (text : List ℕ) (end : Status) → C (text ∷ []) end [] → AppendsFront old new text → Rose before after →
+    Writes C (over_sink old new before after) ending.WriteFault
+failed_write C old new before after text end course front rose = record {
+  settled = tt;
+  write = rose;
+  front =
+      record {
+        texts = text ∷ [];
+        end = end;
+        line = [];
+        course = course;
+        front = front_of_more old new text [] front;
+      };
+  memory = tt;
+  no_read = tt;
+  no_usage = λ e. absurd (cc);
+}
+
+appends_none : (old : Option (List ℕ)) → Appends old old []
+appends_none None = tt
+appends_none (Some xs) = sym (append-nil xs)
+
+keeps_all : (old : Option (List ℕ)) → Keeps old old
+keeps_all None = tt
+keeps_all (Some xs) = refl
+
+few_test : (a b : ℕ) → a ≤ b → nat_le a b ≡ true
+few_test a b few = grind (arith, nat_tests)
+
+many_test : (a b : ℕ) → b < a → nat_le a b ≡ false
+many_test a b many = grind (arith, nat_tests)
+
+-- a galley without a list of floats is refused, or memory ran out
+pub no_floats : (style : StyleValue) (name : List ℕ) (galley : GalleyValue) (old : Option (List ℕ)) (before : ℕ)
+    (fault : FloatFault) → MakesList (Err fault) galley.blocks style →
+    Writes (RunGalley style name galley) (over_sink old old before before) (ending_of fault)
+no_floats style name galley old before (float_fault.Class number) unknown = record {
+  settled = record { texts = []; course = rw unknown (refl, refl, refl); written = appends_none old };
+  write = tt;
+  front = tt;
+  memory = tt;
+  no_read = tt;
+  no_usage = λ e. absurd (cc);
+}
+no_floats style name galley old before (float_fault.Limit count) many = record {
+  settled =
+      record {
+        texts = [];
+        course =
+            rw (
+              many.0,
+              many_test (float_total galley.blocks style) (2 ^ 12)
+                  (subst (λ (n : ℕ). 2 ^ 12 < n) many.1 many.2),
+            ) (refl, refl, ap many_line many.1);
+        written = appends_none old;
+      };
+  write = tt;
+  front = tt;
+  memory = tt;
+  no_read = tt;
+  no_usage = λ e. absurd (cc);
+}
+no_floats style name galley old before float_fault.Memory known = record {
+  settled = tt;
+  write = tt;
+  front = tt;
+  memory = keeps_all old;
+  no_read = tt;
+  no_usage = λ e. absurd (cc);
+}
+
+-- a galley without a fault of its floats is taken
+pub fault_or_taken : (blocks : List Block) (style : StyleValue) (r : Result (List ClassFloatsValue) FloatFault) →
+    MakesList r blocks style →
+    MatchOption (result_err r) (AreTaken blocks style) (λ fault. MakesList (Err fault) blocks style)
+fault_or_taken blocks style (Ok list) made = (made.1, made.2)
+fault_or_taken blocks style (Err fault) made = made
+
+-- a galley that is built is paginated
+pub built_writes : (style : StyleValue) (name : List ℕ) (galley : GalleyValue) (out : OverSink) (end : Ending) →
+    list_all is_built_block galley.blocks ≡ true → Writes (PaginateGalley style galley) out end →
+    Writes (BuiltGalley style name galley) out end
+built_writes style name galley out end built w =
+    writes_as (PaginateGalley style galley) (BuiltGalley style name galley) out end
+    (λ texts status line course. rw built course) w
+
+-- a galley whose classes the style has and whose floats are few is paginated where it is built
+pub taken_writes : (style : StyleValue) (name : List ℕ) (galley : GalleyValue) (out : OverSink) (end : Ending) →
+    unknown_class galley.blocks style ≡ None → float_total galley.blocks style ≤ 2 ^ 12 →
+    Writes (BuiltGalley style name galley) out end → Writes (RunGalley style name galley) out end
+taken_writes style name galley out end known few w =
+    let test : nat_le (float_total galley.blocks style) (2 ^ 12) ≡ true =
+    few_test (float_total galley.blocks style) (2 ^ 12) few in
+    writes_as (BuiltGalley style name galley) (RunGalley style name galley) out end
+    (λ texts status line course. rw (known, test) course) w
+
+styled : (told : Option Held) (chosen : StyleName) (style : StyleValue) (name : List ℕ) (wrap : Option ℕ)
+    (old new : Option (List ℕ)) → IfSome told (λ held. opened_style chosen held ≡ Ok style) →
+    IfSome told (λ held. BeginsBy (RunCourse style name (opened name wrap (held name))) old new) →
+    IfSome told (λ held. EndedBefore (Some (run chosen name wrap)) held old new)
+styled None chosen style name wrap old new says h = tt
+styled (Some held) chosen style name wrap old new says h =
+    subst (λ (said : Result StyleValue Stop). BeginsBy (StyledCourse said name (opened name wrap (held name))) old new)
+    (sym says) h
+
+-- the style of a file, and a galley of whose text a front was written
+pub styled_begins : (told mid : Option Held) (chosen : StyleName) (style : StyleValue) (name : List ℕ)
+    (wrap : Option ℕ) (old new : Option (List ℕ)) (status : Status) →
+    IfSome told (λ held. opened_style chosen held ≡ Ok style) → mid ≡ told →
+    OnWriteFault status (IfSome mid (λ held. BeginsBy (RunCourse style name (opened name wrap (held name))) old new)) →
+    OnWriteFault status (IfSome told (λ held. EndedBefore (Some (run chosen name wrap)) held old new))
+styled_begins told mid chosen style name wrap old new status says same h =
+    on_write_fault status (λ front. styled told chosen style name wrap old new says
+    (subst (λ (t : Option Held). IfSome t (λ held. BeginsBy (RunCourse style name (opened name wrap (held name))) old
+    new)) same front)) h

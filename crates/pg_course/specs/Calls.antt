@@ -1,0 +1,112 @@
+-- What the function of a command promises, over any shelf and any sink.
+use Rattle.std.specs.Prelude.{◌≡◌, ◌≢◌, ◌↔◌, ◌≤◌, ◌^◌, ℕ, List, Option, Some, None, Result, Err, IfSome}
+use Rattle.std.specs.Io.KnownBytes.{Keeps}
+use Rattle.pg_list.specs.declared.blocks.Block.{Block}
+use Rattle.pg_style.specs.Values.{StyleValue}
+use Rattle.pg_floats.specs.AreFloats.{float_total, unknown_class}
+use Rattle.pg_floats.specs.declared.fault.FloatFault.{FloatFault}
+use Rattle.pg_floats.specs.declared.fault.FloatFault.TheVariants as fault
+use Rattle.pg_outside.specs.Outside.{Held, Rose}
+use Rattle.pg_command.specs.declared.ending.Ending.{Ending}
+use Rattle.pg_command.specs.declared.ending.Ending.TheVariants as ending
+use Rattle.pg_command.specs.declared.status.Status.{Status}
+use Rattle.pg_command.specs.declared.status.Status.TheVariants.{Usage}
+use Rattle.pg_command.specs.Words.{Command, StyleName, run, show}
+use Rattle.pg_command.specs.Lines.{status_of, line_of}
+use Rattle.pg_course.specs.Course.{Ended, EndedBefore, EndsBy, BeginsBy, OnSettled, OnReadFault, OnWriteFault}
+use Rattle.pg_course.specs.Course.{OnMemory, ReadLine, Stop, UnreadFile, UnreadStyle, stop}
+
+-- a shelf over a call: what it tells, how many faults it counted before and after, and its last failed name after
+pub record OverShelf : Type 0 where
+  pub told : Option Held
+  pub before : ℕ
+  pub after : ℕ
+  pub last : Option (List ℕ)
+
+-- these over a call
+abbrev pub over_shelf : Option Held → ℕ → ℕ → Option (List ℕ) → OverShelf
+over_shelf told before after last = record { told = told; before = before; after = after; last = last }
+
+-- a sink over a call: what was written, and how many faults it counted, before and after
+pub record OverSink : Type 0 where
+  pub old : Option (List ℕ)
+  pub new : Option (List ℕ)
+  pub before : ℕ
+  pub after : ℕ
+
+-- these over a call
+abbrev pub over_sink : Option (List ℕ) → Option (List ℕ) → ℕ → ℕ → OverSink
+over_sink old new before after = record { old = old; new = new; before = before; after = after }
+
+-- the texts that are written before memory runs out: none of a command that writes one text. Of a command that
+-- writes more they are the whole texts of the shows before
+abbrev pub WroteWhole : Option Command → OverSink → Type 0
+WroteWhole None out = Keeps out.old out.new
+WroteWhole (Some (run style galley wrap)) out = Keeps out.old out.new
+WroteWhole (Some (show galley wrap)) out = Keeps out.old out.new
+
+-- why the file of a name was not read, and the line that tells it
+abbrev pub NoFile : List ℕ → OverShelf → List ℕ → Type 0
+NoFile name shelf line = UnreadFile name shelf.told shelf.before shelf.after shelf.last line
+
+-- why the style of a name was not read, and the line that tells it
+abbrev pub NoStyle : StyleName → OverShelf → List ℕ → Type 0
+NoStyle style shelf line = UnreadStyle style shelf.told shelf.before shelf.after shelf.last line
+
+-- the promise of a function that reads what a file says, where that ends the run, by its ending
+pub record Stopped {A : Type 0} (said : Held → Result A Stop) (Unread : OverShelf → List ℕ → Type 0)
+    (shelf : OverShelf) (ending : Ending) : Type 0 where
+  pub settled : OnSettled (status_of ending) (IfSome shelf.told (λ held.
+      said held ≡ Err (stop (status_of ending) (line_of ending))))
+  pub read : OnReadFault (status_of ending) (Unread shelf (line_of ending))
+  pub no_write : OnWriteFault (status_of ending) ⊥
+  pub no_usage : status_of ending ≢ Usage
+
+-- the style has the classes of all inserts, and the floats are at most 2^12
+abbrev pub AreTaken : List Block → StyleValue → Type 0
+AreTaken blocks style = (unknown_class blocks style ≡ None) × (float_total blocks style ≤ 2 ^ 12)
+
+-- how a run ends where a galley has no list of floats
+abbrev pub ending_of : FloatFault → Ending
+ending_of (fault.Class number) = ending.UnknownClass number
+ending_of (fault.Limit count) = ending.TooManyFloats count
+ending_of fault.Memory = ending.Memory
+
+-- the promise of a function that writes what a course says of files that were read, by its ending
+pub record Writes (C : List (List ℕ) → Status → List ℕ → Type 0) (out : OverSink) (ending : Ending) : Type 0 where
+  pub settled : OnSettled (status_of ending) (EndsBy C out.old out.new (status_of ending) (line_of ending))
+  pub write : OnWriteFault (status_of ending) (Rose out.before out.after)
+  pub front : OnWriteFault (status_of ending) (BeginsBy C out.old out.new)
+  pub memory : OnMemory (status_of ending) (Keeps out.old out.new)
+  pub no_read : OnReadFault (status_of ending) ⊥
+  pub no_usage : status_of ending ≢ Usage
+
+-- the promise of a function that fetches the file of a name and does what a course says of it, by its ending
+pub record GoesOn (C : Held → List (List ℕ) → Status → List ℕ → Type 0) (name : List ℕ) (shelf : OverShelf)
+    (out : OverSink) (ending : Ending) : Type 0 where
+  pub settled : OnSettled (status_of ending) (IfSome shelf.told (λ held.
+      EndsBy (C held) out.old out.new (status_of ending) (line_of ending)))
+  pub read : OnReadFault (status_of ending) (NoFile name shelf (line_of ending))
+  pub read_keeps : OnReadFault (status_of ending) (Keeps out.old out.new)
+  pub write : OnWriteFault (status_of ending) (Rose out.before out.after)
+  pub front : OnWriteFault (status_of ending) (IfSome shelf.told (λ held. BeginsBy (C held) out.old out.new))
+  pub memory : OnMemory (status_of ending) (Keeps out.old out.new)
+  pub no_usage : status_of ending ≢ Usage
+
+-- the promise of the function of a command, by its ending
+pub record Goes (command : Option Command) (shelf : OverShelf) (out : OverSink) (ending : Ending) : Type 0 where
+  -- where it ended by itself, it wrote exactly the texts of the course and ended as the course does
+  pub settled : OnSettled (status_of ending) (IfSome shelf.told (λ held.
+      Ended command held out.old out.new (status_of ending) (line_of ending)))
+  -- a file could not be read, with a cause, and nothing was written
+  pub read : OnReadFault (status_of ending)
+      (ReadLine command shelf.told shelf.before shelf.after shelf.last (line_of ending))
+  pub read_keeps : OnReadFault (status_of ending) (Keeps out.old out.new)
+  -- the output failed, and a front of the texts was written
+  pub write : OnWriteFault (status_of ending) (Rose out.before out.after)
+  pub front : OnWriteFault (status_of ending) (IfSome shelf.told (λ held. EndedBefore command held out.old out.new))
+  -- memory ran out
+  pub memory : OnMemory (status_of ending) (WroteWhole command out)
+  -- words that are no command, and they alone, are answered so
+  pub usage : (status_of ending ≡ Usage) ↔ (command ≡ None)
+  pub usage_keeps : command ≡ None → Keeps out.old out.new

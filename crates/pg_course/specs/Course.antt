@@ -1,0 +1,200 @@
+-- What the program does when nothing fails and memory is ample: the texts that it writes, how it ends, and its
+-- line for the user.
+use Rattle.std.specs.Prelude.{◌≡◌, ◌^◌, ℕ, List, [], ◌∷◌, length, ◌⊎◌, nat_lt, nat_le, ⊤, Option, Some, None, Result}
+use Rattle.std.specs.Prelude.{Ok, Err, MatchBool, MatchOption, IsSomeAnd, if◌then◌else◌}
+use Rattle.std.specs.List.{concat, list_all}
+use Rattle.std.specs.Io.KnownBytes.{Appends}
+use Rattle.pg_list.specs.GalleyValue.{GalleyValue}
+use Rattle.pg_style.specs.Values.{StyleValue}
+use Rattle.pg_style.specs.Plain as plain_values
+use Rattle.pg_stylefile.specs.declared.fault.StyleFault.{StyleFault}
+use Rattle.pg_stylefile.specs.Style.{style_of_text}
+use Rattle.pg_showbox.specs.declared.kinds.ListFault.{ListFault}
+use Rattle.pg_showbox.specs.Reading.{galley_of}
+use Rattle.pg_showbox.specs.Text.{galley_text}
+use Rattle.pg_outside.specs.Outside.{Held, Rose, AppendsFront}
+use Rattle.pg_command.specs.declared.status.Status.{Status}
+use Rattle.pg_command.specs.declared.status.Status.TheVariants.{Done, Usage, Refused, ReadFault, WriteFault, Memory}
+use Rattle.pg_command.specs.Words.{Command, StyleName, named, plain, run, show}
+use Rattle.pg_floats.specs.AreFloats.{unknown_class, float_total}
+use Rattle.pg_course.specs.Galleys.{is_built_block}
+use Rattle.pg_course.specs.Styles.{is_built_style}
+use Rattle.pg_command.specs.Lines.{usage_line, long_line, not_built_line, list_line, style_line, class_line}
+use Rattle.pg_command.specs.Lines.{many_line, unread_line}
+use Rattle.pg_course.specs.Out.{Out}
+
+-- ---- the course of a command
+
+-- what ends a course without a text
+pub record Stop : Type 0 where
+  pub status : Status
+  pub line : List ℕ
+
+-- this status and line
+abbrev pub stop : Status → List ℕ → Stop
+stop status line = record { status = status; line = line }
+
+-- no text, this end and this line
+abbrev pub Stops : List (List ℕ) → Status → List ℕ → Stop → Type 0
+Stops texts end line stop = (texts ≡ []) × (end ≡ stop.status) × (line ≡ stop.line)
+
+-- the galley that a text says; a fault is named by its line and kind
+abbrev pub said_galley : List ℕ → Result GalleyValue ListFault → Result GalleyValue Stop
+said_galley name (Ok galley) = Ok galley
+said_galley name (Err fault) = Err (stop Refused (list_line name fault))
+
+-- the style that a text says; a fault is named by its kind and key, and other styles are not built yet
+abbrev pub said_style : List ℕ → Result StyleValue StyleFault → Result StyleValue Stop
+said_style name (Ok style) = if is_built_style style then Ok style else Err (stop Refused (not_built_line name))
+said_style name (Err fault) = Err (stop Refused (style_line name fault))
+
+-- the bytes of a file: one that is not there cannot be read, and one of more than 2^26 bytes is too long
+abbrev pub fetched : List ℕ → Option (List ℕ) → Result (List ℕ) Stop
+fetched name None = Err (stop ReadFault (unread_line name))
+fetched name (Some bytes) = if nat_lt (2 ^ 26) (length bytes) then Err (stop Refused (long_line name)) else Ok bytes
+
+-- what the bytes of a file say, where they were fetched
+abbrev pub read_by : {A : Type 0} → (List ℕ → Result A Stop) → Result (List ℕ) Stop → Result A Stop
+read_by say (Ok bytes) = say bytes
+read_by say (Err stop) = Err stop
+
+-- the galley of a file
+abbrev pub opened : List ℕ → Option ℕ → Option (List ℕ) → Result GalleyValue Stop
+opened name wrap file = read_by (λ bytes. said_galley name (galley_of bytes wrap)) (fetched name file)
+
+-- the style of a name: that of its file, or the plain one of its height
+abbrev pub opened_style : StyleName → Held → Result StyleValue Stop
+opened_style (named name) held = read_by (λ bytes. said_style name (style_of_text bytes)) (fetched name (held name))
+opened_style (plain height) held = Ok (plain_values.plain height)
+
+-- one text is written for a galley
+abbrev pub PaginateGalley : StyleValue → GalleyValue → List (List ℕ) → Status → List ℕ → Type 0
+PaginateGalley style galley texts end line =
+    (text : List ℕ) × Out galley style text end × (texts ≡ text ∷ []) × (line ≡ [])
+
+-- galleys that are not built are not paginated yet
+abbrev pub BuiltGalley : StyleValue → List ℕ → GalleyValue → List (List ℕ) → Status → List ℕ → Type 0
+BuiltGalley style name galley texts end line = MatchBool (list_all is_built_block galley.blocks)
+    (PaginateGalley style galley texts end line) (Stops texts end line (stop Refused (not_built_line name)))
+
+-- a galley is refused for the class of its first insert of a class that the style does not have, and then for more
+-- than 2^12 floats
+abbrev pub RunGalley : StyleValue → List ℕ → GalleyValue → List (List ℕ) → Status → List ℕ → Type 0
+RunGalley style name galley texts end line = MatchOption (unknown_class galley.blocks style)
+    (MatchBool (nat_le (float_total galley.blocks style) (2 ^ 12)) (BuiltGalley style name galley texts end line)
+    (Stops texts end line (stop Refused (many_line (float_total galley.blocks style)))))
+    (λ class. Stops texts end line (stop Refused (class_line class)))
+
+-- the galley is read behind the style
+abbrev pub RunCourse : StyleValue → List ℕ → Result GalleyValue Stop → List (List ℕ) → Status → List ℕ → Type 0
+RunCourse style name (Err stop) texts end line = Stops texts end line stop
+RunCourse style name (Ok galley) texts end line = RunGalley style name galley texts end line
+
+-- the style is read first
+abbrev pub StyledCourse : Result StyleValue Stop → List ℕ → Result GalleyValue Stop → List (List ℕ) → Status →
+    List ℕ → Type 0
+StyledCourse (Err stop) name galley texts end line = Stops texts end line stop
+StyledCourse (Ok style) name galley texts end line = RunCourse style name galley texts end line
+
+-- the galley is printed
+abbrev pub ShowGalley : GalleyValue → List (List ℕ) → Status → List ℕ → Type 0
+ShowGalley galley texts end line = (texts ≡ galley_text galley ∷ []) × (end ≡ Done) × (line ≡ [])
+
+-- the galley is read
+abbrev pub ShowCourse : Result GalleyValue Stop → List (List ℕ) → Status → List ℕ → Type 0
+ShowCourse (Err stop) texts end line = Stops texts end line stop
+ShowCourse (Ok galley) texts end line = ShowGalley galley texts end line
+
+-- the course of a command, over the files that are held
+abbrev pub Course : Option Command → Held → List (List ℕ) → Status → List ℕ → Type 0
+Course None held texts end line = Stops texts end line (stop Usage usage_line)
+Course (Some (run style galley wrap)) held texts end line =
+    StyledCourse (opened_style style held) galley (opened galley wrap (held galley)) texts end line
+Course (Some (show galley wrap)) held texts end line = ShowCourse (opened galley wrap (held galley)) texts end line
+
+-- ---- facts for some ends
+
+-- where it ended by itself
+abbrev pub OnSettled : Status → Type 0 → Type 0
+OnSettled ReadFault P = ⊤
+OnSettled WriteFault P = ⊤
+OnSettled Memory P = ⊤
+OnSettled status P = P
+
+-- where a file could not be read
+abbrev pub OnReadFault : Status → Type 0 → Type 0
+OnReadFault ReadFault P = P
+OnReadFault status P = ⊤
+
+-- where the output failed
+abbrev pub OnWriteFault : Status → Type 0 → Type 0
+OnWriteFault WriteFault P = P
+OnWriteFault status P = ⊤
+
+-- where memory ran out
+abbrev pub OnMemory : Status → Type 0 → Type 0
+OnMemory Memory P = P
+OnMemory status P = ⊤
+
+-- ---- how a call went
+
+-- a course ends with this status and line, and its texts are what was written
+pub record EndsBy (C : List (List ℕ) → Status → List ℕ → Type 0) (old new : Option (List ℕ)) (status : Status)
+    (line : List ℕ) : Type 0 where
+  pub texts : List (List ℕ)
+  pub course : C texts status line
+  pub written : Appends old new (concat texts)
+
+-- a course has texts of which a front was written
+pub record BeginsBy (C : List (List ℕ) → Status → List ℕ → Type 0) (old new : Option (List ℕ)) : Type 0 where
+  pub texts : List (List ℕ)
+  pub end : Status
+  pub line : List ℕ
+  pub course : C texts end line
+  pub front : AppendsFront old new (concat texts)
+
+-- the command's course ends so
+abbrev pub Ended : Option Command → Held → Option (List ℕ) → Option (List ℕ) → Status → List ℕ → Type 0
+Ended command held old new status line = EndsBy (Course command held) old new status line
+
+-- the command's course begins so
+abbrev pub EndedBefore : Option Command → Held → Option (List ℕ) → Option (List ℕ) → Type 0
+EndedBefore command held old new = BeginsBy (Course command held) old new
+
+-- a name is the file of a style
+abbrev pub IsStyleFile : StyleName → List ℕ → Type 0
+IsStyleFile (named style) name = name ≡ style
+IsStyleFile (plain height) name = ⊥
+
+-- a name is a file of the command
+abbrev pub IsFileOf : Option Command → List ℕ → Type 0
+IsFileOf None name = ⊥
+IsFileOf (Some (run style galley wrap)) name = IsStyleFile style name ⊎ (name ≡ galley)
+IsFileOf (Some (show galley wrap)) name = name ≡ galley
+
+-- the shelf failed in this call, at a file of the command, and the line says so
+abbrev pub FailedAt : Option Command → ℕ → ℕ → Option (List ℕ) → List ℕ → Type 0
+FailedAt command before after None line = ⊥
+FailedAt command before after (Some name) line = Rose before after × IsFileOf command name
+    × (line ≡ unread_line name)
+
+-- why a file was not read, and the line that tells it: the shelf failed, or the course ends so
+abbrev pub ReadLine : Option Command → Option Held → ℕ → ℕ → Option (List ℕ) → List ℕ → Type 0
+ReadLine command told before after last line =
+    FailedAt command before after last line ⊎ IsSomeAnd told (λ held. Course command held [] ReadFault line)
+
+-- the same of one file, whatever the command
+abbrev pub FailedFile : List ℕ → ℕ → ℕ → Option (List ℕ) → List ℕ → Type 0
+FailedFile name before after None line = ⊥
+FailedFile name before after (Some failed) line = Rose before after × (failed ≡ name) × (line ≡ unread_line failed)
+
+-- why a file was not read, and the line that tells it
+abbrev pub UnreadFile : List ℕ → Option Held → ℕ → ℕ → Option (List ℕ) → List ℕ → Type 0
+UnreadFile name told before after last line =
+    FailedFile name before after last line
+    ⊎ IsSomeAnd told (λ held. fetched name (held name) ≡ Err (stop ReadFault line))
+
+-- why the style of a name was not read: its file was not
+abbrev pub UnreadStyle : StyleName → Option Held → ℕ → ℕ → Option (List ℕ) → List ℕ → Type 0
+UnreadStyle (named name) told before after last line = UnreadFile name told before after last line
+UnreadStyle (plain height) told before after last line = ⊥

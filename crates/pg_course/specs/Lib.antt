@@ -1,0 +1,5 @@
+pub mod Out
+pub mod Galleys
+pub mod Styles
+pub mod Course
+pub mod Calls

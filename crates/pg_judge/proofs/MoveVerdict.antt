@@ -1,0 +1,65 @@
+-- The verdict on a column behind others, from those on its parts.
+use Rattle.std.proofs.Common.{◌≡◌, refl, sym, ◌∙◌, ℕ, arith, List, Bool, true, false, Option, Some}
+use Rattle.std.specs.Prelude.{◌&&◌, nat_lt, if◌then◌else◌, Result, Ok, Err}
+use Rattle.std.specs.List.{AllByRecursion}
+use Rattle.std.specs.Option.{option_or}
+use Rattle.pg_list.specs.Shapes.{IsBlock}
+use Rattle.pg_plan.specs.declared.pages.PageMove.{PageMove}
+use Rattle.pg_rules.specs.ColumnRules.{is_well_formed, is_tolerable, passes_breaks, has_room, has_counts, keeps_note_limits, keeps_looseness}
+use Rattle.pg_rules.specs.Floats.{floats}
+use Rattle.pg_rules.specs.History.{context, next_column, next_run, placed_of}
+use Rattle.pg_rules.specs.Legal.{deals_floats, has_callouts, has_run, has_wide_counts, is_chained, is_near, unless}
+use Rattle.pg_rules.specs.Room.{Document}
+use Rattle.pg_column.specs.Judged.{text_fault}
+use Rattle.pg_lemmas.proofs.Numbers.{less_of, less_true}
+use Rattle.pg_judge.specs.Judged.{JudgesColumn}
+use Rattle.pg_judge.specs.Moves.{JudgesMove, decided, least_rule}
+use Rattle.pg_judge.specs.Verdict.{first_false, tests_on}
+use Rattle.pg_judge.specs.declared.judged.ColumnCost.{ColumnCost}
+use Rattle.pg_judge.proofs.Capped.{AreFew}
+use Rattle.pg_judge.proofs.Deals.{AreAdded}
+use Rattle.pg_judge.proofs.LeastRules.{added_rule, least_is}
+
+module _ (doc : Document) (all : AllByRecursion IsBlock doc.blocks) (few : AreFew (floats doc.blocks doc.style))
+    (m : PageMove) (ms : List PageMove) (chained : is_chained doc m ms ≡ true) where
+  abbrev added_fault : Option ℕ
+  added_fault = added_rule (has_counts (context doc m ms) && has_wide_counts doc (next_column doc.style ms) m)
+      (deals_floats doc (placed_of doc.style ms) m (context doc m ms)) (has_callouts doc (placed_of doc.style ms) m)
+      (is_near doc m ms)
+
+  least : first_false 2 (tests_on doc m ms)
+      ≡ least_rule (text_fault (context doc m ms)) added_fault (has_run doc.style (next_run doc.style ms) m)
+  least = rw chained (sym (least_is (is_well_formed (context doc m ms)) (is_tolerable (context doc m ms))
+      (passes_breaks (context doc m ms)) (has_room (context doc m ms))
+      (has_counts (context doc m ms) && has_wide_counts doc (next_column doc.style ms) m)
+      (deals_floats doc (placed_of doc.style ms) m (context doc m ms)) (has_callouts doc (placed_of doc.style ms) m)
+      (is_near doc m ms) (keeps_note_limits (context doc m ms)) (has_run doc.style (next_run doc.style ms) m)
+      (keeps_looseness (context doc m ms))))
+
+  pub move_is : (own : Result ColumnCost ℕ) (added : Result ℕ ℕ) (run : Bool) → JudgesColumn (context doc m ms) own →
+      AreAdded doc all few m ms added → run ≡ has_run doc.style (next_run doc.style ms) m →
+      JudgesMove doc m ms (decided own added run)
+  move_is (Ok own) (Ok price) true a b r = (least ∙ rw (a.0, b.0, sym r) refl, a.1, b.1)
+  move_is (Ok own) (Ok price) false a b r = least ∙ rw (a.0, b.0, sym r) refl
+  move_is (Ok own) (Err rule) run a b r = least ∙ rw (a.0, b) refl
+  move_is (Err rule) (Err other) run a b r =
+      by (nat_lt rule 7) (least ∙ rw (a, b) refl)
+    where
+      by : (t : Bool) → first_false 2 (tests_on doc m ms) ≡ (if t then Some rule else Some other) →
+          JudgesMove doc m ms (if t then Err rule else Err other)
+      by true e = e
+      by false e = e
+  move_is (Err rule) (Ok price) run a b r =
+      by (nat_lt rule 7) (nat_lt rule 12) run (wider rule) (least ∙ rw (a, b.0, sym r) refl)
+    where
+      wider : (rule : ℕ) → nat_lt rule 7 ≡ true → nat_lt rule 12 ≡ true
+      wider rule e = less_of rule 12 (let h = less_true rule 7 e in omega (arith, h))
+
+      by : (s t u : Bool) → (s ≡ true → t ≡ true) → first_false 2 (tests_on doc m ms)
+          ≡ (if s then Some rule else (if t then Some rule else option_or (unless u 12) (Some rule))) →
+          JudgesMove doc m ms (if t then Err rule else (if u then Err rule else Err 12))
+      by true true u h e = e
+      by true false u h e = let k : false ≡ true = h refl in absurd cc
+      by false true u h e = e
+      by false false true h e = e
+      by false false false h e = e

@@ -1,0 +1,23 @@
+-- What a page leaves to a column.
+use Rattle.std.specs.Prelude.{◌≡◌, ◌<◌, ◌^◌, is_some, nat_abs}
+use Rattle.pg_rules.specs.Room.{ColumnContext, bottom_height, full_height, is_bottom_allowed, is_text, is_top_allowed, top_height, wide_height}
+use Rattle.pg_judge.specs.Given.{IsAreaHeight}
+use Rattle.pg_judge.specs.declared.seat.Seat.{Seat}
+
+-- heights within their ranges
+pub record AreHeights (seat : Seat) : Type 0 where
+  pub full : nat_abs seat.full < 2 ^ 33
+  pub wide : IsAreaHeight seat.wide
+  pub top : IsAreaHeight seat.top
+  pub bottom : IsAreaHeight seat.bottom
+
+-- what the rules say of a column in its context
+pub record IsSeat (it : ColumnContext) (seat : Seat) : Type 0 where
+  pub text : seat.is_text ≡ is_text it
+  pub top_allowed : seat.is_top_allowed ≡ is_top_allowed it
+  pub bottom_allowed : seat.is_bottom_allowed ≡ is_bottom_allowed it
+  pub has_wide : seat.has_wide ≡ is_some it.wide
+  pub full : seat.full ≡ full_height it
+  pub wide : seat.wide ≡ wide_height it
+  pub top : seat.top ≡ top_height it
+  pub bottom : seat.bottom ≡ bottom_height it

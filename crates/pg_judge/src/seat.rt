@@ -1,0 +1,163 @@
+//! What a page leaves to a column: which floats it may have, and how high its areas are.
+ghost use Rattle.std.specs.Prelude.{◌≡◌, ◌≤◌, ◌<◌, ◌^◌, ◌-ℤ◌, if◌then◌else◌, List, ℕ, length, nat_abs, not, is_some};
+ghost use Rattle.pg_flat.specs.Flat.{is_same_place as is_same_place_of};
+ghost use Rattle.pg_rules.specs.Floats.{float_numbers, is_area_allowed, plus_counts, takes_bottom, takes_in_column, takes_top};
+ghost use Rattle.pg_rules.specs.Floats.{floats};
+ghost use Rattle.pg_rules.specs.Room.{checked_height};
+ghost use Rattle.pg_floats.specs.AreFloats.{AreFloats};
+ghost use Rattle.pg_list.specs.declared.blocks.Block.{Block as ABlock};
+ghost use Rattle.pg_style.specs.Ranges.{IsStyle};
+ghost use Rattle.pg_judge.specs.Counts.{capped};
+ghost use Rattle.pg_judge.specs.Given.{IsListOf, IsWideHeight, seated};
+ghost use Rattle.pg_judge.specs.Seats.{AreHeights, IsSeat};
+
+use crate::areas::{checked_area, full_height};
+use crate::counts::is_allowed;
+use crate::spot::Spot;
+use pg_floats::FloatList;
+use pg_list::{Galley, Place};
+use pg_plan::{Column, Counts};
+use pg_style::Style;
+use pg_whole::minus;
+
+/// What a page leaves to a column. Heights are in scaled points.
+#[derive(Clone, Copy)]
+pub struct Seat {
+    pub is_text: bool,
+    pub is_top_allowed: bool,
+    pub is_bottom_allowed: bool,
+    pub has_wide: bool,
+    pub full: i64,
+    pub wide: i64,
+    pub top: i64,
+    pub bottom: i64,
+}
+
+impl Seat {
+    /// What the areas leave of the column's height.
+    pub fn room(&self) -> i64
+        requires { AreHeights self.now }
+        ensures value { result ≡ ((self.now.full -ℤ self.now.wide) -ℤ self.now.top) -ℤ self.now.bottom }
+        ensures size { nat_abs result < 2 ^ 40 }
+    {
+        minus(minus(minus(self.full, self.wide), self.top), self.bottom)
+    }
+}
+
+/// Whether two places are one.
+pub fn is_same_place(a: Place, b: Place) -> bool
+    ensures { result ≡ is_same_place_of a b }
+{
+    a.block == b.block && a.variant == b.variant && a.index == b.index
+}
+
+fn is_top_allowed(style: &Style, slots: usize, is_text: bool, counts: &Counts) -> bool
+    requires slots { slots ≡ length (float_numbers style.now) }
+    requires few { slots ≤ 8 }
+    ensures { result ≡ (if is_text then is_area_allowed style.now takes_top style.now.top.count counts.now
+        else is_area_allowed style.now takes_in_column style.now.float_column.count counts.now) }
+{
+    if is_text {
+        is_allowed(style, Spot::Top, style.top.count, slots, counts.as_slice())
+    } else {
+        is_allowed(
+            style,
+            Spot::Column,
+            style.float_column.count,
+            slots,
+            counts.as_slice(),
+        )
+    }
+}
+
+fn is_bottom_allowed(style: &Style, slots: usize, is_text: bool, counts: &Counts) -> bool
+    requires slots { slots ≡ length (float_numbers style.now) }
+    requires few { slots ≤ 8 }
+    ensures { result ≡ (if is_text then is_area_allowed style.now takes_bottom style.now.bottom.count counts.now
+        else is_area_allowed style.now takes_in_column style.now.float_column.count counts.now) }
+{
+    if is_text {
+        is_allowed(
+            style,
+            Spot::Bottom,
+            style.bottom.count,
+            slots,
+            counts.as_slice(),
+        )
+    } else {
+        is_allowed(
+            style,
+            Spot::Column,
+            style.float_column.count,
+            slots,
+            counts.as_slice(),
+        )
+    }
+}
+
+// The height of the top area.
+fn top_area(
+    style: &Style,
+    list: &FloatList,
+    is_allowed: bool,
+    placed: &Counts,
+    counts: &Counts,
+) -> i64
+    ensures { (blocks : List ABlock) → AreFloats blocks style.now list.now →
+        result ≡ checked_height (floats blocks style.now) is_allowed style.now.top placed.now counts.now }
+{
+    checked_area(list, is_allowed, &style.top, placed, counts)
+}
+
+// The height of the bottom area.
+fn bottom_area(
+    style: &Style,
+    list: &FloatList,
+    is_allowed: bool,
+    placed: &Counts,
+    counts: &Counts,
+) -> i64
+    ensures { (blocks : List ABlock) → AreFloats blocks style.now list.now →
+        result ≡ checked_height (floats blocks style.now) is_allowed style.now.bottom placed.now counts.now }
+{
+    checked_area(list, is_allowed, &style.bottom, placed, counts)
+}
+
+/// The seat of a column on a page of a run, with a wide area of this height. `before` counts the floats placed before
+/// its top area, and `below` those placed before its bottom area.
+pub fn seat_of(
+    galley: &Galley,
+    style: &Style,
+    list: &FloatList,
+    slots: usize,
+    column: &Column,
+    run: u8,
+    wide: Option<i64>,
+    before: &Counts,
+    below: &Counts,
+) -> Seat
+    requires list { IsListOf galley.now.blocks style.now list.now }
+    requires slots { slots ≡ length (float_numbers style.now) }
+    requires few { slots ≤ 8 }
+    requires wide { IsWideHeight wide }
+    ensures heights { AreHeights result }
+    ensures seat { (placed : List ℕ) → before.now ≡ capped placed → below.now ≡ capped
+        (plus_counts style.now placed column.now.top) →
+        IsSeat (seated galley.now style.now column.now run wide placed) result }
+{
+    let _ = galley;
+    style.stays_in_range();
+    let is_text = !is_same_place(column.from, column.to);
+    let is_top_allowed = is_top_allowed(style, slots, is_text, &column.top);
+    let is_bottom_allowed = is_bottom_allowed(style, slots, is_text, &column.bottom);
+    Seat {
+        is_text,
+        is_top_allowed,
+        is_bottom_allowed,
+        has_wide: wide.is_some(),
+        full: full_height(style, run),
+        wide: wide.unwrap_or(0),
+        top: top_area(style, list, is_top_allowed, before, &column.top),
+        bottom: bottom_area(style, list, is_bottom_allowed, below, &column.bottom),
+    }
+}

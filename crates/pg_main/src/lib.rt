@@ -1,0 +1,67 @@
+//! The program over the system: the top call over the files under the working folder, standard output and standard
+//! error, and the exit status.
+//!
+//! Proved: that it is safe and ends, and that the exit status is that of how the top call ended (`exit_code`). No
+//! contract can say what the system gives and takes.
+#![tactic(auto)]
+
+ghost use Rattle.std.specs.Prelude.{◌≡◌};
+ghost use Rattle.std.specs.Process.{exit_status};
+ghost use Rattle.pg_command.specs.Lines.{exit_number};
+
+use pg_outside::{FileShelf, StreamSink};
+use pg_steps::Steps;
+use pg_top::{Status, serve};
+use std::alloc::Global;
+use std::marker::Brand;
+use std::process::ExitCode;
+use std::sync::ledger::{Blank, Ledger};
+use std::{env, io};
+
+/// The exit number where memory for the words is wanting.
+const NO_MEMORY: u8 = 6;
+
+/// The exit number where the system does not give the words, which no status has.
+const NO_WORDS: u8 = 8;
+
+/// The exit code of how the program ended.
+pub fn exit_code(status: Status) -> ExitCode
+    ensures { exit_status result ≡ exit_number status }
+{
+    ExitCode::from(status.number())
+}
+
+// Serves the words, over the files under the working folder, standard output and standard error.
+fn run<L: Ledger>(rt: &HostRuntime, words: &Vec<String>, blank: Blank) -> Status
+    requires name { blank.name ≡ L.name }
+    requires parts { blank.parts ≡ L.parts }
+    requires one { blank.parts ≡ 1 }
+{
+    let mut shelf = FileShelf::new(rt);
+    let mut out = StreamSink::new(rt.stdout());
+    let mut say = StreamSink::new(rt.stderr());
+    let mut steps = Steps::<L>::new(blank);
+    serve(
+        rt.alloc(),
+        words,
+        &mut shelf,
+        &mut out,
+        &mut say,
+        &mut steps,
+    )
+}
+
+// The words after the program's name.
+fn words_of(rt: &HostRuntime) -> Result<Vec<String>, io::Error> {
+    let words = env::args(rt)?.skip(1).collect(rt.alloc())?;
+    Ok(words)
+}
+
+/// Serves the words that the system gives.
+pub fn program(rt: &HostRuntime) -> ExitCode {
+    match words_of(rt) {
+        Ok(words) => exit_code(run::<Brand>(rt, &words, Blank::new(1))),
+        Err(error) if error.kind() == io::ErrorKind::OutOfMemory => ExitCode::from(NO_MEMORY),
+        Err(_) => ExitCode::from(NO_WORDS),
+    }
+}
