@@ -19,8 +19,8 @@ fn no_floats(alloc: Global, counts: &[u16]) -> Result<Counts, AllocError>
     ensures { IfOk result (λ zeros. zeros ≡ no_floats_of counts.now) }
 {
     let mut zeros = Counts::new(alloc);
-    for _ in counts {
-        zeros.push(0)?;
+    for count in counts {
+        zeros.push(*count - *count)?;
     }
     Ok(zeros)
 }
