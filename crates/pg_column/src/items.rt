@@ -10,7 +10,7 @@ ghost use Rattle.pg_column.specs.Ahead.{first_pick as first_pick_of, item_place 
 
 use pg_list::{Block, Galley, Item, Place, items_around};
 
-// The blocks of a galley keep their shape and are few.
+/// The blocks of a galley keep their shape and are few.
 pub fn blocks_of(galley: &Galley) -> &[Block]
     ensures blocks { result.now ≡ galley.now.blocks }
     ensures shape { AllByRecursion IsBlock galley.now.blocks }

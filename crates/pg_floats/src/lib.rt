@@ -15,6 +15,7 @@ mod laws;
 mod list;
 mod queue;
 
+pub use callouts::first_items_of;
 pub use fault::FloatFault;
 pub use laws::{queues_count_history, queues_stay_young};
 pub use list::FloatList;

@@ -4,3 +4,5 @@ pub mod Plain
 pub mod PlainColumn
 pub mod Numbers
 pub mod PlainPages
+pub mod Printed
+pub mod Between

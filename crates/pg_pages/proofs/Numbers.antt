@@ -1,5 +1,5 @@
 -- The numbers of a column, from its sums.
-use Rattle.std.proofs.Common.{◌≡◌, ◌∙◌, refl, sym, ap, subst, arith, ◌+◌, ◌-◌, ◌≤◌, ℕ, zero, suc, List, [], ◌∷◌, take, drop, Bool, true, false, ℤ, pos, ◌+ℤ◌}
+use Rattle.std.proofs.Common.{◌≡◌, ◌∙◌, refl, sym, ap, subst, arith, ◌+◌, ◌-◌, ℕ, zero, suc, List, [], ◌∷◌, take, drop, Bool, true, false, ℤ, pos, ◌+ℤ◌}
 use Rattle.std.specs.Option.{option_map_or}
 use Rattle.std.proofs.lemmas.Int.{ints}
 use Rattle.pg_list.specs.declared.item.Item.{Item}

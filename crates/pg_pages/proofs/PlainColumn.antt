@@ -1,34 +1,31 @@
 -- The page text of a plain column is the plain one.
-use Rattle.std.proofs.Common.{◌≡◌, ◌∙◌, sym, refl, ap, ◌+◌, ◌-◌, ◌<◌, ◌≤◌, ℕ, arith, subst, List, [], ◌++◌, take, drop, length, append-nil, append_assoc, Bool, true, false, Option, ℤ, pos, ◌-ℤ◌}
+use Rattle.std.proofs.Common.{◌≡◌, ◌∙◌, sym, refl, ap, ◌+◌, ◌-◌, ◌<◌, ◌≤◌, ℕ, arith, subst, List, [], ◌++◌, take, drop, length, append-nil, append_assoc, Bool, true, false, Option}
 use Rattle.std.specs.Prelude.{◌==◌, ◌&&◌, not, if◌then◌else◌, int_lt, codes}
 use Rattle.std.specs.List.{flat_map}
 use Rattle.std.specs.Option.{option_map_or}
 use Rattle.std.proofs.lemmas.Bool.Decides.{nat_tests}
-use Rattle.std.proofs.lemmas.Int.{ints}
 use Rattle.std.proofs.lemmas.List.{drop-drop}
 use Rattle.pg_list.specs.declared.item.Item.{Item}
 use Rattle.pg_flat.specs.Break.{is_spent}
 use Rattle.pg_flat.specs.Rigid.{AreRigid}
 use Rattle.pg_flat.specs.Totals.{trimmed}
 use Rattle.pg_glue.specs.declared.Sense.TheVariants.{Stretch, Shrink}
-use Rattle.pg_glue.specs.Widths.{set_widths}
 use Rattle.pg_plan.specs.declared.pages.PageMove.{PageMove}
 use Rattle.pg_plan.specs.declared.states.Side.{Side}
 use Rattle.pg_plan.specs.declared.states.Side.TheVariants.{S}
 use Rattle.pg_style.specs.Values.{StyleValue}
 use Rattle.pg_style.specs.declared.style.First.{First}
-use Rattle.pg_rules.specs.ColumnRules.{segment, text_total, text_goal, text_badness}
-use Rattle.pg_rules.specs.Cost.{text_demerits, penalty_demerits}
+use Rattle.pg_rules.specs.ColumnRules.{segment, text_total, text_goal}
 use Rattle.pg_rules.specs.History.{next_page, next_side, placed_of, context, side_of}
 use Rattle.pg_rules.specs.Room.{Document, items_of, size_of, is_text}
 use Rattle.pg_plain.specs.Plain.{single_items, items_between, plain_move, plain_context, IsPlainStyle}
 use Rattle.pg_plain.proofs.Singles.{rigid_single}
-use Rattle.pg_plain.proofs.Contexts.{bare_is, with_style, first_column, page_number, context_is, goal_is, items_of_singles, size_is}
+use Rattle.pg_plain.proofs.Contexts.{bare_is, with_style, first_column, page_number, context_is, items_of_singles, size_is}
 use Rattle.pg_pages.specs.SetGlue.{glue_widths, stretching, shrinking, own_width}
 use Rattle.pg_pages.specs.Words.{line}
-use Rattle.pg_pages.specs.PageText.{floats_text, notes_text, area, text_column, column_text, column_body, float_column, column_line, page_line, page_head, set_line, text_area, end_penalty, top_line, top_area, bottom_area}
+use Rattle.pg_pages.specs.PageText.{floats_text, notes_text, area, text_column, column_text, column_body, float_column, column_line, page_line, page_head, set_line, text_area, top_line, top_area, bottom_area}
 use Rattle.pg_pages.specs.PlainText.{line_between, text_head, text_of_items, text_between, plain_page_text, own_items}
-use Rattle.pg_pages.proofs.Plain.{AllRigid, items_rigid, rigid_drop, rigid_take, rigid_trimmed, nothing_added, still, stretching_still, shrinking_still, stretching_widths, shrinking_widths, the_text_of_items}
+use Rattle.pg_pages.proofs.Plain.{AllRigid, items_rigid, rigid_drop, rigid_take, rigid_trimmed, still, stretching_still, shrinking_still, stretching_widths, shrinking_widths, the_text_of_items}
 
 -- ---- no floats and no notes
 

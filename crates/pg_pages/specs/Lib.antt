@@ -3,3 +3,4 @@ pub mod Bodies
 pub mod SetGlue
 pub mod PageText
 pub mod PlainText
+pub mod Printed

@@ -5,9 +5,13 @@
 //! `proofs/WorkedTexts.antt` computes it for galleys with floats, notes, soft glue and bodies of several lines.
 #![tactic(auto)]
 
+mod areas;
 mod bodies;
 mod columns;
+mod glue;
 mod pages;
+mod segment;
+mod text;
 mod words;
 
 pub use pages::{print_none, print_pages};

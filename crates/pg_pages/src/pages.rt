@@ -132,7 +132,7 @@ fn print_head_counts(pages: u128, cost: i128, out: &mut Vec<u8>) -> Result<(), A
 }
 
 // A line of a name and a length.
-fn print_length_line(name: &[u8], length: i64, out: &mut Vec<u8>) -> Result<(), AllocError>
+pub fn print_length_line(name: &[u8], length: i64, out: &mut Vec<u8>) -> Result<(), AllocError>
     ensures ok { OnOk result (out.new.items ≡ out.old.items ++ line (name.now ++ scaled_text length)) }
     ensures grows { Grows out.old.items out.new.items }
 {
