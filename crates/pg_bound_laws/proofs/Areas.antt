@@ -57,7 +57,7 @@ flat_range n (Choice variants ∷ blocks) a =
     (all_append IsItemInRange (picked_items (Choice variants) 0) _ (first_items variants a.0.ranges)
     (flat_range (n + 1) blocks a.1))
 
-sizes_range : (number : ℕ) (items : List Item) → AllByRecursion IsItemInRange items →
+pub sizes_range : (number : ℕ) (items : List Item) → AllByRecursion IsItemInRange items →
     AllByRecursion IsSize (sizes_of number items)
 sizes_range number [] a = tt
 sizes_range number (BoxItem h d body ∷ items) a = sizes_range number items a.1
@@ -73,13 +73,13 @@ sizes_range number (Insert class size body ∷ items) a = by (class == number) (
     by true rest = ((a.0.1, a.0.2), rest)
     by false rest = rest
 
-floats_range : (blocks : List Block) (numbers : List ℕ) → AllByRecursion IsBlock blocks →
+pub floats_range : (blocks : List Block) (numbers : List ℕ) → AllByRecursion IsBlock blocks →
     AllByRecursion (AllByRecursion IsSize) (map (λ number. sizes_of number (flat blocks [])) numbers)
 floats_range blocks [] a = tt
 floats_range blocks (number ∷ numbers) a =
     (sizes_range number (flat blocks []) (flat_range 0 blocks a), floats_range blocks numbers a)
 
-dealt_range : (slot : ℕ) (lists : List (List ℤ)) (before counts : List ℕ) →
+pub dealt_range : (slot : ℕ) (lists : List (List ℤ)) (before counts : List ℕ) →
     AllByRecursion (AllByRecursion IsSize) lists → AllByRecursion IsSize (dealt_from slot lists before counts)
 dealt_range slot [] before counts a = tt
 dealt_range slot (sizes ∷ lists) before counts a =
@@ -89,7 +89,7 @@ dealt_range slot (sizes ∷ lists) before counts a =
     (all_drop IsSize (entry before slot) sizes a.0))
     (dealt_range (slot + 1) lists before counts a.1)
 
-dealt_long : (slot : ℕ) (lists : List (List ℤ)) (before counts : List ℕ) →
+pub dealt_long : (slot : ℕ) (lists : List (List ℤ)) (before counts : List ℕ) →
     length (dealt_from slot lists before counts) ≤ sum_by (entry counts) (range_with_len slot (length lists))
 dealt_long slot [] before counts = omega arith
 dealt_long slot (sizes ∷ lists) before counts =

@@ -80,23 +80,23 @@ below a (class ∷ classes) n all =
     other_number class classes n (λ e. omega (arith, all.0, e)) ∙ below a classes n all.1
 
 -- numbers from a on, k of them
-record Within (a k : ℕ) (class : Class) : Type 0 where
-  from : a ≤ class.number
-  to : class.number < a + k
+pub record Within (a k : ℕ) (class : Class) : Type 0 where
+  pub from : a ≤ class.number
+  pub to : class.number < a + k
 
-above : (a k : ℕ) (classes : List Class) → AllByRecursion (Within a (suc k)) classes →
+pub above : (a k : ℕ) (classes : List Class) → AllByRecursion (Within a (suc k)) classes →
     AllByRecursion (λ (class : Class). a < class.number) classes → AllByRecursion (Within (a + 1) k) classes
 above a k [] all more = tt
 above a k (class ∷ classes) all more =
     (record { from = omega (arith, more.0); to = omega (arith, all.0.to) }, above a k classes all.1 more.1)
 
-more_than : (m n : ℕ) (classes : List Class) → m ≤ n →
+pub more_than : (m n : ℕ) (classes : List Class) → m ≤ n →
     AllByRecursion (λ (class : Class). n < class.number) classes →
     AllByRecursion (λ (class : Class). m < class.number) classes
 more_than m n [] h all = tt
 more_than m n (class ∷ classes) h all = (omega (arith, all.0), more_than m n classes h all.1)
 
-at_or_above : (a n : ℕ) → a ≤ n → (n ≡ a) ⊎ (a < n)
+pub at_or_above : (a n : ℕ) → a ≤ n → (n ≡ a) ⊎ (a < n)
 at_or_above zero zero h = inl refl
 at_or_above zero (suc n) h = inr (omega arith)
 at_or_above (suc a) zero h = absurd (omega arith)
@@ -145,7 +145,7 @@ numbers_from (suc k) a (class ∷ classes) order all =
     skip true e r = absurd (cc)
     skip false e r = r
 
-all_within : (classes : List Class) → AllByRecursion IsClass classes → AllByRecursion (Within 0 255) classes
+pub all_within : (classes : List Class) → AllByRecursion IsClass classes → AllByRecursion (Within 0 255) classes
 all_within [] all = tt
 all_within (class ∷ classes) all =
     (record { from = omega arith; to = omega (arith, all.0.number_in) }, all_within classes all.1)

@@ -6,3 +6,8 @@ pub mod Numbers
 pub mod PlainPages
 pub mod Printed
 pub mod Between
+pub mod Widths
+pub mod Excess
+pub mod Rooms
+pub mod ColumnText
+pub mod TextColumn

@@ -1,7 +1,7 @@
 -- How the printer goes along items is what the definitions say.
 use Rattle.std.proofs.Common.{◌≡◌, ◌∙◌, refl, sym, ap, ℕ, zero, suc, ◌+◌, ◌≤◌, ◌-◌, arith, subst, get_or, append_assoc, List, [], ◌∷◌, ◌++◌, take, drop, map, length, Bool, true, false, Option, Some, None}
-use Rattle.std.specs.Prelude.{◌||◌, not, if◌then◌else◌}
-use Rattle.std.specs.List.{flat_map, position, prefix_len}
+use Rattle.std.specs.Prelude.{◌&&◌, ◌||◌, not, if◌then◌else◌}
+use Rattle.std.specs.List.{flat_map, position, prefix_len, range_with_len}
 use Rattle.std.specs.Borrow.{Bor}
 use Rattle.pg_glue.specs.declared.Sense.{Sense}
 use Rattle.pg_glue.specs.declared.Sense.TheVariants.{Stretch, Shrink}
@@ -18,7 +18,9 @@ use Rattle.pg_pages.specs.Bodies.{plain_text}
 use Rattle.pg_pages.specs.PageText.{inserted, inserted_body, set_items}
 use Rattle.pg_pages.specs.Printed.{behind, box_on, elastic, front_of, items_to, kept_from, set_item, widths_behind}
 use Rattle.pg_lemmas.proofs.Bools.{by_bool, if_false, if_true}
-use Rattle.std.specs.Prelude.{ℤ}
+use Rattle.std.specs.Prelude.{ℤ, pos}
+use Rattle.std.proofs.lemmas.List.{map-append}
+use Rattle.pg_lemmas.proofs.Lists.{range_more}
 use Rattle.std.specs.Prelude.{option_map}
 
 -- ---- items up to a place
@@ -193,3 +195,23 @@ box_next (y ∷ rest) x d some is other =
     let whole : take (length (y ∷ rest) - 1) rest ≡ rest = take_all rest (length (y ∷ rest) - 1) (omega arith) in
     let none : is_box y.now ≡ false = subst (λ (z : Bor Item). is_box z.now ≡ false) is other in
     ap (λ (those : List (Bor Item)). box_on (behind those)) whole ∙ sym (box_step y.now (behind rest) none)
+
+-- ---- counts and heights
+
+pub counted_more : (f : ℕ → ℕ) (mid new : List ℕ) (n x : ℕ) → mid ≡ map f (range_with_len 0 n) → new ≡ mid ++ x ∷ [] →
+    x ≡ f n → new ≡ map f (range_with_len 0 (n + 1))
+counted_more f mid new n x was push is =
+    let next : suc n ≡ n + 1 = omega arith in
+    let same : n ≡ 0 + n = omega arith in
+    push ∙ ap (λ ys. ys ++ x ∷ []) was
+    ∙ ap (λ y. map f (range_with_len 0 n) ++ y ∷ []) (is ∙ ap f same)
+    ∙ sym (ap (map f) (range_more 0 n) ∙ map-append f (range_with_len 0 n) ((0 + n) ∷ []))
+    ∙ ap (λ k. map f (range_with_len 0 k)) next
+
+pub height_some : (b : Bool) (x h : ℤ) → Some h ≡ (if b then Some x else None) → h ≡ (if true && b then x else pos 0)
+height_some true x h e = cc
+height_some false x h e = absurd cc
+
+pub height_none : (b : Bool) (x : ℤ) → ◌≡◌ {A = Option ℤ} None (if b then Some x else None) → pos 0 ≡ (if true && b then x else pos 0)
+height_none true x e = absurd cc
+height_none false x e = refl

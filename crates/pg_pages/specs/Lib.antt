@@ -4,3 +4,4 @@ pub mod SetGlue
 pub mod PageText
 pub mod PlainText
 pub mod Printed
+pub mod Seated

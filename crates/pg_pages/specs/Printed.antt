@@ -1,6 +1,6 @@
 -- How the printer goes along items, floats, columns and pages. It is proved to print the page text; nobody need believe
 -- what stands here.
-use Rattle.std.specs.Prelude.{ℕ, Bool, ◌&&◌, ◌||◌, not, if◌then◌else◌, List, [], ◌∷◌, ◌++◌, length, map, drop, Vec, ℤ, pos, neg_ℤ, ◌-ℤ◌, ◌<ℤ◌, ◌^◌, int_lt}
+use Rattle.std.specs.Prelude.{◌<◌, ◌+◌, codes, decimal, ℕ, Bool, ◌&&◌, ◌||◌, not, if◌then◌else◌, List, [], ◌∷◌, ◌++◌, length, map, drop, Vec, ℤ, pos, neg_ℤ, ◌-ℤ◌, ◌<ℤ◌, ◌^◌, int_lt}
 use Rattle.std.specs.Borrow.{Bor}
 use Rattle.std.specs.declared.alloc.Global.{Global}
 use Rattle.std.specs.List.{flat_map, take_while}
@@ -13,12 +13,18 @@ use Rattle.pg_flat.specs.Flat.{FlatItem, is_same_place}
 use Rattle.pg_style.specs.Classes.{is_float_class}
 use Rattle.pg_style.specs.declared.style.Class.{Class}
 use Rattle.pg_floats.specs.Callouts.{first_items}
+use Rattle.pg_style.specs.Values.{StyleValue}
+use Rattle.pg_plan.specs.declared.pages.Column.{Column}
+use Rattle.pg_rules.specs.Floats.{dealt_from, entry}
+use Rattle.pg_column.specs.declared.cost.TextCost.{TextCost}
+use Rattle.pg_pages.specs.PlainText.{numbers_text}
 use Rattle.pg_glue.specs.declared.Elastic.{Elastic}
 use Rattle.pg_glue.specs.declared.Sense.{Sense}
 use Rattle.pg_glue.specs.declared.Sense.TheVariants.{Stretch, Shrink}
 use Rattle.pg_glue.specs.Widths.{set_widths}
 use Rattle.pg_pages.specs.Bodies.{body_text, plain_text, set_text}
-use Rattle.pg_pages.specs.PageText.{inserted, is_note_kind}
+use Rattle.pg_pages.specs.PageText.{area, inserted, is_note_kind, items_text}
+use Rattle.pg_pages.specs.Words.{line}
 use Rattle.pg_pages.specs.SetGlue.{own_width, shrinking, stretching}
 
 -- ---- items
@@ -103,3 +109,31 @@ bodies_of blocks (class ∷ classes) =
 -- the bodies that are lent, by class
 abbrev pub lent : List (Vec (Bor (List ℕ)) Global) → List (List (List ℕ))
 lent bodies = map (λ own. behind own.items) bodies
+
+-- the floats that counts deal out after others
+abbrev pub dealt_text : List (List (List ℕ)) → List ℕ → List ℕ → List ℕ
+dealt_text bodies before counts = flat_map body_text (dealt_from 0 bodies before counts)
+
+-- ---- columns
+
+-- counts that fit a count list together
+abbrev pub FitTogether : List ℕ → List ℕ → Type 0
+FitTogether a b = (slot : ℕ) → entry a slot + entry b slot < 2 ^ 16
+
+-- the text area of these items
+abbrev pub text_by : StyleValue → List Item → ℤ → ℤ → Bool → List ℕ
+text_by style items goal total is_spent =
+    line (codes "area text") ++ items_text style.topskip items (widths_by items goal total is_spent)
+
+-- the text of a column whose text has these items and numbers
+unfoldable pub read_text : StyleValue → List (List (List ℕ)) → List ℕ → List ℕ → Column → List Item → TextCost → Bool → List ℕ
+read_text style bodies before below column items numbers is_spent =
+    numbers_text numbers ++ area (codes "top") (dealt_text bodies before column.top)
+    ++ text_by style items numbers.goal numbers.total is_spent
+    ++ area (codes "bottom") (dealt_text bodies below column.bottom)
+    ++ area (codes "notes") (notes_by style.classes items)
+
+-- a column without text, with these floats at the top and at the bottom
+unfoldable pub bare_text : ℕ → List ℕ → List ℕ → List ℕ
+bare_text demerits top bottom =
+    line (codes "without text demerits " ++ decimal demerits) ++ (area (codes "top") top ++ area (codes "bottom") bottom)

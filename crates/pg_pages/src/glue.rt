@@ -8,7 +8,6 @@ ghost use Rattle.pg_pages.specs.Printed.{behind, elastic, widths_by};
 
 use pg_glue::{Elastic, Sense, set_widths};
 use pg_list::{Item, Order};
-use pg_whole::minus;
 use std::alloc::{AllocError, Global};
 
 // Adds the glue of an item.
@@ -103,15 +102,13 @@ pub fn widths_of(
     is_spent: bool,
 ) -> Result<Vec<i128>, AllocError>
     requires few { length items.now ≤ item_limit }
-    requires goal { nat_abs goal < 2 ^ 62 }
-    requires total { nat_abs total < 2 ^ 62 }
     requires excess { nat_abs (goal -ℤ total) < 2 ^ 52 }
     ensures { IfOk result (λ widths. widths.items ≡ widths_by (behind items.now) goal total is_spent) }
 {
     if total < goal && !is_spent {
-        widths_in(alloc, Sense::Stretch, items, minus(goal, total))
+        widths_in(alloc, Sense::Stretch, items, goal - total)
     } else if goal < total {
-        widths_in(alloc, Sense::Shrink, items, minus(total, goal))
+        widths_in(alloc, Sense::Shrink, items, total - goal)
     } else {
         own_widths(alloc, items)
     }

@@ -7,9 +7,11 @@
 
 mod areas;
 mod bodies;
+mod column;
 mod columns;
 mod glue;
 mod pages;
+mod seats;
 mod segment;
 mod text;
 mod words;
