@@ -33,8 +33,11 @@ use Rattle.pg_column.proofs.Passing.{InRange, at_ranges}
 use Rattle.pg_column.proofs.Spans.{ahead_few}
 use Rattle.pg_lemmas.proofs.Bools.{both_of, if_false, if_true}
 use Rattle.pg_lemmas.proofs.Lists.{all_take}
-use Rattle.pg_pages.specs.PageText.{area, bottom_area, column_body, float_column, float_bodies, floats_text, inserted, items_text, set_line, text_area, text_column, top_area}
+use Rattle.pg_pages.specs.PageText.{area, bottom_area, column_body, column_line, float_column, float_bodies, floats_text, inserted, items_text, set_line, text_area, text_column, top_area}
 use Rattle.pg_pages.specs.Words.{line}
+use Rattle.pg_pages.specs.Seated.{seated}
+use Rattle.pg_pages.specs.Sheets.{seat_text}
+use Rattle.pg_pages.specs.declared.seats.Seat.{Seat}
 use Rattle.pg_pages.specs.PlainText.{numbers_text}
 use Rattle.pg_pages.specs.Printed.{bare_text, dealt_text, items_to, read_text, text_by}
 use Rattle.pg_pages.proofs.ColumnText.{notes_are, widths_are}
@@ -295,3 +298,20 @@ body_of_floats it same bodies before below p q r =
     bare : List ℕ → List ℕ → List ℕ
     bare top bottom = line (codes "without text demerits " ++ decimal it.document.style.float_column.demerits)
         ++ (area (codes "top") top ++ area (codes "bottom") bottom)
+
+-- ---- columns in their seats
+
+pub seat_same : (doc : Document) (seat : Seat) (column : Column) (number run : ℕ) (wide : Option ℤ) → seat.run ≡ run →
+    seat.wide ≡ wide → column_line number column ++ column_body (seated doc seat column)
+    ≡ seat_text doc run wide number seat.before column
+seat_same doc seat column number run wide p q =
+    ap (λ (r : ℕ). seat_text doc r seat.wide number seat.before column) p
+    ∙ ap (λ (w : Option ℤ). seat_text doc run w number seat.before column) q
+
+-- counts added over as many slots as there are classes of floats
+pub plus_is : (style : StyleValue) (a b c : List ℕ) (n : ℕ) → n ≡ length (float_numbers style) → b ≡ c →
+    (sum : List ℕ) → sum ≡ map (λ (slot : ℕ). entry a slot + entry b slot) (range_with_len 0 n) →
+    sum ≡ plus_counts style a c
+plus_is style a b c n e same sum is = is
+    ∙ ap (λ (k : ℕ). map (λ (slot : ℕ). entry a slot + entry b slot) (range_with_len 0 k)) e
+    ∙ ap (λ (counts : List ℕ). plus_counts style a counts) same

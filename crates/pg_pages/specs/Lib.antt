@@ -5,3 +5,4 @@ pub mod PageText
 pub mod PlainText
 pub mod Printed
 pub mod Seated
+pub mod Sheets

@@ -13,6 +13,7 @@ mod glue;
 mod pages;
 mod seats;
 mod segment;
+mod sheets;
 mod text;
 mod words;
 

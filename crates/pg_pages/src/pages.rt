@@ -73,7 +73,7 @@ fn print_single_side(number: u128, out: &mut Vec<u8>) -> Result<(), AllocError>
 
 // A page's run and its wide counts.
 #[tactic(auto, unfolding(crate::specs::PageText::page_run))]
-fn print_run(page: &Page, out: &mut Vec<u8>) -> Result<(), AllocError>
+pub fn print_run(page: &Page, out: &mut Vec<u8>) -> Result<(), AllocError>
     ensures ok { OnOk result (out.new.items ≡ out.old.items ++ page_run page.now.run page.now.wide) }
     ensures grows { Grows out.old.items out.new.items }
 {
