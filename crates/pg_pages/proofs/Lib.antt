@@ -11,3 +11,4 @@ pub mod Excess
 pub mod Rooms
 pub mod ColumnText
 pub mod TextColumn
+pub mod SheetText

@@ -1,9 +1,9 @@
 -- The text of pages in reading order, page by page and column by column. Nobody need believe what stands here.
-use Rattle.std.specs.Prelude.{◌≡◌, ℕ, ◌+◌, ◌==◌, ◌&&◌, Bool, true, nat_lt, List, [], ◌∷◌, ◌++◌, codes, Option, Some, None, ℤ}
+use Rattle.std.specs.Prelude.{◌≡◌, ℕ, ◌+◌, ◌||◌, Bool, true, false, nat_lt, List, [], ◌∷◌, ◌++◌, codes, Option, ℤ}
 use Rattle.pg_plan.specs.declared.pages.Column.{Column}
 use Rattle.pg_plan.specs.declared.pages.Page.{Page}
 use Rattle.pg_style.specs.Values.{StyleValue}
-use Rattle.pg_rules.specs.Floats.{float_count, is_area_allowed, plus_counts, takes_wide}
+use Rattle.pg_rules.specs.Floats.{is_area_allowed, plus_counts, takes_wide}
 use Rattle.pg_rules.specs.History.{made_wide, side_of}
 use Rattle.pg_rules.specs.Room.{ColumnContext, Document}
 use Rattle.pg_pages.specs.PageText.{area, column_body, column_line, floats_text, page_line}
@@ -74,3 +74,8 @@ abbrev pub MaySheets : Document → List ℕ → List Page → Type 0
 MaySheets doc placed [] = Unit {0}
 MaySheets doc placed (page ∷ pages) = MaySheet doc placed page
     × MaySheets doc (sheet_behind doc.style placed page) pages
+
+-- some count is not 0
+abbrev pub is_any : List ℕ → Bool
+is_any [] = false
+is_any (count ∷ counts) = nat_lt 0 count || is_any counts

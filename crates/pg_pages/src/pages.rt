@@ -149,7 +149,7 @@ pub fn print_length_line(name: &[u8], length: i64, out: &mut Vec<u8>) -> Result<
 
 // The first line.
 #[tactic(auto, unfolding(crate::specs::PageText::head_line))]
-fn print_head(pages: u128, cost: i128, width: i64, out: &mut Vec<u8>) -> Result<(), AllocError>
+pub fn print_head(pages: u128, cost: i128, width: i64, out: &mut Vec<u8>) -> Result<(), AllocError>
     ensures ok { OnOk result (out.new.items ≡ out.old.items ++ head_line pages cost width) }
     ensures grows { Grows out.old.items out.new.items }
 {

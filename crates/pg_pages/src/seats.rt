@@ -79,6 +79,14 @@ fn bottom_height(floats: &FloatList, style: &Style, below: &Counts, counts: &Cou
     area_height(floats, &style.bottom, below, counts)
 }
 
+// The height of a page's wide area.
+pub fn wide_area(floats: &FloatList, style: &Style, placed: &Counts, counts: &Counts) -> i64
+    ensures { (blocks : List ABlock) (those : StyleValue) → AreFloats blocks those floats.now →
+        result ≡ checked_height (floats_of blocks those) true style.now.wide placed.now counts.now }
+{
+    area_height(floats, &style.wide, placed, counts)
+}
+
 // What a run adds to the height of a column.
 fn extra_of(runs: &[Run], run: u8) -> i32
     ensures { result ≡ option_map_or (λ (it : ARun). it.extra) (slice_get runs.now run) (pos 0) }

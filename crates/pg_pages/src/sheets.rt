@@ -1,22 +1,25 @@
 //! Pages in reading order.
 ghost use Rattle.std.specs.Prelude.{◌≡◌, ◌<◌, ◌≤◌, ◌+◌, ◌^◌, ◌++◌, ◌∷◌, [], ℕ, List, OnOk, IfOk, codes, length, nat_lt, pos, true};
 ghost use Rattle.std.specs.List.{sum_by, range_with_len};
-ghost use Rattle.pg_rules.specs.Floats.{entry as entry_of, float_numbers, plus_counts};
-ghost use Rattle.pg_rules.specs.History.{made_wide as made_wide_of, side_of as side_in};
+ghost use Rattle.pg_rules.specs.Floats.{entry as entry_of, float_numbers, is_area_allowed, plus_counts, takes_wide};
+ghost use Rattle.pg_list.specs.declared.blocks.Block.{Block as ABlock};
+ghost use Rattle.pg_rules.specs.History.{made_wide as made_wide_of, placed_of, side_of as side_in};
 ghost use Rattle.pg_rules.specs.Legal.{document};
 ghost use Rattle.pg_floats.specs.AreFloats.{AreFloats};
 ghost use Rattle.pg_scaled.specs.Scaled.{Grows};
 ghost use Rattle.pg_pages.specs.Words.{side_text};
-ghost use Rattle.pg_pages.specs.PageText.{float_bodies, page_line, page_side};
-ghost use Rattle.pg_pages.specs.Printed.{FitTogether, lent};
-ghost use Rattle.pg_pages.specs.Sheets.{MayFrom, columns_from, placed_behind, placed_from};
+ghost use Rattle.pg_pages.specs.PageText.{area, float_bodies as bodies_in, head_line, page_line, page_side};
+ghost use Rattle.pg_pages.specs.Printed.{FitTogether, dealt_text, lent};
+ghost use Rattle.pg_pages.specs.Sheets.{MayFrom, MaySheet, MaySheets, columns_from, is_any, placed_behind, placed_from, sheet_behind, sheet_text, sheets_text};
 
-use crate::column::print_column;
-use crate::pages::{print_numbered, print_run};
-use crate::seats::{Seat, added};
+use crate::areas::float_bodies;
+use crate::column::{print_column, print_floats};
+use crate::pages::{print_head, print_numbered, print_run};
+use crate::seats::{Seat, added, wide_area};
+use pg_column::blocks_of;
 use pg_floats::FloatList;
 use pg_list::Galley;
-use pg_plan::{Column, Counts, Page, Side};
+use pg_plan::{Column, Counts, Page, Pagination, Side};
 use pg_style::{First, Style};
 use std::alloc::{AllocError, Global};
 
@@ -26,20 +29,8 @@ fn side_of(first: First, number: u128) -> Side
 {
     match first {
         First::Single => Side::S,
-        First::Left => {
-            if number % 2 == 1 {
-                Side::L
-            } else {
-                Side::R
-            }
-        }
-        First::Right => {
-            if number % 2 == 1 {
-                Side::R
-            } else {
-                Side::L
-            }
-        }
+        First::Left => { if number % 2 == 1 { Side::L } else { Side::R } }
+        First::Right => { if number % 2 == 1 { Side::R } else { Side::L } }
     }
 }
 
@@ -115,7 +106,7 @@ fn print_seats(
     out: &mut Vec<u8>,
 ) -> Result<(), AllocError>
     requires floats { AreFloats galley.now.blocks style.now floats.now }
-    requires bodies { lent bodies.now ≡ float_bodies (document galley.now style.now) }
+    requires bodies { lent bodies.now ≡ bodies_in (document galley.now style.now) }
     requires may { MayFrom (document galley.now style.now) seat.old.run seat.old.wide seat.old.before columns.now }
     ensures ok { OnOk result (out.new.items ≡ out.old.items
         ++ columns_from (document galley.now style.now) seat.old.run seat.old.wide 1 seat.old.before columns.now) }
@@ -133,4 +124,165 @@ fn print_seats(
         rest = after;
     }
     Ok(())
+}
+
+// Whether some count is not 0.
+fn deals_any(counts: &[u16]) -> bool
+    ensures { result ≡ is_any counts.now }
+{
+    let mut rest = counts;
+    'each: while let [count, after @ ..] = rest {
+        if *count > 0 {
+            return true;
+        }
+        rest = after;
+    }
+    false
+}
+
+// The height of a page's wide area, where it has a wide float.
+fn made_wide(floats: &FloatList, style: &Style, placed: &Counts, counts: &Counts) -> Option<i64>
+    requires { is_area_allowed style.now takes_wide style.now.wide.count counts.now ≡ true }
+    ensures { (blocks : List ABlock) → AreFloats blocks style.now floats.now →
+        result ≡ made_wide_of (record { blocks = blocks; style = style.now }) placed.now counts.now }
+{
+    if deals_any(counts.as_slice()) {
+        Some(wide_area(floats, style, placed, counts))
+    } else {
+        None
+    }
+}
+
+// The line of a page and its wide area.
+fn print_page_head(
+    style: &Style,
+    bodies: &[Vec<&[u8]>],
+    number: u128,
+    placed: &Counts,
+    page: &Page,
+    out: &mut Vec<u8>,
+) -> Result<(), AllocError>
+    ensures ok { OnOk result (out.new.items ≡ out.old.items
+        ++ (page_line number (side_in style.now.first number) page.now.run page.now.wide
+        ++ area (codes "wide") (dealt_text (lent bodies.now) placed.now page.now.wide))) }
+    ensures grows { Grows out.old.items out.new.items }
+{
+    print_side_line(number, side_of(style.first, number), page, out)?;
+    print_floats(
+        b"wide",
+        bodies,
+        placed.as_slice(),
+        page.wide.as_slice(),
+        out,
+    )
+}
+
+// Where the first column of a page stands.
+fn first_seat(
+    galley: &Galley,
+    style: &Style,
+    floats: &FloatList,
+    slots: usize,
+    placed: &Counts,
+    page: &Page,
+    alloc: Global,
+) -> Result<Seat, AllocError>
+    requires floats { AreFloats galley.now.blocks style.now floats.now }
+    requires slots { slots ≡ length (float_numbers style.now) }
+    requires wide { is_area_allowed style.now takes_wide style.now.wide.count page.now.wide ≡ true }
+    requires fit { FitTogether placed.now page.now.wide }
+    ensures run { IfOk result (λ seat. seat.run ≡ page.now.run) }
+    ensures wide { IfOk result (λ seat. seat.wide
+        ≡ made_wide_of (document galley.now style.now) placed.now page.now.wide) }
+    ensures before { IfOk result (λ seat. seat.before ≡ plus_counts style.now placed.now page.now.wide) }
+{
+    // the clauses alone speak of the galley
+    let _ = galley;
+    let before = added(alloc, slots, placed.as_slice(), page.wide.as_slice())?;
+    Ok(Seat {
+        run: page.run,
+        wide: made_wide(floats, style, placed, &page.wide),
+        before,
+    })
+}
+
+// A page of this number, behind so many placed floats; answers those placed behind it.
+fn print_sheet(
+    galley: &Galley,
+    style: &Style,
+    floats: &FloatList,
+    bodies: &[Vec<&[u8]>],
+    number: u128,
+    placed: &Counts,
+    page: &Page,
+    out: &mut Vec<u8>,
+) -> Result<Counts, AllocError>
+    requires floats { AreFloats galley.now.blocks style.now floats.now }
+    requires bodies { lent bodies.now ≡ bodies_in (document galley.now style.now) }
+    requires may { MaySheet (document galley.now style.now) placed.now page.now }
+    ensures ok { OnOk result (out.new.items ≡ out.old.items
+        ++ sheet_text (document galley.now style.now) number placed.now page.now) }
+    ensures placed { IfOk result (λ behind. behind ≡ sheet_behind style.now placed.now page.now) }
+    ensures grows { Grows out.old.items out.new.items }
+{
+    let alloc = *out.allocator();
+    let slots = bodies.len();
+    print_page_head(style, bodies, number, placed, page, out)?;
+    let mut seat = first_seat(galley, style, floats, slots, placed, page, alloc)?;
+    let columns = page.columns.as_slice();
+    print_seats(galley, style, floats, bodies, &mut seat, columns, out)?;
+    let Seat { before, .. } = seat;
+    Ok(before)
+}
+
+// Pages one behind the other, from the first on.
+fn print_sheets(
+    galley: &Galley,
+    style: &Style,
+    floats: &FloatList,
+    bodies: &[Vec<&[u8]>],
+    pages: &[Page],
+    out: &mut Vec<u8>,
+) -> Result<(), AllocError>
+    requires floats { AreFloats galley.now.blocks style.now floats.now }
+    requires bodies { lent bodies.now ≡ bodies_in (document galley.now style.now) }
+    requires may { MaySheets (document galley.now style.now) (placed_of style.now []) pages.now }
+    ensures ok { OnOk result (out.new.items ≡ out.old.items
+        ++ sheets_text (document galley.now style.now) 1 (placed_of style.now []) pages.now) }
+    ensures grows { Grows out.old.items out.new.items }
+{
+    let alloc = *out.allocator();
+    let mut placed = added(alloc, bodies.len(), &[], &[])?;
+    let mut number: u128 = 1;
+    let mut rest = pages;
+    'each: while let [page, after @ ..] = rest {
+        placed = print_sheet(galley, style, floats, bodies, number, &placed, page, out)?;
+        number += 1;
+        rest = after;
+    }
+    Ok(())
+}
+
+// The pages of a galley with their head, without giving back what a refusal left.
+fn print_whole(
+    galley: &Galley,
+    style: &Style,
+    floats: &FloatList,
+    plan: &Pagination,
+    cost: i128,
+    out: &mut Vec<u8>,
+) -> Result<(), AllocError>
+    requires floats { AreFloats galley.now.blocks style.now floats.now }
+    requires may { MaySheets (document galley.now style.now) (placed_of style.now []) plan.now.pages }
+    ensures ok { OnOk result (out.new.items ≡ out.old.items
+        ++ (head_line (length plan.now.pages) cost galley.now.width
+        ++ sheets_text (document galley.now style.now) 1 (placed_of style.now []) plan.now.pages)) }
+    ensures grows { Grows out.old.items out.new.items }
+{
+    style.stays_in_range();
+    let alloc = *out.allocator();
+    let pages = plan.pages.as_slice();
+    let bodies = float_bodies(alloc, blocks_of(galley), style.classes.as_slice())?;
+    print_head(pages.len() as u128, cost, i64::from(galley.width()), out)?;
+    print_sheets(galley, style, floats, bodies.as_slice(), pages, out)
 }

@@ -1,6 +1,5 @@
-use Rattle.std.proofs.Common.{sym, ap, subst, ◌∙◌, ◌≡◌, ◌+◌, List, ℕ, map}
-use Rattle.std.specs.List.{range_with_len}
-use Rattle.pg_rules.specs.Floats.{entry, plus_counts}
+use Rattle.std.proofs.Common.{sym, ap, subst, ◌∙◌, List, ℕ}
+use Rattle.pg_rules.specs.Floats.{plus_counts}
 use Rattle.pg_pages.specs.Printed.{FitTogether}
 use Rattle.pg_pages.proofs.Singles.{if_ok}
 use Rattle.pg_pages.proofs.TextColumn.{plus_is}

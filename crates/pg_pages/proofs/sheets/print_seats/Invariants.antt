@@ -1,4 +1,4 @@
-use Rattle.std.proofs.Common.{◌≡◌, ◌++◌, ◌+◌, ◌≤◌, length}
+use Rattle.std.proofs.Common.{◌≡◌, ◌++◌, ◌+◌, length}
 use Rattle.pg_rules.specs.Legal.{document}
 use Rattle.pg_scaled.specs.Scaled.{Grows}
 use Rattle.pg_pages.specs.Sheets.{MayFrom, columns_from, placed_from}
