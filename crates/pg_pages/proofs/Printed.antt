@@ -35,7 +35,7 @@ take_all [] (suc n) e = refl
 take_all (x ∷ xs) zero e = absurd (omega (arith, e))
 take_all (x ∷ xs) (suc n) e = ap (λ ys. x ∷ ys) (take_all xs n (omega (arith, e)))
 
-map_length : (xs : List FlatItem) → length (map (λ (x : FlatItem). x.item) xs) ≡ length xs
+pub map_length : (xs : List FlatItem) → length (map (λ (x : FlatItem). x.item) xs) ≡ length xs
 map_length [] = refl
 map_length (x ∷ xs) = ap suc (map_length xs)
 

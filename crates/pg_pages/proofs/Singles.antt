@@ -1,7 +1,7 @@
 -- The items of blocks, one block more, and texts that grow.
 use Rattle.std.proofs.Common.{◌≡◌, ◌∙◌, sym, refl, ap, ◌≤◌, ℕ, zero, suc, arith, List, [], ◌∷◌, ◌++◌, take, length}
 use Rattle.std.proofs.Common.{append_assoc, length-append, subst}
-use Rattle.std.specs.Prelude.{IfOk, OnOk, Result, Ok, Err}
+use Rattle.std.specs.Prelude.{OnOk, Result, Ok, Err}
 use Rattle.std.proofs.Math.Seq.{take-append_seam}
 use Rattle.std.proofs.lemmas.List.{take-take}
 use Rattle.pg_list.specs.declared.item.Item.{Item}
@@ -46,7 +46,3 @@ pub on_same : {T E : Type 0} (r : Result T E) (old new text whole : List ℕ) �
     OnOk r (new ≡ old ++ text) → OnOk r (new ≡ old ++ whole)
 on_same (Ok x) old new text whole e p = p ∙ ap (λ (more : List ℕ). old ++ more) e
 on_same (Err x) old new text whole e p = tt
-
-pub if_ok : {T E : Type 0} (r : Result T E) (P Q : T → Type 0) → ((x : T) → P x → Q x) → IfOk r P → IfOk r Q
-if_ok (Ok x) P Q f p = f x p
-if_ok (Err e) P Q f p = tt

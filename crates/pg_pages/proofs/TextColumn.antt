@@ -43,7 +43,7 @@ use Rattle.pg_pages.specs.Printed.{bare_text, dealt_text, items_to, read_text, t
 use Rattle.pg_pages.proofs.ColumnText.{notes_are, widths_are}
 use Rattle.pg_pages.proofs.Excess.{excess_small}
 use Rattle.pg_pages.proofs.Numbers.{printed}
-use Rattle.pg_pages.proofs.Printed.{items_are}
+use Rattle.pg_pages.proofs.Printed.{items_are, map_length}
 
 -- ---- items
 
@@ -72,10 +72,6 @@ fewer_by false false item items h = omega (arith, h)
 trimmed_few : (items : List Item) → length (trimmed items) ≤ length items
 trimmed_few [] = omega arith
 trimmed_few (item ∷ items) = fewer_by (is_box item) (is_discardable item) item items (trimmed_few items)
-
-map_long : (xs : List FlatItem) → length (map (λ (x : FlatItem). x.item) xs) ≡ length xs
-map_long [] = refl
-map_long (x ∷ xs) = ap suc (map_long xs)
 
 -- ---- notes
 
@@ -165,7 +161,7 @@ module _ (it : ColumnContext) (all : AllByRecursion IsBlock it.document.blocks) 
     segment_few few =
         let a = trimmed_few (take n (items_of it)) in
         let b = length-take n (items_of it) in
-        let c = map_long (flat_items_of it) in
+        let c = map_length (flat_items_of it) in
         let d = ahead_few it.document.blocks it.column.from it.column.picks in
         omega (arith, a, b, c, d, few)
 
@@ -269,10 +265,6 @@ pub numbered : (it : ColumnContext) (r : Result TextCost ℕ) (numbers : TextCos
 numbered it (Ok other) numbers is e n size =
     let same : other ≡ numbers = cc in subst (AreNumbers it n) same (is.1 n size)
 numbered it (Err rule) numbers is e n size = absurd cc
-
-pub apart : (b : Bool) → not b ≡ true → b ≡ false
-apart true e = absurd cc
-apart false e = refl
 
 -- ---- with text or without
 

@@ -3,6 +3,10 @@
 //! `print_pages` is proved to append exactly the text that `specs/PageText.antt` defines, for galleys of boxes
 //! and rigid glue on single pages of one column; the definition is the one of every galley.
 //! `proofs/WorkedTexts.antt` computes it for galleys with floats, notes, soft glue and bodies of several lines.
+//!
+//! `sheets` prints all pages in reading order for every galley and style, proved against `specs/Sheets.antt`, where each
+//! column keeps the rules on columns (`specs/Seated.antt`). That a legal pagination is of that kind, and that the text
+//! in reading order is the page text, is left.
 #![tactic(auto)]
 
 mod areas;

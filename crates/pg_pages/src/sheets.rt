@@ -92,7 +92,8 @@ fn placed_after(
     // the clause alone speaks of the style
     let _ = style;
     let below = added(alloc, slots, before, column.top.as_slice())?;
-    added(alloc, slots, below.as_slice(), column.bottom.as_slice())
+    let placed = added(alloc, slots, below.as_slice(), column.bottom.as_slice())?;
+    Ok(placed)
 }
 
 // The columns of a page, one behind the other; the seat is then behind them.

@@ -2,8 +2,9 @@ use Rattle.std.proofs.Common.{refl, sym, ap, ◌∙◌, List, ℕ, w64}
 use Rattle.std.proofs.lemmas.Int.{to_z-of_z}
 use Rattle.pg_rules.specs.Legal.{document}
 use Rattle.pg_column.specs.Fits.{does_fit_from}
+use Rattle.pg_lemmas.proofs.Bools.{not_true}
 use Rattle.pg_pages.specs.Seated.{seated}
-use Rattle.pg_pages.proofs.TextColumn.{apart, fault_none, judged, numbered}
+use Rattle.pg_pages.proofs.TextColumn.{fault_none, judged, numbered}
 use Rattle.pg_pages.proofs.column.numbers_of.Goals as goal
 
 pub judge_from-requires-clause-fits : goal.judge_from-requires-clause-fits
@@ -12,7 +13,7 @@ judge_from-requires-clause-fits c =
     c.as_slice-picks.ensures ∙ c.requires.rules.fits
 
 pub judge_from-requires-clause-text : goal.judge_from-requires-clause-text
-judge_from-requires-clause-text c = apart _ c.requires.text
+judge_from-requires-clause-text c = not_true _ c.requires.text
 
 pub unreachable-requires : goal.unreachable-requires
 unreachable-requires c =

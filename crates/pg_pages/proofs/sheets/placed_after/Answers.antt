@@ -1,7 +1,6 @@
 use Rattle.std.proofs.Common.{sym, ap, subst, ◌∙◌, List, ℕ}
 use Rattle.pg_rules.specs.Floats.{plus_counts}
 use Rattle.pg_pages.specs.Printed.{FitTogether}
-use Rattle.pg_pages.proofs.Singles.{if_ok}
 use Rattle.pg_pages.proofs.TextColumn.{plus_is}
 use Rattle.pg_pages.proofs.sheets.placed_after.Goals as goal
 
@@ -17,7 +16,5 @@ pub returns : goal.returns
 returns c =
     let below = c.as_slice-2.ensures ∙ plus_is c.args.style.now c.args.before.now _ _ c.args.slots c.requires.slots
     c.as_slice.ensures _ c.in_ok-below.ensures in
-    if_ok c.added-2.result _ _
-    (λ placed is. plus_is c.args.style.now c.as_slice-2.result.now _ _ c.args.slots c.requires.slots c.as_slice-3.ensures
-    placed is ∙ ap (λ (counts : List ℕ). plus_counts c.args.style.now counts c.args.column.now.bottom) below)
-    c.added-2.ensures
+    plus_is c.args.style.now c.as_slice-2.result.now _ _ c.args.slots c.requires.slots c.as_slice-3.ensures _
+    c.in_ok-placed.ensures ∙ ap (λ (counts : List ℕ). plus_counts c.args.style.now counts c.args.column.now.bottom) below
