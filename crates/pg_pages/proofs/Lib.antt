@@ -12,3 +12,5 @@ pub mod Rooms
 pub mod ColumnText
 pub mod TextColumn
 pub mod SheetText
+pub mod Later
+pub mod Whole
