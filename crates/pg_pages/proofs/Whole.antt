@@ -17,7 +17,7 @@ use Rattle.pg_beginning_laws.proofs.PagesLaws.{later}
 use Rattle.pg_lemmas.proofs.Bools.{if_false, if_true}
 use Rattle.pg_lemmas.proofs.Numbers.{eq_no, eq_yes}
 use Rattle.pg_pages.specs.PageText.{area, head_line, page_text, column_body, column_line, column_text, columns_text, floats_text, page_head, page_line}
-use Rattle.pg_pages.specs.Sheets.{columns_from, context_at, placed_behind, sheet_behind, sheet_text, sheets_text}
+use Rattle.pg_pages.specs.Sheets.{AreFilled, columns_from, context_at, placed_behind, sheet_behind, sheet_text, sheets_text}
 use Rattle.pg_pages.proofs.Later.{HasTurned, are_later, turned_later}
 
 regroup : (x p a l b r : List ℕ) → (x ++ (((p ++ a) ++ l) ++ b)) ++ r ≡ x ++ (p ++ (a ++ ((l ++ b) ++ r)))
@@ -100,9 +100,9 @@ turned_sheet doc page column (other ∷ columns) ms first full =
     let less : (next_column doc.style ms == doc.style.columns) ≡ false = eq_no _ _ (omega (arith, first, full)) in
     let next : next_column doc.style (record { column = column; run = page.run; wide = page.wide } ∷ ms) ≡ 2 =
     if_false (next_column doc.style ms == doc.style.columns) 1 (next_column doc.style ms + 1) less
-        ∙ ap (λ (n : ℕ). n + 1) first in
+    ∙ ap (λ (n : ℕ). n + 1) first in
     let same : next_page doc.style (record { column = column; run = page.run; wide = page.wide } ∷ ms)
-        ≡ next_page doc.style ms =
+    ≡ next_page doc.style ms =
     if_false (next_column doc.style ms == doc.style.columns) (next_page doc.style ms + 1) (next_page doc.style ms) less in
     let rest = turned_later doc.style page.run page.wide 2 other columns
     (record { column = column; run = page.run; wide = page.wide } ∷ ms) next (omega (arith, full)) in
@@ -111,13 +111,6 @@ turned_sheet doc page column (other ∷ columns) ms first full =
       column = ap (next_column doc.style) lists ∙ rest.column;
       page = ap (next_page doc.style) lists ∙ rest.page ∙ ap (λ (n : ℕ). n + 1) same;
     }
-
--- each page has a column, the last no more than it may have, and every other one all
-abbrev pub AreFilled : ℕ → List Page → Type 0
-AreFilled full [] = Unit {0}
-AreFilled full (page ∷ []) = (1 ≤ length page.columns) × (length page.columns ≤ full)
-AreFilled full (page ∷ next ∷ pages) = (1 ≤ length page.columns) × (length page.columns ≡ full)
-    × AreFilled full (next ∷ pages)
 
 moves_append : (xs ys : List Page) → columns_of (xs ++ ys) ≡ columns_of xs ++ columns_of ys
 moves_append [] ys = refl
@@ -161,7 +154,7 @@ sheets_are doc (page ∷ next ∷ pages) ms filled first =
     let turned = turned_by doc page page.columns ms filled.0 filled.1 first in
     let here = sheet_text doc (next_page doc.style ms) (placed_of doc.style ms) page in
     let others = sheets_text doc (next_page doc.style ms + 1) (sheet_behind doc.style (placed_of doc.style ms) page)
-        (next ∷ pages) in
+    (next ∷ pages) in
     ap (columns_text doc) (moves_more page (next ∷ pages) ms)
     ∙ sheets_are doc (next ∷ pages) (reverse (page_moves page page.columns) ++ ms) filled.2 turned.column
     ∙ ap (λ (n : ℕ). columns_text doc (reverse (page_moves page page.columns) ++ ms)

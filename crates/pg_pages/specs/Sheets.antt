@@ -1,5 +1,5 @@
 -- The text of pages in reading order, page by page and column by column. Nobody need believe what stands here.
-use Rattle.std.specs.Prelude.{◌≡◌, ℕ, ◌+◌, ◌||◌, Bool, true, false, nat_lt, List, [], ◌∷◌, ◌++◌, codes, Option, ℤ}
+use Rattle.std.specs.Prelude.{◌≡◌, ◌≤◌, length, ℕ, ◌+◌, ◌||◌, Bool, true, false, nat_lt, List, [], ◌∷◌, ◌++◌, codes, Option, ℤ}
 use Rattle.pg_plan.specs.declared.pages.Column.{Column}
 use Rattle.pg_plan.specs.declared.pages.Page.{Page}
 use Rattle.pg_style.specs.Values.{StyleValue}
@@ -79,3 +79,10 @@ MaySheets doc placed (page ∷ pages) = MaySheet doc placed page
 abbrev pub is_any : List ℕ → Bool
 is_any [] = false
 is_any (count ∷ counts) = nat_lt 0 count || is_any counts
+
+-- each page has a column, the last no more than it may have, and every other one all
+abbrev pub AreFilled : ℕ → List Page → Type 0
+AreFilled full [] = Unit {0}
+AreFilled full (page ∷ []) = (1 ≤ length page.columns) × (length page.columns ≤ full)
+AreFilled full (page ∷ next ∷ pages) = (1 ≤ length page.columns) × (length page.columns ≡ full)
+    × AreFilled full (next ∷ pages)

@@ -4,9 +4,8 @@
 //! and rigid glue on single pages of one column; the definition is the one of every galley.
 //! `proofs/WorkedTexts.antt` computes it for galleys with floats, notes, soft glue and bodies of several lines.
 //!
-//! `sheets` prints all pages in reading order for every galley and style, proved against `specs/Sheets.antt`, where each
-//! column keeps the rules on columns (`specs/Seated.antt`). That a legal pagination is of that kind, and that the text
-//! in reading order is the page text, is left.
+//! `print_filled` does so for every galley and style, where each page has its columns and each column keeps the rules on
+//! columns (`specs/Sheets.antt`, `specs/Seated.antt`). That a legal pagination is of that kind is left.
 #![tactic(auto)]
 
 mod areas;
@@ -22,3 +21,4 @@ mod text;
 mod words;
 
 pub use pages::{print_none, print_pages};
+pub use sheets::print_filled;

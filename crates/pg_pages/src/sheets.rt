@@ -1,5 +1,5 @@
 //! Pages in reading order.
-ghost use Rattle.std.specs.Prelude.{◌≡◌, ◌<◌, ◌≤◌, ◌+◌, ◌^◌, ◌++◌, ◌∷◌, [], ℕ, List, OnOk, IfOk, codes, length, nat_lt, pos, true};
+ghost use Rattle.std.specs.Prelude.{◌≡◌, ◌<◌, ◌≤◌, ◌+◌, ◌^◌, ◌++◌, ◌∷◌, [], ℕ, List, OnOk, OnErr, IfOk, codes, length, nat_lt, pos, true};
 ghost use Rattle.std.specs.List.{sum_by, range_with_len};
 ghost use Rattle.pg_rules.specs.Floats.{entry as entry_of, float_numbers, is_area_allowed, plus_counts, takes_wide};
 ghost use Rattle.pg_list.specs.declared.blocks.Block.{Block as ABlock};
@@ -8,9 +8,9 @@ ghost use Rattle.pg_rules.specs.Legal.{document};
 ghost use Rattle.pg_floats.specs.AreFloats.{AreFloats};
 ghost use Rattle.pg_scaled.specs.Scaled.{Grows};
 ghost use Rattle.pg_pages.specs.Words.{side_text};
-ghost use Rattle.pg_pages.specs.PageText.{area, float_bodies as bodies_in, head_line, page_line, page_side};
+ghost use Rattle.pg_pages.specs.PageText.{area, float_bodies as bodies_in, head_line, page_line, page_text, page_side};
 ghost use Rattle.pg_pages.specs.Printed.{FitTogether, dealt_text, lent};
-ghost use Rattle.pg_pages.specs.Sheets.{MayFrom, MaySheet, MaySheets, columns_from, is_any, placed_behind, placed_from, sheet_behind, sheet_text, sheets_text};
+ghost use Rattle.pg_pages.specs.Sheets.{AreFilled, MayFrom, MaySheet, MaySheets, columns_from, is_any, placed_behind, placed_from, sheet_behind, sheet_text, sheets_text};
 
 use crate::areas::float_bodies;
 use crate::column::{print_column, print_floats};
@@ -275,9 +275,8 @@ fn print_whole(
 ) -> Result<(), AllocError>
     requires floats { AreFloats galley.now.blocks style.now floats.now }
     requires may { MaySheets (document galley.now style.now) (placed_of style.now []) plan.now.pages }
-    ensures ok { OnOk result (out.new.items ≡ out.old.items
-        ++ (head_line (length plan.now.pages) cost galley.now.width
-        ++ sheets_text (document galley.now style.now) 1 (placed_of style.now []) plan.now.pages)) }
+    requires filled { AreFilled style.now.columns plan.now.pages }
+    ensures ok { OnOk result (out.new.items ≡ out.old.items ++ page_text galley.now style.now plan.now cost) }
     ensures grows { Grows out.old.items out.new.items }
 {
     style.stays_in_range();
@@ -286,4 +285,30 @@ fn print_whole(
     let bodies = float_bodies(alloc, blocks_of(galley), style.classes.as_slice())?;
     print_head(pages.len() as u128, cost, i64::from(galley.width()), out)?;
     print_sheets(galley, style, floats, bodies.as_slice(), pages, out)
+}
+
+/// Appends the text of a pagination with its cost, in demerits; lengths are written in points.
+///
+/// Each page has its columns, and each column keeps the rules on columns behind those before it. The only refusal is
+/// for want of memory, and `out` is then as before.
+pub fn print_filled(
+    galley: &Galley,
+    style: &Style,
+    floats: &FloatList,
+    plan: &Pagination,
+    cost: i128,
+    out: &mut Vec<u8>,
+) -> Result<(), AllocError>
+    requires floats { AreFloats galley.now.blocks style.now floats.now }
+    requires may { MaySheets (document galley.now style.now) (placed_of style.now []) plan.now.pages }
+    requires filled { AreFilled style.now.columns plan.now.pages }
+    ensures ok { OnOk result (out.new.items ≡ out.old.items ++ page_text galley.now style.now plan.now cost) }
+    ensures err { OnErr result (out.new.items ≡ out.old.items) }
+{
+    let start = out.len();
+    if let Err(refused) = print_whole(galley, style, floats, plan, cost, out) {
+        out.truncate(start);
+        return Err(refused);
+    }
+    Ok(())
 }
