@@ -4,8 +4,8 @@
 //! and rigid glue on single pages of one column; the definition is the one of every galley.
 //! `proofs/WorkedTexts.antt` computes it for galleys with floats, notes, soft glue and bodies of several lines.
 //!
-//! `print_filled` does so for every galley and style, where each page has its columns and each column keeps the rules on
-//! columns (`specs/Sheets.antt`, `specs/Seated.antt`). That a legal pagination is of that kind is left.
+//! `print_filled` does so for every galley and style, where each page has its columns and each column keeps the rules
+//! on columns (`specs/Sheets.antt`, `specs/Seated.antt`). That a legal pagination is of that kind is left.
 #![tactic(auto)]
 
 mod areas;
