@@ -57,7 +57,7 @@ flat_range n (Choice variants ∷ blocks) a =
     (all_append IsItemInRange (picked_items (Choice variants) 0) _ (first_items variants a.0.ranges)
     (flat_range (n + 1) blocks a.1))
 
-sizes_range : (number : ℕ) (items : List Item) → AllByRecursion IsItemInRange items →
+pub sizes_range : (number : ℕ) (items : List Item) → AllByRecursion IsItemInRange items →
     AllByRecursion IsSize (sizes_of number items)
 sizes_range number [] a = tt
 sizes_range number (BoxItem h d body ∷ items) a = sizes_range number items a.1

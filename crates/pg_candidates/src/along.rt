@@ -58,7 +58,8 @@ pub fn ends_on(
     requires bound { fits before.bound top ≡ true }
     requires few { (before.sums.count + length (items_ahead galley.now.blocks start) ≤ 2 ^ 20)
         × (before.notes.count + length (items_ahead galley.now.blocks start) ≤ 2 ^ 20) }
-    ensures ends { OnOk result (found.new ≡ found.old ++ ends_along (document galley.now style.now) top picks.now demerits
+    ensures ends { OnOk result (found.new ≡ found.old
+        ++ ends_along (document galley.now style.now) top picks.now demerits
         (place_of (front_ahead galley.now.blocks start) 0 0) (view before) (items_ahead galley.now.blocks start)) }
     ensures past { IfOk result (λ o. passed_of o
         ≡ past_stretch (document galley.now style.now) top (view before) (items_ahead galley.now.blocks start)) }

@@ -18,6 +18,8 @@ mod span;
 mod walked;
 
 pub use cost::{TextCost, text_cost};
-pub use items::{blocks_of, is_end, item_place, next_index_of, picks_behind, settled};
+pub use items::{
+    blocks_of, is_end, is_same_place, item_place, next_index_of, picks_behind, settled,
+};
 pub use judge::{judge_from, judge_text};
 pub use span::{Span, ahead as item_ahead, fits, fits_from, is_reached};

@@ -22,10 +22,6 @@ joined [] tests n = []
 joined (fault ∷ faults) [] n = fault ∷ faults
 joined (fault ∷ faults) (test ∷ tests) n = option_or fault (unless test n) ∷ joined faults tests n
 
-lesser_none : (o : Option (ℕ × ℕ)) (n : ℕ) → lesser o None n ≡ o
-lesser_none None n = refl
-lesser_none (Some (rule, column)) n = refl
-
 -- whatever is found from a rule on is no lesser rule
 abbrev pub IsFrom : ℕ → Option (ℕ × ℕ) → Type 0
 IsFrom rule None = Unit {0}

@@ -4,3 +4,13 @@ pub mod Plain
 pub mod PlainColumn
 pub mod Numbers
 pub mod PlainPages
+pub mod Printed
+pub mod Between
+pub mod Widths
+pub mod Excess
+pub mod Rooms
+pub mod ColumnText
+pub mod TextColumn
+pub mod SheetText
+pub mod Later
+pub mod Whole

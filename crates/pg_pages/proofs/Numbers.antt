@@ -32,7 +32,7 @@ use Rattle.pg_pages.proofs.PlainColumn.{rigid_column, segment_is}
 use Rattle.pg_lemmas.proofs.Bools.{not_true}
 
 -- the line of a column's numbers, from the numbers
-printed : (it : ColumnContext) (n : ℕ) (c : TextCost) → c.goal ≡ text_goal it n → c.total ≡ text_total it n →
+pub printed : (it : ColumnContext) (n : ℕ) (c : TextCost) → c.goal ≡ text_goal it n → c.total ≡ text_total it n →
     c.badness ≡ text_badness it n → c.penalty ≡ end_penalty it n → c.demerits ≡ text_demerits it n →
     numbers_text c ≡ set_line it n
 unfolding set_line numbers_text

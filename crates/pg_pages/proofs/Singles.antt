@@ -1,7 +1,8 @@
 -- The items of blocks, one block more, and texts that grow.
 use Rattle.std.proofs.Common.{◌≡◌, ◌∙◌, sym, refl, ap, ◌≤◌, ℕ, zero, suc, arith, List, [], ◌∷◌, ◌++◌, take, length}
-use Rattle.std.proofs.Common.{append_assoc}
+use Rattle.std.proofs.Common.{append_assoc, length-append, subst}
 use Rattle.std.specs.Prelude.{OnOk, Result, Ok, Err}
+use Rattle.std.proofs.Math.Seq.{take-append_seam}
 use Rattle.std.proofs.lemmas.List.{take-take}
 use Rattle.pg_list.specs.declared.item.Item.{Item}
 use Rattle.pg_list.specs.declared.blocks.Block.{Block}
@@ -36,3 +37,12 @@ take_whole [] zero less = refl
 take_whole [] (suc n) less = refl
 take_whole (x ∷ xs) zero less = absurd (omega (arith, less))
 take_whole (x ∷ xs) (suc n) less = ap (λ ys. x ∷ ys) (take_whole xs n (omega (arith, less)))
+
+pub grown : (old more new : List ℕ) → new ≡ old ++ more → Grows old new
+grown old more new e = subst (λ (text : List ℕ). Grows old text) (sym e)
+    ((let long = length-append old more in omega (arith, long)), take-append_seam old more)
+
+pub on_same : {T E : Type 0} (r : Result T E) (old new text whole : List ℕ) → text ≡ whole →
+    OnOk r (new ≡ old ++ text) → OnOk r (new ≡ old ++ whole)
+on_same (Ok x) old new text whole e p = p ∙ ap (λ (more : List ℕ). old ++ more) e
+on_same (Err x) old new text whole e p = tt

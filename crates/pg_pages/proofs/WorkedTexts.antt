@@ -5,6 +5,9 @@ use Rattle.pg_list.specs.declared.item.Item.{Item}
 use Rattle.pg_list.specs.declared.item.Item.TheVariants.{BoxItem, Glue, Penalty, Insert}
 use Rattle.pg_list.specs.declared.item.Order.TheVariants.{Finite}
 use Rattle.pg_list.specs.GalleyValue.{GalleyValue}
+use Rattle.pg_plan.specs.declared.pages.Pagination.{Pagination}
+use Rattle.pg_style.specs.Values.{StyleValue}
+use Rattle.pg_style.specs.declared.style.Kind.TheVariants.{Note}
 use Rattle.pg_rules.proofs.Examples.{points, at, text_column, page, pages, galley, two_pages, plain, note_style, both_style, with_float}
 use Rattle.std.specs.Fmt.{digits}
 use Rattle.pg_scaled.specs.Scaled.{fraction_digits}
@@ -67,3 +70,60 @@ shown_note =
 note_text : page_text shown_note (note_style 100) (two_pages 7 10) (pos 41036936) ≡ codes "pages 2 cost 41036936 width 345.0\npage 1 side S run 0 wide -\ncolumn 1 from 0 0 0 to 7 0 0 top - bottom - picks -\nset goal 58.0 total 46.0 badness 6396 penalty 0 demerits 41036836\narea text\n.\\glue(\\topskip) 3.0\n.\\hbox(7.0+2.0)x345.0\n.\\glue 3.0 plus 1.0, set 7.0\n.\\hbox(7.0+2.0)x345.0\n.\\glue 3.0 plus 1.0, set 7.0\n.\\hbox(7.0+2.0)x345.0\n.\\glue 3.0 plus 1.0, set 7.0\n.\\hbox(7.0+2.0)x345.0\npage 2 side S run 0 wide -\ncolumn 1 from 7 0 0 to 10 0 0 top - bottom - picks -\nset goal 45.0 total 10.0 badness 0 penalty 0 demerits 100\narea text\n.\\glue(\\topskip) 3.0\n.\\hbox(7.0+2.0)x345.0\narea notes\n.\\insert200, natural size 9.0; split(0.0,0.0); float cost 0\n"
 unfolding page_text page_line notes_text floats_text set_line text_area column_ends column_counts page_side page_run head_counts head_line digits fraction_digits
 note_text = refl
+
+-- two lines with something between them, and a penalty and a line behind the column
+abbrev pub shown_pair : Item → GalleyValue
+shown_pair between =
+    galley (shown_line ∷ between ∷ shown_line ∷ Penalty (pos 0) (codes "\\penalty 0") ∷ shown_line ∷ [])
+
+abbrev pub one_column : ℕ → Pagination
+one_column end = pages (page [] (text_column (at 0) (at end) [] ∷ []) ∷ [])
+
+-- glue that is stretched far
+stretched_text : page_text (shown_pair shown_soft) (plain 34) (one_column 3) (pos 0) ≡ codes "pages 1 cost 0 width 345.0\npage 1 side S run 0 wide -\ncolumn 1 from 0 0 0 to 3 0 0 top - bottom - picks -\nset goal 34.0 total 22.0 badness 10000 penalty 0 demerits 100200100\narea text\n.\\glue(\\topskip) 3.0\n.\\hbox(7.0+2.0)x345.0\n.\\glue 3.0 plus 1.0, set 15.0\n.\\hbox(7.0+2.0)x345.0\n"
+unfolding page_text page_line notes_text floats_text set_line text_area column_ends column_counts page_side page_run head_counts head_line digits fraction_digits
+stretched_text = refl
+
+-- glue that is shrunk to the goal
+abbrev pub shown_loose : Item
+shown_loose = Glue (points 4) (pos 0) Finite (points 4) (codes "\\glue 4.0 minus 4.0")
+
+shrunk_text : page_text (shown_pair shown_loose) (plain 21) (one_column 3) (pos 0) ≡ codes "pages 1 cost 0 width 345.0\npage 1 side S run 0 wide -\ncolumn 1 from 0 0 0 to 3 0 0 top - bottom - picks -\nset goal 21.0 total 23.0 badness 12 penalty 0 demerits 484\narea text\n.\\glue(\\topskip) 3.0\n.\\hbox(7.0+2.0)x345.0\n.\\glue 4.0 minus 4.0, set 2.0\n.\\hbox(7.0+2.0)x345.0\n"
+unfolding page_text page_line notes_text floats_text set_line text_area column_ends column_counts page_side page_run head_counts head_line digits fraction_digits
+shrunk_text = refl
+
+-- leaders, whose body has a second line, below no topskip
+abbrev pub shown_leaders : Item
+shown_leaders = Glue (points 3) (pos 0) Finite (pos 0) (codes "\\leaders 3.0\n.\\rule(0.4+0.0)x*")
+
+leaders_text : page_text (shown_pair shown_leaders) (record (plain 19) { topskip = pos 0 }) (one_column 3) (pos 0) ≡ codes "pages 1 cost 0 width 345.0\npage 1 side S run 0 wide -\ncolumn 1 from 0 0 0 to 3 0 0 top - bottom - picks -\nset goal 19.0 total 19.0 badness 0 penalty 0 demerits 100\narea text\n.\\glue(\\topskip) 0.0\n.\\hbox(7.0+2.0)x345.0\n.\\leaders 3.0, set 3.0\n..\\rule(0.4+0.0)x*\n.\\hbox(7.0+2.0)x345.0\n"
+unfolding page_text page_line notes_text floats_text set_line text_area column_ends column_counts page_side page_run head_counts head_line digits fraction_digits
+leaders_text = refl
+
+-- notes of two classes, that of the greater number first in the text
+abbrev pub shown_notes : GalleyValue
+shown_notes = galley (shown_line ∷ Insert 201 (points 5) (codes "\\insert201, natural size 5.0")
+    ∷ Insert 200 (points 9) (codes "\\insert200, natural size 9.0") ∷ [])
+
+abbrev pub two_notes : StyleValue
+two_notes = record (plain 58) {
+  classes = record { number = 200; kind = Note (points 4) (points 100) }
+      ∷ record { number = 201; kind = Note (points 4) (points 100) } ∷ [];
+}
+
+two_notes_text : page_text shown_notes two_notes (one_column 3) (pos 0) ≡ codes "pages 1 cost 0 width 345.0\npage 1 side S run 0 wide -\ncolumn 1 from 0 0 0 to 3 0 0 top - bottom - picks -\nset goal 36.0 total 10.0 badness 0 penalty 0 demerits 100\narea text\n.\\glue(\\topskip) 3.0\n.\\hbox(7.0+2.0)x345.0\narea notes\n.\\insert200, natural size 9.0\n.\\insert201, natural size 5.0\n"
+unfolding page_text page_line notes_text floats_text set_line text_area column_ends column_counts page_side page_run head_counts head_line digits fraction_digits
+two_notes_text = refl
+
+-- a float above the text and one below it
+abbrev pub shown_floats : GalleyValue
+shown_floats = galley (shown_line ∷ Insert 100 (points 20) (codes "\\insert100, natural size 20.0")
+    ∷ Insert 100 (points 10) (codes "\\insert100, natural size 10.0") ∷ [])
+
+abbrev pub around_text : Pagination
+around_text = pages (page (0 ∷ [])
+    (record { from = at 0; to = at 3; top = 1 ∷ []; bottom = 1 ∷ []; picks = [] } ∷ []) ∷ [])
+
+two_floats_text : page_text shown_floats both_style around_text (pos 0) ≡ codes "pages 1 cost 0 width 345.0\npage 1 side S run 0 wide 0\ncolumn 1 from 0 0 0 to 3 0 0 top 1 bottom 1 picks -\nset goal 20.0 total 10.0 badness 0 penalty 0 demerits 100\narea top\n.\\insert100, natural size 20.0\narea text\n.\\glue(\\topskip) 3.0\n.\\hbox(7.0+2.0)x345.0\narea bottom\n.\\insert100, natural size 10.0\n"
+unfolding page_text page_line notes_text floats_text set_line text_area column_ends column_counts page_side page_run head_counts head_line digits fraction_digits
+two_floats_text = refl

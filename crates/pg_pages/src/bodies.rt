@@ -4,6 +4,7 @@ ghost use Rattle.std.specs.List.{prefix_len};
 ghost use Rattle.pg_scaled.specs.Scaled.{Grows};
 ghost use Rattle.pg_pages.specs.Bodies.{dotted, body_text, set_rest, set_text};
 ghost use Rattle.pg_scan.specs.Lines.{is_no_feed};
+ghost use Rattle.pg_pages.specs.Printed.{IsPrintable};
 
 use pg_scaled::print_scaled;
 use std::alloc::AllocError;
@@ -42,19 +43,21 @@ fn first_line_len(body: &[u8]) -> usize
 }
 
 // A set width, and what stands behind the first line.
-fn print_set_rest(width: i32, further: &[u8], out: &mut Vec<u8>) -> Result<(), AllocError>
+fn print_set_rest(width: i128, further: &[u8], out: &mut Vec<u8>) -> Result<(), AllocError>
+    requires { IsPrintable width }
     ensures ok { OnOk result (out.new.items ≡ out.old.items ++ set_rest width further.now) }
     ensures grows { Grows out.old.items out.new.items }
 {
     out.extend_from_slice(b", set ")?;
-    print_scaled(i128::from(width), out)?;
+    print_scaled(width, out)?;
     print_dotted(further, out)?;
     out.push(b'\n')?;
     Ok(())
 }
 
 // The body of a glue, its set width at the end of its first line.
-pub fn print_set(body: &[u8], width: i32, out: &mut Vec<u8>) -> Result<(), AllocError>
+pub fn print_set(body: &[u8], width: i128, out: &mut Vec<u8>) -> Result<(), AllocError>
+    requires { IsPrintable width }
     ensures ok { OnOk result (out.new.items ≡ out.old.items ++ set_text body.now width) }
     ensures grows { Grows out.old.items out.new.items }
 {

@@ -89,7 +89,7 @@ fn print_item(item: &Item, out: &mut Vec<u8>) -> Result<(), AllocError>
     ensures grows { Grows out.old.items out.new.items }
 {
     match item {
-        Item::Glue { width, body, .. } => print_set(body.as_slice(), *width, out),
+        Item::Glue { width, body, .. } => print_set(body.as_slice(), i128::from(*width), out),
         Item::Insert { .. } => Ok(()),
         _ => print_body(item.body(), out),
     }

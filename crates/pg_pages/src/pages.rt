@@ -18,7 +18,7 @@ ghost use Rattle.pg_plain.specs.Plain.{fits_between};
 use crate::columns::{
     numbers_between, print_items, print_length, print_numbers, space_above, without_front,
 };
-use crate::words::{print_counts, print_decimal, print_place, print_whole};
+use crate::words::{print_counts, print_decimal, print_picks, print_place, print_whole};
 use pg_list::{Block, Galley, Place};
 use pg_plan::{Column, Page, Pagination};
 use pg_style::Style;
@@ -33,8 +33,17 @@ fn print_counts_of(name: &[u8], counts: &[u16], out: &mut Vec<u8>) -> Result<(),
     print_counts(counts, out)
 }
 
+// A name, and picks behind it.
+fn print_picks_of(name: &[u8], picks: &[u32], out: &mut Vec<u8>) -> Result<(), AllocError>
+    ensures ok { OnOk result (out.new.items ≡ out.old.items ++ (name.now ++ counts_text picks.now)) }
+    ensures grows { Grows out.old.items out.new.items }
+{
+    out.extend_from_slice(name)?;
+    print_picks(picks, out)
+}
+
 // A name, and a number behind it.
-fn print_numbered(name: &[u8], number: u128, out: &mut Vec<u8>) -> Result<(), AllocError>
+pub fn print_numbered(name: &[u8], number: u128, out: &mut Vec<u8>) -> Result<(), AllocError>
     ensures ok { OnOk result (out.new.items ≡ out.old.items ++ (name.now ++ decimal number)) }
     ensures grows { Grows out.old.items out.new.items }
 {
@@ -64,7 +73,7 @@ fn print_single_side(number: u128, out: &mut Vec<u8>) -> Result<(), AllocError>
 
 // A page's run and its wide counts.
 #[tactic(auto, unfolding(crate::specs::PageText::page_run))]
-fn print_run(page: &Page, out: &mut Vec<u8>) -> Result<(), AllocError>
+pub fn print_run(page: &Page, out: &mut Vec<u8>) -> Result<(), AllocError>
     ensures ok { OnOk result (out.new.items ≡ out.old.items ++ page_run page.now.run page.now.wide) }
     ensures grows { Grows out.old.items out.new.items }
 {
@@ -95,22 +104,19 @@ fn print_ends(number: u128, column: &Column, out: &mut Vec<u8>) -> Result<(), Al
     print_place_of(b" to ", column.to, out)
 }
 
-// The counts of a column without picks.
+// The counts of a column, and its picks.
 #[tactic(auto, unfolding(crate::specs::PageText::column_counts))]
 fn print_column_counts(column: &Column, out: &mut Vec<u8>) -> Result<(), AllocError>
-    requires { column.now.picks ≡ [] }
     ensures ok { OnOk result (out.new.items ≡ out.old.items ++ counts_of column.now) }
     ensures grows { Grows out.old.items out.new.items }
 {
     print_counts_of(b" top ", column.top.as_slice(), out)?;
     print_counts_of(b" bottom ", column.bottom.as_slice(), out)?;
-    out.extend_from_slice(b" picks -")?;
-    Ok(())
+    print_picks_of(b" picks ", column.picks.as_slice(), out)
 }
 
-// The line of a column without picks.
-fn print_column_line(number: u128, column: &Column, out: &mut Vec<u8>) -> Result<(), AllocError>
-    requires { column.now.picks ≡ [] }
+// The line of a column.
+pub fn print_column_line(number: u128, column: &Column, out: &mut Vec<u8>) -> Result<(), AllocError>
     ensures ok { OnOk result (out.new.items ≡ out.old.items ++ column_line number column.now) }
     ensures grows { Grows out.old.items out.new.items }
 {
@@ -132,7 +138,7 @@ fn print_head_counts(pages: u128, cost: i128, out: &mut Vec<u8>) -> Result<(), A
 }
 
 // A line of a name and a length.
-fn print_length_line(name: &[u8], length: i64, out: &mut Vec<u8>) -> Result<(), AllocError>
+pub fn print_length_line(name: &[u8], length: i64, out: &mut Vec<u8>) -> Result<(), AllocError>
     ensures ok { OnOk result (out.new.items ≡ out.old.items ++ line (name.now ++ scaled_text length)) }
     ensures grows { Grows out.old.items out.new.items }
 {
@@ -143,7 +149,7 @@ fn print_length_line(name: &[u8], length: i64, out: &mut Vec<u8>) -> Result<(), 
 
 // The first line.
 #[tactic(auto, unfolding(crate::specs::PageText::head_line))]
-fn print_head(pages: u128, cost: i128, width: i64, out: &mut Vec<u8>) -> Result<(), AllocError>
+pub fn print_head(pages: u128, cost: i128, width: i64, out: &mut Vec<u8>) -> Result<(), AllocError>
     ensures ok { OnOk result (out.new.items ≡ out.old.items ++ head_line pages cost width) }
     ensures grows { Grows out.old.items out.new.items }
 {

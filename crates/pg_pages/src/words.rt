@@ -29,7 +29,7 @@ pub fn print_whole(number: i128, out: &mut Vec<u8>) -> Result<(), AllocError>
 }
 
 // An entry behind a comma.
-fn print_entry(count: u16, out: &mut Vec<u8>) -> Result<(), AllocError>
+fn print_entry(count: u32, out: &mut Vec<u8>) -> Result<(), AllocError>
     ensures ok { OnOk result (out.new.items ≡ out.old.items ++ 44 ∷ decimal count) }
     ensures grows { Grows out.old.items out.new.items }
 {
@@ -43,7 +43,7 @@ fn print_further(counts: &[u16], out: &mut Vec<u8>) -> Result<(), AllocError>
     ensures grows { Grows out.old.items out.new.items }
 {
     for count in counts {
-        print_entry(*count, out)?;
+        print_entry(u32::from(*count), out)?;
     }
     Ok(())
 }
@@ -61,6 +61,34 @@ pub fn print_counts(counts: &[u16], out: &mut Vec<u8>) -> Result<(), AllocError>
         [first, further @ ..] => {
             print_decimal(u128::from(*first), out)?;
             print_further(further, out)
+        }
+    }
+}
+
+// The picks behind the first.
+fn print_later(picks: &[u32], out: &mut Vec<u8>) -> Result<(), AllocError>
+    ensures ok { OnOk result (out.new.items ≡ out.old.items ++ further_text picks.now) }
+    ensures grows { Grows out.old.items out.new.items }
+{
+    for pick in picks {
+        print_entry(*pick, out)?;
+    }
+    Ok(())
+}
+
+// The picks joined by commas, and `-` where there is none.
+pub fn print_picks(picks: &[u32], out: &mut Vec<u8>) -> Result<(), AllocError>
+    ensures ok { OnOk result (out.new.items ≡ out.old.items ++ counts_text picks.now) }
+    ensures grows { Grows out.old.items out.new.items }
+{
+    match picks {
+        [] => {
+            out.push(b'-')?;
+            Ok(())
+        }
+        [first, later @ ..] => {
+            print_decimal(u128::from(*first), out)?;
+            print_later(later, out)
         }
     }
 }

@@ -1,17 +1,16 @@
 -- The state behind the first stretch is one of the walk.
-use Rattle.std.proofs.Common.{◌≡◌, refl, sym, ap, ◌∙◌, subst, ℕ, ◌+◌, ◌≤◌, ◌<◌, ◌^◌, List, [], length, drop, arith, Bool, true, Some, None, Option, Result, Ok, Err, IfOk, IfSome, ℤ, inl, inr}
-use Rattle.std.specs.Prelude.{◌⊎◌, ◌==◌, slice_get, unwrap_or, option_map}
+use Rattle.std.proofs.Common.{◌≡◌, refl, sym, ap, ◌∙◌, ℕ, ◌+◌, ◌≤◌, ◌<◌, ◌^◌, List, [], length, drop, arith, Some, None, Option, Result, Ok, Err, IfOk, IfSome, ℤ, inl, inr}
+use Rattle.std.specs.Prelude.{slice_get, unwrap_or, option_map}
 use Rattle.std.specs.List.{AllByRecursion}
 use Rattle.pg_list.specs.Counts.{item_count}
-use Rattle.pg_list.specs.declared.item.Item.{Item}
 use Rattle.pg_list.specs.declared.blocks.Block.{Block}
 use Rattle.pg_list.specs.declared.galley.Place.{Place}
-use Rattle.pg_list.specs.Places.{items_around, picked_items, place}
+use Rattle.pg_list.specs.Places.{picked_items}
 use Rattle.pg_list.specs.Shapes.{IsBlock}
 use Rattle.pg_breaks.proofs.Lists.{get_lt}
-use Rattle.pg_flat.specs.Flat.{FlatItem, end_of, is_same_place}
+use Rattle.pg_flat.specs.Flat.{FlatItem, end_of}
 use Rattle.pg_flat.proofs.Places.{same_place}
-use Rattle.pg_column.specs.Passed.{Passed, fits, nothing}
+use Rattle.pg_column.specs.Passed.{Passed, nothing}
 use Rattle.pg_rules.specs.IsState.{IsPlace}
 use Rattle.pg_rules.specs.Room.{Document}
 use Rattle.pg_stretch.specs.View.{IsFor, view}

@@ -3,7 +3,7 @@
 //! Proved: `candidates` finds where columns may end in some room up to a greatest one (`AreCandidates` of
 //! pg_walk_laws), and `ends` lists each place and fitness at which a column of text from the place, in a room of a
 //! height, keeps the rules on one column, with its numbers and its best picks, in order, and nothing else (`AreEnds` of
-//! pg_ends); this for every galley and style.
+//! pg_ends); `ends_many` does so for several rooms from one walk. This holds for every galley and style.
 #![tactic(auto)]
 
 mod rooms;
@@ -11,6 +11,6 @@ mod walking;
 
 pub use pg_candidates::CandidateList;
 pub use pg_column::TextCost;
-pub use pg_ends::{End, EndList};
-pub use rooms::ends;
+pub use pg_ends::{End, EndList, EndLists};
+pub use rooms::{ends, ends_many};
 pub use walking::candidates;

@@ -1,11 +1,17 @@
 //! The ends in one room or in several.
-ghost use Rattle.std.specs.Prelude.{◌≡◌, ◌<◌, ◌^◌, IfOk, nat_abs};
+ghost use Rattle.std.specs.Prelude.{◌≡◌, ◌<◌, ◌^◌, IfOk, nat_abs, ℤ};
+ghost use Rattle.std.specs.List.{AllByRecursion};
 ghost use Rattle.pg_rules.specs.IsState.{IsPlace};
 ghost use Rattle.pg_rules.specs.Legal.{document};
+ghost use Rattle.pg_list.specs.declared.galley.Place.{Place as APlace};
 ghost use Rattle.pg_ends.specs.Ends.{AreEnds};
+ghost use Rattle.pg_walk_laws.specs.Candidates.{AreCandidates};
+ghost use Rattle.pg_walk_laws.specs.Laws.{AreEndsInEach, AreUpTo};
+ghost use Rattle.pg_walk.specs.Rooms.{greatest_room};
 
 use crate::walking::candidates;
-use pg_ends::EndList;
+use pg_candidates::CandidateList;
+use pg_ends::{EndList, EndLists};
 use pg_list::{Galley, Place};
 use pg_style::Style;
 use std::alloc::{AllocError, Global};
@@ -26,4 +32,69 @@ pub fn ends(
     ensures { IfOk result (λ ends. AreEnds (document galley.now style.now) from room ends) }
 {
     candidates(alloc, galley, style, from, room)?.ends_in(alloc, galley, style, room)
+}
+
+// The greatest of a room and those of a list.
+fn greatest_of(first: i64, rooms: &[i64]) -> i64
+    ensures { result ≡ greatest_room first rooms.now }
+{
+    let mut greatest = first;
+    let mut left = rooms;
+    'rooms: while let [room, after @ ..] = left {
+        if greatest < *room {
+            greatest = *room;
+        }
+        left = after;
+    }
+    greatest
+}
+
+// A room that none of these is above.
+fn top_of(rooms: &[i64]) -> i64
+    ensures { AreUpTo result rooms.now }
+{
+    match rooms {
+        [room, ..] => greatest_of(*room, rooms),
+        [] => 0,
+    }
+}
+
+// The ends in each of these rooms of the candidates of a place.
+fn ends_each(
+    alloc: Global,
+    galley: &Galley,
+    style: &Style,
+    found: &CandidateList,
+    rooms: &[i64],
+) -> Result<EndLists, AllocError>
+    requires { AllByRecursion (λ (room : ℤ). nat_abs room < 2 ^ 40) rooms.now }
+    ensures { IfOk result (λ lists. (from : APlace) (top : ℤ) → AreUpTo top rooms.now →
+        AreCandidates (document galley.now style.now) from top found.now →
+        AreEndsInEach (document galley.now style.now) from rooms.now lists) }
+{
+    let mut lists = EndLists::new(alloc);
+    let mut left = rooms;
+    'rooms: while let [room, after @ ..] = left {
+        lists.push(found.ends_in(alloc, galley, style, *room)?)?;
+        left = after;
+    }
+    Ok(lists)
+}
+
+/// The ends in each of these rooms in scaled points, in order, from one walk: for each what `ends` gives.
+///
+/// Conditions: the place is the galley's, and each room is below 2^40 in size. The one refusal is want of memory.
+pub fn ends_many(
+    alloc: Global,
+    galley: &Galley,
+    style: &Style,
+    from: Place,
+    rooms: &[i64],
+) -> Result<EndLists, AllocError>
+    requires place { IsPlace galley.now.blocks from }
+    requires size { AllByRecursion (λ (room : ℤ). nat_abs room < 2 ^ 40) rooms.now }
+    ensures { IfOk result (AreEndsInEach (document galley.now style.now) from rooms.now) }
+{
+    let found = candidates(alloc, galley, style, from, top_of(rooms))?;
+    ends_each(alloc, galley, style, &found, rooms)
 }

@@ -100,12 +100,6 @@ tie_chain a b c p q = end_total.congr a b c p ∙ q
 tie_itself : (a : End) → end_cmp a a ≡ Equal
 tie_itself a = tied_itself end_total a
 
-less_tie : (a b c : End) → end_cmp a b ≡ Less → end_cmp b c ≡ Equal → end_cmp a c ≡ Less
-less_tie a b c p q =
-    let back : end_cmp c a ≡ ordering_reverse Less =
-    end_total.congr c b a (tie_turned b c q) ∙ (end_total.antisymm b a ∙ ap ordering_reverse p) in
-    end_total.antisymm a c ∙ ap ordering_reverse back
-
 tie_less : (a b c : End) → end_cmp a b ≡ Equal → end_cmp b c ≡ Less → end_cmp a c ≡ Less
 tie_less a b c p q = end_total.congr a b c p ∙ q
 

@@ -1,0 +1,211 @@
+-- How the printer goes along items is what the definitions say.
+use Rattle.std.proofs.Common.{◌≡◌, ◌∙◌, refl, sym, ap, ℕ, zero, suc, ◌+◌, ◌≤◌, ◌-◌, arith, subst, get_or, append_assoc, List, [], ◌∷◌, ◌++◌, take, drop, map, length, Bool, true, false, Option, Some, None}
+use Rattle.std.specs.Prelude.{◌&&◌, ◌||◌, not, if◌then◌else◌}
+use Rattle.std.specs.List.{flat_map, position, prefix_len, range_with_len}
+use Rattle.std.specs.Borrow.{Bor}
+use Rattle.pg_glue.specs.declared.Sense.{Sense}
+use Rattle.pg_glue.specs.declared.Sense.TheVariants.{Stretch, Shrink}
+use Rattle.pg_list.specs.declared.item.Item.{Item}
+use Rattle.pg_list.specs.declared.item.Item.TheVariants.{BoxItem, Rule, Glue, Kern, Penalty, Insert, Carry}
+use Rattle.pg_list.specs.declared.blocks.Block.{Block}
+use Rattle.pg_list.specs.declared.galley.Place.{Place}
+use Rattle.pg_list.specs.Shapes.{is_box, is_discardable}
+use Rattle.pg_flat.specs.Flat.{FlatItem, end_of, is_same_place, steps_to}
+use Rattle.pg_flat.specs.Totals.{trimmed}
+use Rattle.pg_column.proofs.Leads.{is_at, position_here, position_later}
+use Rattle.std.proofs.lemmas.List.Elements.{filter_map-append}
+use Rattle.pg_pages.specs.Bodies.{plain_text}
+use Rattle.pg_pages.specs.PageText.{inserted, inserted_body, set_items}
+use Rattle.pg_pages.specs.Printed.{behind, box_on, elastic, front_of, items_to, kept_from, set_item, widths_behind}
+use Rattle.pg_lemmas.proofs.Bools.{by_bool, if_false, if_true}
+use Rattle.std.specs.Prelude.{ℤ, pos}
+use Rattle.std.proofs.lemmas.List.{map-append, take_all}
+use Rattle.pg_lemmas.proofs.Lists.{range_more}
+use Rattle.std.specs.Prelude.{option_map}
+
+-- ---- items up to a place
+
+items_whole : (to : Place) (xs : List FlatItem) → items_to true to xs ≡ map (λ (x : FlatItem). x.item) xs
+items_whole to [] = refl
+items_whole to (x ∷ xs) = ap (λ (items : List Item). x.item ∷ items) (items_whole to xs)
+
+pub map_length : (xs : List FlatItem) → length (map (λ (x : FlatItem). x.item) xs) ≡ length xs
+map_length [] = refl
+map_length (x ∷ xs) = ap suc (map_length xs)
+
+items_part : (to : Place) (xs : List FlatItem) (n : ℕ) → position (is_at to) xs ≡ Some n →
+    items_to false to xs ≡ take n (map (λ (x : FlatItem). x.item) xs)
+items_part to [] n e = absurd cc
+items_part to (x ∷ xs) n e = by_bool (is_at to x)
+    (λ t. let z : 0 ≡ n = same 0 n (sym (position_here (is_at to) x xs t) ∙ e) in
+    if_true (is_at to x) [] _ t ∙ ap (λ (k : ℕ). take k (map (λ (x : FlatItem). x.item) (x ∷ xs))) z)
+    (λ f. if_false (is_at to x) [] _ f
+    ∙ later (position (is_at to) xs) refl (sym (position_later (is_at to) x xs f) ∙ e) (items_part to xs))
+  where
+    same : (a b : ℕ) → Some a ≡ Some b → a ≡ b
+    same a b e = cc
+
+    later : (o : Option ℕ) → position (is_at to) xs ≡ o → option_map suc (position (is_at to) xs) ≡ Some n →
+        ((m : ℕ) → position (is_at to) xs ≡ Some m → items_to false to xs ≡ take m (map (λ (x : FlatItem). x.item) xs)) →
+        x.item ∷ items_to false to xs ≡ take n (map (λ (x : FlatItem). x.item) (x ∷ xs))
+    later None p q more = absurd (let k : None ≡ Some n = sym (ap (option_map suc) p) ∙ q in cc)
+    later (Some m) p q more = let s : suc m ≡ n = same (suc m) n (sym (ap (option_map suc) p) ∙ q) in
+        ap (λ (items : List Item). x.item ∷ items) (more m p)
+        ∙ ap (λ (k : ℕ). take k (map (λ (x : FlatItem). x.item) (x ∷ xs))) s
+
+-- the items up to a place are as many as stand before it
+pub items_are : (blocks : List Block) (to : Place) (xs : List FlatItem) (n : ℕ) → steps_to blocks xs to ≡ Some n →
+    items_to (is_same_place to (end_of blocks)) to xs ≡ take n (map (λ (x : FlatItem). x.item) xs)
+items_are blocks to xs n e = by (is_same_place to (end_of blocks)) e
+  where
+    same : (a b : ℕ) → Some a ≡ Some b → a ≡ b
+    same a b e = cc
+
+    by : (b : Bool) → (if b then Some (length xs) else position (is_at to) xs) ≡ Some n →
+        items_to b to xs ≡ take n (map (λ (x : FlatItem). x.item) xs)
+    by true e = items_whole to xs ∙ sym (take_all n (map (λ (x : FlatItem). x.item) xs)
+        (let h = same (length xs) n e in let k = map_length xs in omega (arith, h, k)))
+    by false e = items_part to xs n e
+
+-- ---- items that are kept
+
+pub kept_all : (items : List Item) → kept_from true items ≡ items
+kept_all [] = refl
+kept_all (item ∷ items) = ap (λ (those : List Item). item ∷ those) (kept_all items)
+
+kept_step : (b d : Bool) (item : Item) (items : List Item) → kept_from true items ≡ items →
+    kept_from false items ≡ trimmed items →
+    (if b || not d then item ∷ [] else []) ++ kept_from b items
+    ≡ (if b then item ∷ items else (if d then trimmed items else item ∷ trimmed items))
+kept_step true d item items all same = ap (λ (those : List Item). item ∷ those) all
+kept_step false true item items all same = same
+kept_step false false item items all same = ap (λ (those : List Item). item ∷ those) same
+
+pub kept_trimmed : (items : List Item) → kept_from false items ≡ trimmed items
+kept_trimmed [] = refl
+kept_trimmed (item ∷ items) =
+    kept_step (is_box item) (is_discardable item) item items (kept_all items) (kept_trimmed items)
+
+-- ---- items that are set
+
+pub set_step : (item : Item) (items : List Item) (widths : List ℤ) →
+    set_items (item ∷ items) widths ≡ set_item item widths ++ set_items items (widths_behind item widths)
+set_step (Glue width stretch order shrink body) items [] = refl
+set_step (Glue width stretch order shrink body) items (set ∷ widths) = refl
+set_step (BoxItem height depth body) items widths = refl
+set_step (Rule height depth body) items widths = refl
+set_step (Kern width body) items widths = refl
+set_step (Penalty value body) items widths = refl
+set_step (Insert class size body) items widths = refl
+set_step (Carry body) items widths = refl
+
+-- ---- what is behind references
+
+behind_take : {X : Type 0} (n : ℕ) (xs : List (Bor X)) → behind (take n xs) ≡ take n (behind xs)
+behind_take zero xs = refl
+behind_take (suc n) [] = refl
+behind_take (suc n) (x ∷ xs) = ap (λ ys. x.now ∷ ys) (behind_take n xs)
+
+behind_drop : {X : Type 0} (n : ℕ) (xs : List (Bor X)) → behind (drop n xs) ≡ drop n (behind xs)
+behind_drop zero xs = refl
+behind_drop (suc n) [] = refl
+behind_drop (suc n) (x ∷ xs) = behind_drop n xs
+
+pub behind_some : {X : Type 0} (count first : ℕ) (own : List (Bor X)) →
+    behind (take count (drop first own)) ≡ take count (drop first (behind own))
+behind_some count first own = behind_take count (drop first own) ∙ ap (take count) (behind_drop first own)
+
+pub behind_long : {X : Type 0} (xs : List (Bor X)) → length (behind xs) ≡ length xs
+behind_long [] = refl
+behind_long (x ∷ xs) = ap suc (behind_long xs)
+
+-- ---- inserts
+
+pub inserted_append : (number : ℕ) (xs ys : List Item) →
+    inserted number (xs ++ ys) ≡ inserted number xs ++ inserted number ys
+inserted_append number xs ys = filter_map-append (inserted_body number) xs ys
+
+-- ---- glue
+
+pub elastics_few : (sense : Sense) (items : List Item) → length (flat_map (elastic sense) items) ≤ length items
+elastics_few sense [] = omega arith
+elastics_few Stretch (Glue width stretch order shrink body ∷ items) = let k = elastics_few Stretch items in omega (arith, k)
+elastics_few Shrink (Glue width stretch order shrink body ∷ items) = let k = elastics_few Shrink items in omega (arith, k)
+elastics_few Stretch (BoxItem height depth body ∷ items) = let k = elastics_few Stretch items in omega (arith, k)
+elastics_few Shrink (BoxItem height depth body ∷ items) = let k = elastics_few Shrink items in omega (arith, k)
+elastics_few Stretch (Rule height depth body ∷ items) = let k = elastics_few Stretch items in omega (arith, k)
+elastics_few Shrink (Rule height depth body ∷ items) = let k = elastics_few Shrink items in omega (arith, k)
+elastics_few Stretch (Kern width body ∷ items) = let k = elastics_few Stretch items in omega (arith, k)
+elastics_few Shrink (Kern width body ∷ items) = let k = elastics_few Shrink items in omega (arith, k)
+elastics_few Stretch (Penalty value body ∷ items) = let k = elastics_few Stretch items in omega (arith, k)
+elastics_few Shrink (Penalty value body ∷ items) = let k = elastics_few Shrink items in omega (arith, k)
+elastics_few Stretch (Insert class size body ∷ items) = let k = elastics_few Stretch items in omega (arith, k)
+elastics_few Shrink (Insert class size body ∷ items) = let k = elastics_few Shrink items in omega (arith, k)
+elastics_few Stretch (Carry body ∷ items) = let k = elastics_few Stretch items in omega (arith, k)
+elastics_few Shrink (Carry body ∷ items) = let k = elastics_few Shrink items in omega (arith, k)
+
+-- ---- the front
+
+abbrev front_length : List Item → ℕ
+front_length items = prefix_len (λ (item : Item). not (is_box item)) items
+
+pub front_step : (item : Item) (items : List Item) → is_box item ≡ false → front_of (item ∷ items) ≡ item ∷ front_of items
+front_step item items e =
+    let next : 1 + front_length items ≡ suc (front_length items) = omega arith in
+    ap (λ (b : Bool). take (if not b then 1 + front_length items else 0) (item ∷ items)) e
+    ∙ ap (λ (n : ℕ). take n (item ∷ items)) next
+
+pub box_step : (item : Item) (items : List Item) → is_box item ≡ false → box_on (item ∷ items) ≡ box_on items
+box_step item items e = ap (λ (those : List Item). drop (length those) (item ∷ items)) (front_step item items e)
+
+-- ---- one item of a slice
+
+pub split_first : {X : Type 0} (xs : List X) (x d : X) → 1 ≤ length xs → x ≡ get_or xs 0 d →
+    x ∷ take (length xs - 1) (drop 1 xs) ≡ xs
+split_first [] x d some is = absurd (omega (arith, some))
+split_first (y ∷ xs) x d some is =
+    ap (λ ys. x ∷ ys) (take_all (length (y ∷ xs) - 1) xs (omega arith)) ∙ ap (λ z. z ∷ xs) is
+
+pub front_text : (old out new : List ℕ) (rest items : List (Bor Item)) (x d : Bor Item) → 1 ≤ length rest →
+    x ≡ get_or rest 0 d → is_box x.now ≡ false → new ≡ out ++ plain_text x.now →
+    out ++ flat_map plain_text (front_of (behind rest)) ≡ old ++ flat_map plain_text (front_of (behind items)) →
+    new ++ flat_map plain_text (front_of (behind (take (length rest - 1) (drop 1 rest))))
+    ≡ old ++ flat_map plain_text (front_of (behind items))
+front_text old out new [] items x d some is other more was = absurd (omega (arith, some))
+front_text old out new (y ∷ rest) items x d some is other more was =
+    let whole : take (length (y ∷ rest) - 1) rest ≡ rest = take_all (length (y ∷ rest) - 1) rest (omega arith) in
+    let none : is_box y.now ≡ false = subst (λ (z : Bor Item). is_box z.now ≡ false) is other in
+    let same : new ≡ out ++ plain_text y.now = subst (λ (z : Bor Item). new ≡ out ++ plain_text z.now) is more in
+    ap (λ (those : List (Bor Item)). new ++ flat_map plain_text (front_of (behind those))) whole
+    ∙ ap (λ (text : List ℕ). text ++ flat_map plain_text (front_of (behind rest))) same
+    ∙ append_assoc out (plain_text y.now) (flat_map plain_text (front_of (behind rest)))
+    ∙ ap (λ (those : List Item). out ++ flat_map plain_text those) (sym (front_step y.now (behind rest) none))
+    ∙ was
+
+pub box_next : (rest : List (Bor Item)) (x d : Bor Item) → 1 ≤ length rest → x ≡ get_or rest 0 d →
+    is_box x.now ≡ false → box_on (behind (take (length rest - 1) (drop 1 rest))) ≡ box_on (behind rest)
+box_next [] x d some is other = absurd (omega (arith, some))
+box_next (y ∷ rest) x d some is other =
+    let whole : take (length (y ∷ rest) - 1) rest ≡ rest = take_all (length (y ∷ rest) - 1) rest (omega arith) in
+    let none : is_box y.now ≡ false = subst (λ (z : Bor Item). is_box z.now ≡ false) is other in
+    ap (λ (those : List (Bor Item)). box_on (behind those)) whole ∙ sym (box_step y.now (behind rest) none)
+
+-- ---- counts and heights
+
+pub counted_more : (f : ℕ → ℕ) (mid new : List ℕ) (n x : ℕ) → mid ≡ map f (range_with_len 0 n) → new ≡ mid ++ x ∷ [] →
+    x ≡ f n → new ≡ map f (range_with_len 0 (n + 1))
+counted_more f mid new n x was push is =
+    let next : suc n ≡ n + 1 = omega arith in
+    let same : n ≡ 0 + n = omega arith in
+    push ∙ ap (λ ys. ys ++ x ∷ []) was
+    ∙ ap (λ y. map f (range_with_len 0 n) ++ y ∷ []) (is ∙ ap f same)
+    ∙ sym (ap (map f) (range_more 0 n) ∙ map-append f (range_with_len 0 n) ((0 + n) ∷ []))
+    ∙ ap (λ k. map f (range_with_len 0 k)) next
+
+pub height_some : (b : Bool) (x h : ℤ) → Some h ≡ (if b then Some x else None) → h ≡ (if true && b then x else pos 0)
+height_some true x h e = cc
+height_some false x h e = absurd cc
+
+pub height_none : (b : Bool) (x : ℤ) → ◌≡◌ {A = Option ℤ} None (if b then Some x else None) → pos 0 ≡ (if true && b then x else pos 0)
+height_none true x e = absurd cc
+height_none false x e = refl

@@ -1,0 +1,100 @@
+-- The heights of the areas of a column that may be printed.
+use Rattle.std.proofs.Common.{◌≡◌, refl, ap, ◌∙◌, ℕ, suc, ◌≤◌, ◌<◌, ◌^◌, arith, List, [], ◌∷◌, map, length, Bool, true, false, Option, Some, None}
+use Rattle.std.specs.Prelude.{◌==◌, ◌&&◌, if◌then◌else◌, nat_abs, nat_le, unwrap_or, ℤ, pos, ◌-ℤ◌}
+use Rattle.std.specs.List.{AllByRecursion, range_with_len, sum_by}
+use Rattle.std.proofs.lemmas.Bool.{eqb-true, leb-true}
+use Rattle.std.proofs.lemmas.Int.{ints}
+use Rattle.pg_list.specs.Shapes.{IsBlock}
+use Rattle.pg_flat.specs.Flat.{flat}
+use Rattle.pg_style.specs.Ranges.{IsAreaRule, IsStyle}
+use Rattle.pg_style.specs.Values.{AreaRuleValue}
+use Rattle.pg_style.specs.declared.style.Area.{Area}
+use Rattle.pg_rules.specs.Floats.{area_height, dealt, entry, float_count, float_numbers, floats, has_all, is_area_allowed, sizes_of, takes_bottom, takes_in_column, takes_top, total_count}
+use Rattle.pg_rules.specs.Room.{ColumnContext, before_bottom, bottom_height, checked_height, full_height, is_bottom_allowed, is_text, is_top_allowed, room, top_height, wide_height}
+use Rattle.pg_bound_laws.proofs.Areas.{IsUpTo, area_range, dealt_long, dealt_range, floats_range}
+use Rattle.pg_bound_laws.proofs.Counts.{float_total}
+use Rattle.pg_lemmas.proofs.Bools.{both_of}
+use Rattle.pg_pages.specs.Seated.{IsWide, MayPrint}
+
+map_long : (it : ColumnContext) (numbers : List ℕ) →
+    length (map (λ number. sizes_of number (flat it.document.blocks [])) numbers) ≡ length numbers
+map_long it [] = refl
+map_long it (x ∷ xs) = ap suc (map_long it xs)
+
+-- as many floats as an area takes
+few : (it : ColumnContext) (takes : Area → Bool) (limit : ℕ) (before counts : List ℕ) → limit ≤ 4 →
+    is_area_allowed it.document.style takes limit counts ≡ true →
+    length (dealt (floats it.document.blocks it.document.style) before counts) ≤ 4
+few it takes limit before counts most t =
+    let doc = it.document in
+    let p = both_of ((length counts == length (float_numbers doc.style)) && nat_le (total_count counts) limit) _ t in
+    let q = both_of (length counts == length (float_numbers doc.style)) (nat_le (total_count counts) limit) p.0 in
+    let l : length counts ≡ length (float_numbers doc.style) = eqb-true _ _ q.0 in
+    let n : total_count counts ≤ limit = leb-true _ _ q.1 in
+    let d : length (dealt (floats doc.blocks doc.style) before counts) ≤ sum_by (entry counts)
+    (range_with_len 0 (length (floats doc.blocks doc.style))) = dealt_long 0 (floats doc.blocks doc.style) before counts in
+    let k : length (floats doc.blocks doc.style) ≡ length (float_numbers doc.style) =
+    map_long it (float_numbers doc.style) in
+    let r : sum_by (entry counts) (range_with_len 0 (length (floats doc.blocks doc.style)))
+    ≡ float_count doc.style counts = ap (λ (i : ℕ). sum_by (entry counts) (range_with_len 0 i)) k in
+    let f : float_count doc.style counts ≡ total_count counts = float_total doc.style counts l in
+    omega (arith, most, n, d, r, f)
+
+few_by : (it : ColumnContext) (b : Bool) (takes others : Area → Bool) (limit most : ℕ) (before counts : List ℕ) →
+    limit ≤ 4 → most ≤ 4 → (if b then is_area_allowed it.document.style takes limit counts
+    else is_area_allowed it.document.style others most counts) ≡ true →
+    length (dealt (floats it.document.blocks it.document.style) before counts) ≤ 4
+few_by it true takes others limit most before counts l m e = few it takes limit before counts l e
+few_by it false takes others limit most before counts l m e = few it others most before counts m e
+
+checked : (b h : Bool) (x : ℤ) → b ≡ true → (if true && h then x else pos 0) ≡ (if b && h then x else pos 0)
+checked true h x e = refl
+checked false h x e = absurd cc
+
+high : (b : Bool) (x : ℤ) → IsUpTo 8589934584 x → IsUpTo 8589934584 (if true && b then x else pos 0)
+high true x h = h
+high false x h = (omega (arith, ints), omega arith)
+
+module _ (it : ColumnContext) (all : AllByRecursion IsBlock it.document.blocks) (style : IsStyle it.document.style)
+    (may : MayPrint it) where
+  abbrev lists : List (List ℤ)
+  lists = floats it.document.blocks it.document.style
+
+  area_high : (rule : AreaRuleValue) (before counts : List ℕ) → IsAreaRule rule →
+      length (dealt lists before counts) ≤ 4 → IsUpTo 8589934584 (checked_height lists true rule before counts)
+  area_high rule before counts range less =
+      high (has_all lists before counts) (area_height rule (dealt lists before counts))
+      (area_range rule range (dealt lists before counts) (dealt_range 0 lists before counts
+      (floats_range it.document.blocks (float_numbers it.document.style) all)) less)
+
+  counts_are : (is_top_allowed it ≡ true) × (is_bottom_allowed it ≡ true)
+  counts_are =
+      let last = both_of _ (is_bottom_allowed it) may.rules.counts in
+      let first = both_of _ (is_top_allowed it) last.0 in (first.1, last.1)
+
+  pub top_is : checked_height lists true it.document.style.top it.before it.column.top ≡ top_height it
+  top_is = checked (is_top_allowed it) (has_all lists it.before it.column.top) _ counts_are.0
+
+  pub bottom_is : checked_height lists true it.document.style.bottom (before_bottom it) it.column.bottom
+      ≡ bottom_height it
+  bottom_is = checked (is_bottom_allowed it) (has_all lists (before_bottom it) it.column.bottom) _ counts_are.1
+
+  pub top_high : IsUpTo 8589934584 (checked_height lists true it.document.style.top it.before it.column.top)
+  top_high = area_high it.document.style.top it.before it.column.top style.top_in
+      (few_by it (is_text it) takes_top takes_in_column it.document.style.top.count it.document.style.float_column.count
+      it.before it.column.top style.top_in.count_in style.float_column_in.count_in counts_are.0)
+
+  pub bottom_high : IsUpTo 8589934584
+      (checked_height lists true it.document.style.bottom (before_bottom it) it.column.bottom)
+  bottom_high = area_high it.document.style.bottom (before_bottom it) it.column.bottom style.bottom_in
+      (few_by it (is_text it) takes_bottom takes_in_column it.document.style.bottom.count
+      it.document.style.float_column.count (before_bottom it) it.column.bottom style.bottom_in.count_in
+      style.float_column_in.count_in counts_are.1)
+
+pub wide_high : (wide : Option ℤ) → IsWide wide → nat_abs (unwrap_or wide (pos 0)) < 2 ^ 33
+wide_high None is = omega arith
+wide_high (Some height) is = let h = is.1 in omega (arith, h)
+
+pub room_from : (it : ColumnContext) (full wide top bottom result : ℤ) → full ≡ full_height it → wide ≡ wide_height it →
+    top ≡ top_height it → bottom ≡ bottom_height it → result ≡ (((full -ℤ wide) -ℤ top) -ℤ bottom) → result ≡ room it
+room_from it full wide top bottom result f w t b r = r ∙ rw (f, w, t, b) refl

@@ -1,0 +1,309 @@
+-- A column of text that may be printed: its numbers, its items and its text.
+use Rattle.std.proofs.Common.{◌≡◌, refl, sym, ap, ◌∙◌, subst, ℕ, suc, ◌+◌, ◌≤◌, ◌<◌, ◌^◌, arith, List, [], ◌∷◌, ◌++◌, map, take, length, Bool, true, false, Option, Some, None, append_assoc}
+use Rattle.std.specs.Prelude.{◌==◌, ◌&&◌, ◌||◌, not, if◌then◌else◌, int_lt, int_le, is_none, nat_abs, ℤ, pos, ◌+ℤ◌, ◌-ℤ◌, ◌≤ℤ◌, ◌<ℤ◌, Result, Ok, Err, codes, decimal}
+use Rattle.std.specs.List.{AllByRecursion, range_with_len}
+use Rattle.std.specs.Option.{option_map_or}
+use Rattle.std.proofs.lemmas.Bool.{eqb-true}
+use Rattle.std.proofs.lemmas.Int.{ints}
+use Rattle.std.proofs.lemmas.List.{length-take}
+use Rattle.pg_list.specs.Counts.{item_count}
+use Rattle.pg_list.specs.Ranges.{IsItemInRange}
+use Rattle.pg_list.specs.Shapes.{IsBlock, is_box, is_discardable}
+use Rattle.pg_list.specs.declared.item.Item.{Item}
+use Rattle.pg_flat.specs.Break.{break_penalty, is_spent}
+use Rattle.pg_flat.specs.Flat.{FlatItem, blocks_at, end_of, flat, fronts, is_same_place, picked_variants}
+use Rattle.pg_flat.specs.Totals.{trimmed}
+use Rattle.pg_flat.specs.Whole.{whole_sum, whole_sum_by}
+use Rattle.pg_style.specs.Ranges.{IsClass, IsKind, IsStyle}
+use Rattle.pg_style.specs.Values.{StyleValue}
+use Rattle.pg_plan.specs.declared.pages.Column.{Column}
+use Rattle.pg_style.specs.declared.style.Class.{Class}
+use Rattle.pg_style.specs.declared.style.Kind.{Kind}
+use Rattle.pg_style.specs.declared.style.Kind.TheVariants.{Note, Float}
+use Rattle.pg_rules.specs.ColumnRules.{column_variants, does_fit, segment, text_goal, text_is_over, text_total}
+use Rattle.pg_rules.specs.Floats.{entry, float_numbers, plus_counts, sizes_of}
+use Rattle.pg_rules.specs.Follow.{KeepsColumnRules}
+use Rattle.pg_rules.specs.Room.{ColumnContext, Document, before_bottom, class_notes, flat_items_of, is_text, items_of, notes, room, size_of}
+use Rattle.pg_beginning_laws.proofs.Faults.{none_or, none_unless}
+use Rattle.pg_bound_laws.proofs.Areas.{IsSize, sizes_range}
+use Rattle.pg_column.specs.Judged.{Judges, text_fault}
+use Rattle.pg_column.specs.Numbers.{AreNumbers}
+use Rattle.pg_column.specs.declared.cost.TextCost.{TextCost}
+use Rattle.pg_column.proofs.Passing.{InRange, at_ranges}
+use Rattle.pg_column.proofs.Spans.{ahead_few}
+use Rattle.pg_lemmas.proofs.Bools.{both_of, if_false, if_true}
+use Rattle.pg_lemmas.proofs.Lists.{all_take}
+use Rattle.pg_pages.specs.PageText.{area, bottom_area, column_body, column_line, float_column, float_bodies, floats_text, inserted, items_text, set_line, text_area, text_column, top_area}
+use Rattle.pg_pages.specs.Words.{line}
+use Rattle.pg_pages.specs.Seated.{seated}
+use Rattle.pg_pages.specs.Sheets.{seat_text}
+use Rattle.pg_pages.specs.declared.seats.Seat.{Seat}
+use Rattle.pg_pages.specs.PlainText.{numbers_text}
+use Rattle.pg_pages.specs.Printed.{bare_text, dealt_text, items_to, read_text, text_by}
+use Rattle.pg_pages.proofs.ColumnText.{notes_are, widths_are}
+use Rattle.pg_pages.proofs.Excess.{excess_small}
+use Rattle.pg_pages.proofs.Numbers.{printed}
+use Rattle.pg_pages.proofs.Printed.{items_are, map_length}
+
+-- ---- items
+
+items_range : (xs : List FlatItem) → InRange xs → AllByRecursion IsItemInRange (map (λ (x : FlatItem). x.item) xs)
+items_range [] all = tt
+items_range (x ∷ xs) all = (all.0, items_range xs all.1)
+
+trimmed_by : (b d : Bool) (item : Item) (items : List Item) → AllByRecursion IsItemInRange (item ∷ items) →
+    AllByRecursion IsItemInRange (trimmed items) →
+    AllByRecursion IsItemInRange (if b then item ∷ items else (if d then trimmed items else item ∷ trimmed items))
+trimmed_by true d item items all rest = all
+trimmed_by false true item items all rest = rest
+trimmed_by false false item items all rest = (all.0, rest)
+
+trimmed_range : (items : List Item) → AllByRecursion IsItemInRange items → AllByRecursion IsItemInRange (trimmed items)
+trimmed_range [] all = tt
+trimmed_range (item ∷ items) all = trimmed_by (is_box item) (is_discardable item) item items all
+    (trimmed_range items all.1)
+
+fewer_by : (b d : Bool) (item : Item) (items : List Item) → length (trimmed items) ≤ length items →
+    length (if b then item ∷ items else (if d then trimmed items else item ∷ trimmed items)) ≤ suc (length items)
+fewer_by true d item items h = omega arith
+fewer_by false true item items h = omega (arith, h)
+fewer_by false false item items h = omega (arith, h)
+
+trimmed_few : (items : List Item) → length (trimmed items) ≤ length items
+trimmed_few [] = omega arith
+trimmed_few (item ∷ items) = fewer_by (is_box item) (is_discardable item) item items (trimmed_few items)
+
+-- ---- notes
+
+sizes_sum : (sizes : List ℤ) → AllByRecursion IsSize sizes → pos 0 ≤ℤ whole_sum sizes
+sizes_sum [] all = omega (arith, ints)
+sizes_sum (size ∷ sizes) all = add size (whole_sum sizes) all.0.0 (sizes_sum sizes all.1)
+  where
+    add : (a b : ℤ) → pos 0 ≤ℤ a → pos 0 ≤ℤ b → pos 0 ≤ℤ (a +ℤ b)
+    add a b h k = omega (arith, ints, h, k)
+
+kind_low : (items : List Item) (number : ℕ) (kind : Kind) → IsKind kind → AllByRecursion IsItemInRange items →
+    pos 0 ≤ℤ class_notes items number kind
+kind_low items number (Float area distance) is all = omega (arith, ints)
+kind_low items number (Note skip limit) is all = by (length (sizes_of number items) == 0) skip is.0.0
+    (sizes_sum (sizes_of number items) (sizes_range number items all))
+  where
+    by : (b : Bool) (z : ℤ) → pos 0 ≤ℤ z → pos 0 ≤ℤ whole_sum (sizes_of number items) →
+        pos 0 ≤ℤ (if b then pos 0 else (z +ℤ whole_sum (sizes_of number items)))
+    by true z h k = omega (arith, ints)
+    by false z h k = omega (arith, ints, h, k)
+
+notes_low : (items : List Item) (classes : List Class) → AllByRecursion IsClass classes →
+    AllByRecursion IsItemInRange items →
+    pos 0 ≤ℤ whole_sum_by (λ (class : Class). class_notes items class.number class.kind) classes
+notes_low items [] is all = omega (arith, ints)
+notes_low items (class ∷ classes) is all =
+    add (class_notes items class.number class.kind)
+    (whole_sum_by (λ (class : Class). class_notes items class.number class.kind) classes)
+    (kind_low items class.number class.kind is.0.kind_in all) (notes_low items classes is.1 all)
+  where
+    add : (a b : ℤ) → pos 0 ≤ℤ a → pos 0 ≤ℤ b → pos 0 ≤ℤ (a +ℤ b)
+    add a b h k = omega (arith, ints, h, k)
+
+-- ---- the same text
+
+-- the same text from the same parts
+pub read_same : (style : StyleValue) (column : Column) (numbers : TextCost) (spent : Bool)
+    (bodies bodies' : List (List (List ℕ))) → bodies ≡ bodies' → (before before' : List ℕ) → before ≡ before' →
+    (below below' : List ℕ) → below ≡ below' → (items items' : List Item) → items ≡ items' →
+    read_text style bodies before below column items numbers spent
+    ≡ read_text style bodies' before' below' column items' numbers spent
+read_same style column numbers spent bodies bodies' p before before' q below below' r items items' s =
+    ap (λ (xs : List (List (List ℕ))). read_text style xs before below column items numbers spent) p
+    ∙ ap (λ (xs : List ℕ). read_text style bodies' xs below column items numbers spent) q
+    ∙ ap (λ (xs : List ℕ). read_text style bodies' before' xs column items numbers spent) r
+    ∙ ap (λ (xs : List Item). read_text style bodies' before' below' column xs numbers spent) s
+
+-- ---- the column
+
+module _ (it : ColumnContext) (all : AllByRecursion IsBlock it.document.blocks) (style : IsStyle it.document.style)
+    (rules : KeepsColumnRules it) where
+  pub fault_none : text_fault it ≡ None
+  fault_none =
+      none_or _ _ (none_unless _ _ rules.well_formed)
+      (none_or _ _ (none_unless _ _ rules.tolerable)
+      (none_or _ _ (none_unless _ _ rules.passes)
+      (none_or _ _ (none_unless _ _ rules.room)
+      (none_or _ _ (none_unless _ _ rules.note_limits) (none_unless _ _ rules.looseness)))))
+
+  abbrev Fitting : ℕ → Bool
+  Fitting n = (fronts (flat_items_of it) n == length it.column.picks)
+      && (length (column_variants it) == length it.column.picks)
+
+  pub sized : (n : ℕ) × (size_of it ≡ Some n)
+  sized = by (size_of it) refl
+    where
+      by : (o : Option ℕ) → size_of it ≡ o → (n : ℕ) × (size_of it ≡ Some n)
+      by None e = absurd (let k : false ≡ true = sym (ap (λ (o : Option ℕ). option_map_or Fitting o false) e)
+          ∙ rules.fits in cc)
+      by (Some n) e = (n, e)
+
+  module _ (n : ℕ) (size : size_of it ≡ Some n) where
+    pub named : length (picked_variants (blocks_at it.document.blocks it.column.from) it.column.picks)
+        ≡ length it.column.picks
+    named = eqb-true _ _ (both_of (fronts (flat_items_of it) n == length it.column.picks) _
+        (sym (ap (λ (o : Option ℕ). option_map_or Fitting o false) size) ∙ rules.fits)).1
+
+    pub segment_is : trimmed (items_to (is_same_place it.column.to (end_of it.document.blocks)) it.column.to
+        (flat_items_of it)) ≡ segment it n
+    segment_is = ap trimmed (items_are it.document.blocks it.column.to (flat_items_of it) n size)
+
+    pub segment_range : AllByRecursion IsItemInRange (segment it n)
+    segment_range = trimmed_range (take n (items_of it)) (all_take IsItemInRange n (items_of it)
+        (items_range (flat_items_of it) (at_ranges it.document.blocks it.column.from it.column.picks all)))
+
+    pub segment_few : item_count it.document.blocks ≤ 2 ^ 20 → length (segment it n) ≤ 2 ^ 20
+    segment_few few =
+        let a = trimmed_few (take n (items_of it)) in
+        let b = length-take n (items_of it) in
+        let c = map_length (flat_items_of it) in
+        let d = ahead_few it.document.blocks it.column.from it.column.picks in
+        omega (arith, a, b, c, d, few)
+
+    pub text_fits : is_text it ≡ true → text_is_over it n ≡ false
+    text_fits text = by (is_text it) (size_of it) text size rules.tolerable
+      where
+        not_over : (b c : Bool) → (not b && c) ≡ true → b ≡ false
+        not_over true c e = absurd cc
+        not_over false c e = refl
+
+        by : (t : Bool) (o : Option ℕ) → t ≡ true → o ≡ Some n →
+            (not t || option_map_or (λ (n : ℕ). not (text_is_over it n)
+            && (Rattle.pg_flat.specs.Break.is_forced (items_of it) n
+            || Rattle.std.specs.Prelude.nat_le (Rattle.pg_rules.specs.ColumnRules.text_badness it n)
+            it.document.style.tolerance)) o false) ≡ true → text_is_over it n ≡ false
+        by false o t e r = absurd cc
+        by true o t e r = not_over (text_is_over it n) _
+            (subst (λ (o : Option ℕ). option_map_or (λ (n : ℕ). not (text_is_over it n)
+            && (Rattle.pg_flat.specs.Break.is_forced (items_of it) n
+            || Rattle.std.specs.Prelude.nat_le (Rattle.pg_rules.specs.ColumnRules.text_badness it n)
+            it.document.style.tolerance)) o false ≡ true) e r)
+
+    goal_high : nat_abs (room it) < 2 ^ 40 → text_goal it n ≤ℤ pos (2 ^ 40)
+    goal_high small = less (room it) (notes it.document.style (segment it n)) small
+        (notes_low (segment it n) it.document.style.classes style.classes_in.each segment_range)
+      where
+        less : (a b : ℤ) → nat_abs a < 2 ^ 40 → pos 0 ≤ℤ b → (a -ℤ b) ≤ℤ pos (2 ^ 40)
+        less a b h k = omega (arith, ints, h, k)
+
+    pub excess_is_small : item_count it.document.blocks ≤ 2 ^ 20 → nat_abs (room it) < 2 ^ 40 → is_text it ≡ true →
+        nat_abs (text_goal it n -ℤ text_total it n) < 2 ^ 52
+    excess_is_small few small text = excess_small it.document.style.topskip it.document.style.maxdepth (text_goal it n)
+        (segment it n) segment_range (segment_few few) style.maxdepth_in.0 style.maxdepth_in.1 (goal_high small)
+        (text_fits text)
+
+    -- ---- its text
+
+    module _ (numbers : TextCost) (are : AreNumbers it n numbers) (spent : Bool)
+        (spent_is : spent ≡ is_spent (items_of it) n) where
+      line_is : numbers_text numbers ≡ set_line it n
+      line_is = printed it n numbers are.goal are.total are.badness
+          (ap (λ (o : Option ℤ). option_map_or (λ (penalty : ℤ). penalty) o (pos 0)) are.penalty) are.demerits
+
+      text_is : text_by it.document.style (segment it n) numbers.goal numbers.total spent ≡ text_area it n
+      unfolding text_area
+      text_is = rw (are.goal, are.total, spent_is)
+          (ap (λ (widths : List ℤ). line (codes "area text")
+          ++ items_text it.document.style.topskip (segment it n) widths)
+          (widths_are (segment it n) (text_goal it n) (text_total it n) (is_spent (items_of it) n)))
+
+      dealt_is : (before counts : List ℕ) →
+          dealt_text (float_bodies it.document) before counts ≡ floats_text it.document before counts
+      unfolding floats_text
+      dealt_is before counts = refl
+
+      column_is : read_text it.document.style (float_bodies it.document) it.before (before_bottom it) it.column
+          (segment it n) numbers spent ≡ text_column it n
+      unfolding read_text
+      column_is = rw (
+        line_is,
+        text_is,
+        dealt_is it.before it.column.top,
+        dealt_is (before_bottom it) it.column.bottom,
+        notes_are it.document.style (segment it n) style.classes_in,
+      ) refl
+
+      pub column_text_is : (bodies : List (List (List ℕ))) (before below : List ℕ) (items : List Item) →
+          bodies ≡ float_bodies it.document → before ≡ it.before → below ≡ before_bottom it → items ≡ segment it n →
+          read_text it.document.style bodies before below it.column items numbers spent
+          ≡ option_map_or (text_column it) (size_of it) []
+      column_text_is bodies before below items p q r s =
+          read_same it.document.style it.column numbers spent bodies (float_bodies it.document) p before it.before q below
+          (before_bottom it) r items (segment it n) s
+          ∙ column_is ∙ ap (λ (o : Option ℕ). option_map_or (text_column it) o []) (sym size)
+
+-- ---- floats before it
+
+lent_map : {X Y : Type 0} (f : X → Y) (xs : List X) → length (map f xs) ≡ length xs
+lent_map f [] = refl
+lent_map f (x ∷ xs) = ap suc (lent_map f xs)
+
+-- as many lists of bodies as classes of floats
+pub bodies_long : (doc : Document) {X : Type 0} (f : X → List (List ℕ)) (bodies : List X) →
+    map f bodies ≡ float_bodies doc → length bodies ≡ length (float_numbers doc.style)
+bodies_long doc f bodies are = sym (lent_map f bodies) ∙ ap length are
+    ∙ lent_map (λ (number : ℕ). inserted number (flat doc.blocks [])) (float_numbers doc.style)
+
+pub summed : (doc : Document) (a b : List ℕ) (n : ℕ) → n ≡ length (float_numbers doc.style) →
+    map (λ (slot : ℕ). entry a slot + entry b slot) (range_with_len 0 n) ≡ plus_counts doc.style a b
+summed doc a b n e = ap (λ (k : ℕ). map (λ (slot : ℕ). entry a slot + entry b slot) (range_with_len 0 k)) e
+
+-- ---- no fault
+
+pub judged : (it : ColumnContext) (r : Result TextCost ℕ) → text_fault it ≡ None → Judges it r → (rule : ℕ) →
+    r ≡ Err rule → ⊥
+judged it (Ok numbers) none is rule e = cc
+judged it (Err other) none is rule e = let k : None ≡ Some other = sym none ∙ is in absurd cc
+
+pub numbered : (it : ColumnContext) (r : Result TextCost ℕ) (numbers : TextCost) → Judges it r → r ≡ Ok numbers →
+    (n : ℕ) → size_of it ≡ Some n → AreNumbers it n numbers
+numbered it (Ok other) numbers is e n size =
+    let same : other ≡ numbers = cc in subst (AreNumbers it n) same (is.1 n size)
+numbered it (Err rule) numbers is e n size = absurd cc
+
+-- ---- with text or without
+
+pub body_of_text : (it : ColumnContext) → is_text it ≡ true → option_map_or (text_column it) (size_of it) [] ≡ column_body it
+body_of_text it text = sym (if_true (is_text it) (option_map_or (text_column it) (size_of it) []) (float_column it) text)
+
+pub body_of_floats : (it : ColumnContext) → is_same_place it.column.from it.column.to ≡ true →
+    (bodies : List (List (List ℕ))) (before below : List ℕ) → bodies ≡ float_bodies it.document → before ≡ it.before →
+    below ≡ before_bottom it →
+    bare_text it.document.style.float_column.demerits (dealt_text bodies before it.column.top)
+    (dealt_text bodies below it.column.bottom) ≡ column_body it
+unfolding bare_text floats_text
+body_of_floats it same bodies before below p q r =
+    ap (λ (xs : List (List (List ℕ))). bare (dealt_text xs before it.column.top) (dealt_text xs below it.column.bottom)) p
+    ∙ ap (λ (xs : List ℕ). bare (dealt_text (float_bodies it.document) xs it.column.top)
+    (dealt_text (float_bodies it.document) below it.column.bottom)) q
+    ∙ ap (λ (xs : List ℕ). bare (dealt_text (float_bodies it.document) it.before it.column.top)
+    (dealt_text (float_bodies it.document) xs it.column.bottom)) r
+    ∙ sym (append_assoc (line (codes "without text demerits " ++ decimal it.document.style.float_column.demerits))
+    (top_area it) (bottom_area it))
+    ∙ sym (if_false (is_text it) (option_map_or (text_column it) (size_of it) []) (float_column it) (ap not same))
+  where
+    bare : List ℕ → List ℕ → List ℕ
+    bare top bottom = line (codes "without text demerits " ++ decimal it.document.style.float_column.demerits)
+        ++ (area (codes "top") top ++ area (codes "bottom") bottom)
+
+-- ---- columns in their seats
+
+pub seat_same : (doc : Document) (seat : Seat) (column : Column) (number run : ℕ) (wide : Option ℤ) → seat.run ≡ run →
+    seat.wide ≡ wide → column_line number column ++ column_body (seated doc seat column)
+    ≡ seat_text doc run wide number seat.before column
+seat_same doc seat column number run wide p q =
+    ap (λ (r : ℕ). seat_text doc r seat.wide number seat.before column) p
+    ∙ ap (λ (w : Option ℤ). seat_text doc run w number seat.before column) q
+
+-- counts added over as many slots as there are classes of floats
+pub plus_is : (style : StyleValue) (a b c : List ℕ) (n : ℕ) → n ≡ length (float_numbers style) → b ≡ c →
+    (sum : List ℕ) → sum ≡ map (λ (slot : ℕ). entry a slot + entry b slot) (range_with_len 0 n) →
+    sum ≡ plus_counts style a c
+plus_is style a b c n e same sum is = is
+    ∙ ap (λ (k : ℕ). map (λ (slot : ℕ). entry a slot + entry b slot) (range_with_len 0 k)) e
+    ∙ ap (λ (counts : List ℕ). plus_counts style a counts) same

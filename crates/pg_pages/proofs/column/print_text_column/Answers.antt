@@ -1,0 +1,89 @@
+use Rattle.std.proofs.Common.{sym, ap, subst, ◌∙◌, ◌<◌, ◌^◌, ◌+◌, arith, List, ℕ, ℤ, map, length}
+use Rattle.std.specs.Prelude.{nat_abs, ◌-ℤ◌}
+use Rattle.std.specs.List.{AllByRecursion, range_with_len}
+use Rattle.pg_rules.specs.Floats.{entry}
+use Rattle.pg_list.specs.Ranges.{IsItemInRange}
+use Rattle.pg_rules.specs.ColumnRules.{text_goal}
+use Rattle.pg_rules.specs.Legal.{document}
+use Rattle.pg_pages.specs.Printed.{behind}
+use Rattle.pg_pages.specs.Seated.{seated}
+use Rattle.pg_lemmas.proofs.Numbers.{eq_yes}
+use Rattle.pg_pages.proofs.Printed.{behind_long}
+use Rattle.pg_pages.proofs.Singles.{on_same}
+use Rattle.pg_pages.proofs.TextColumn.{bodies_long, column_text_is, excess_is_small, named, segment_few, segment_is, segment_range, sized, summed}
+use Rattle.pg_pages.proofs.column.print_text_column.Goals as goal
+
+pub room_of-room-requires-clause-below : goal.room_of-room-requires-clause-below
+room_of-room-requires-clause-below c =
+    let doc = document c.args.galley.now c.args.style.now in
+    c.in_ok-below.ensures
+    ∙ ap (λ (a : List ℕ). map (λ (slot : ℕ). entry a slot + entry c.as_slice-2.result.now slot)
+    (range_with_len 0 (length c.args.bodies.now))) c.as_slice.ensures
+    ∙ ap (λ (b : List ℕ). map (λ (slot : ℕ). entry c.args.seat.now.before slot + entry b slot)
+    (range_with_len 0 (length c.args.bodies.now))) c.as_slice-2.ensures
+    ∙ summed doc c.args.seat.now.before c.args.column.now.top (length c.args.bodies.now)
+    (bodies_long doc _ c.args.bodies.now c.requires.bodies)
+
+pub text_items-requires : goal.text_items-requires
+text_items-requires c =
+    let it = seated (document c.args.galley.now c.args.style.now) c.args.seat.now c.args.column.now in
+    let size = sized it c.requires.floats.shape c.stays_in_range.ensures c.requires.may.rules in
+    eq_yes _ _ (named it c.requires.floats.shape c.stays_in_range.ensures c.requires.may.rules size.0 size.1)
+
+pub print_read-requires-clause-few : goal.print_read-requires-clause-few
+print_read-requires-clause-few c =
+    let it = seated (document c.args.galley.now c.args.style.now) c.args.seat.now c.args.column.now in
+    let rules = c.requires.may.rules in
+    let size = sized it c.requires.floats.shape c.stays_in_range.ensures rules in
+    let items = ap behind c.as_slice-5.ensures.value ∙ c.in_ok-items.ensures
+    ∙ segment_is it c.requires.floats.shape c.stays_in_range.ensures rules size.0 size.1 in
+    let long = behind_long c.as_slice-5.result.now in
+    let same = ap length items in
+    let few = segment_few it c.requires.floats.shape c.stays_in_range.ensures rules size.0 size.1
+    c.blocks_of-blocks.ensures.count in
+    omega (arith, long, same, few)
+
+pub print_read-requires-clause-ranges : goal.print_read-requires-clause-ranges
+print_read-requires-clause-ranges c =
+    let it = seated (document c.args.galley.now c.args.style.now) c.args.seat.now c.args.column.now in
+    let rules = c.requires.may.rules in
+    let size = sized it c.requires.floats.shape c.stays_in_range.ensures rules in
+    let items = ap behind c.as_slice-5.ensures.value ∙ c.in_ok-items.ensures
+    ∙ segment_is it c.requires.floats.shape c.stays_in_range.ensures rules size.0 size.1 in
+    subst (AllByRecursion IsItemInRange) (sym items)
+    (segment_range it c.requires.floats.shape c.stays_in_range.ensures rules size.0 size.1)
+
+pub print_read-requires-clause-excess : goal.print_read-requires-clause-excess
+print_read-requires-clause-excess c =
+    let it = seated (document c.args.galley.now c.args.style.now) c.args.seat.now c.args.column.now in
+    let rules = c.requires.may.rules in
+    let size = sized it c.requires.floats.shape c.stays_in_range.ensures rules in
+    let are = c.numbers_of-numbers.ensures size.0 size.1 in
+    let small = subst (λ (z : ℤ). nat_abs z < 2 ^ 40) c.room_of-room.ensures.value c.room_of-room.ensures.size in
+    subst (λ (z : ℤ). nat_abs (z -ℤ c.numbers_of-numbers.result.total) < 2 ^ 52) (sym are.goal)
+    (subst (λ (z : ℤ). nat_abs (text_goal it size.0 -ℤ z) < 2 ^ 52) (sym are.total)
+    (excess_is_small it c.requires.floats.shape c.stays_in_range.ensures rules size.0 size.1
+    c.blocks_of-blocks.ensures.count small c.requires.text))
+
+pub returns-clause-ok : goal.returns-clause-ok
+returns-clause-ok c =
+    let doc = document c.args.galley.now c.args.style.now in
+    let it = seated doc c.args.seat.now c.args.column.now in
+    let rules = c.requires.may.rules in
+    let size = sized it c.requires.floats.shape c.stays_in_range.ensures rules in
+    let items = ap behind c.as_slice-5.ensures.value ∙ c.in_ok-items.ensures
+    ∙ segment_is it c.requires.floats.shape c.stays_in_range.ensures rules size.0 size.1 in
+    let spent = c.is_spent-is_spent.ensures.column c.args.column.now.from c.args.column.now.picks size.0
+    (named it c.requires.floats.shape c.stays_in_range.ensures rules size.0 size.1) size.1 in
+    let below = c.as_slice-4.ensures ∙ c.in_ok-below.ensures
+    ∙ ap (λ (a : List ℕ). map (λ (slot : ℕ). entry a slot + entry c.as_slice-2.result.now slot)
+    (range_with_len 0 (length c.args.bodies.now))) c.as_slice.ensures
+    ∙ ap (λ (b : List ℕ). map (λ (slot : ℕ). entry c.args.seat.now.before slot + entry b slot)
+    (range_with_len 0 (length c.args.bodies.now))) c.as_slice-2.ensures
+    ∙ summed doc c.args.seat.now.before c.args.column.now.top (length c.args.bodies.now)
+    (bodies_long doc _ c.args.bodies.now c.requires.bodies) in
+    on_same c.print_read.result c.args.out.now.items c.print_read.new.out.items _ _
+    (column_text_is it c.requires.floats.shape c.stays_in_range.ensures rules size.0 size.1 c.numbers_of-numbers.result
+    (c.numbers_of-numbers.ensures size.0 size.1) c.is_spent-is_spent.result spent _ _ _ _ c.requires.bodies
+    c.as_slice-3.ensures below items)
+    c.print_read.ensures.ok

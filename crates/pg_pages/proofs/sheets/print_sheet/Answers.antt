@@ -1,0 +1,22 @@
+use Rattle.pg_rules.specs.Legal.{document}
+use Rattle.pg_pages.proofs.SheetText.{sheet_is}
+use Rattle.pg_pages.proofs.Singles.{grows_on}
+use Rattle.pg_pages.proofs.TextColumn.{bodies_long}
+use Rattle.pg_pages.proofs.sheets.print_sheet.Goals as goal
+
+pub first_seat-requires-clause-slots : goal.first_seat-requires-clause-slots
+first_seat-requires-clause-slots c =
+    bodies_long (document c.args.galley.now c.args.style.now) _ c.args.bodies.now c.requires.bodies
+
+pub returns-clause-ok : goal.returns-clause-ok
+returns-clause-ok c =
+    sheet_is (document c.args.galley.now c.args.style.now) c.args.number c.args.placed.now c.args.page.now _
+    c.requires.bodies c.in_ok-seat.seat.run c.in_ok-seat.ensures.run c.in_ok-seat.seat.wide c.in_ok-seat.ensures.wide
+    c.in_ok-seat.seat.before c.in_ok-seat.ensures.before c.as_slice-columns.result.now c.as_slice-columns.ensures
+    c.args.out.now.items c.print_page_head.new.out.items c.print_seats.new.out.items c.in_ok-print_page_head.ensures.ok
+    c.in_ok-print_seats.ensures.ok
+
+pub returns-clause-grows : goal.returns-clause-grows
+returns-clause-grows c =
+    grows_on c.args.out.now.items c.print_page_head.new.out.items c.print_seats.new.out.items
+    c.in_ok-print_page_head.ensures.grows c.in_ok-print_seats.ensures.grows

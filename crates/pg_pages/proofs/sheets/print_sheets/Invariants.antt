@@ -1,0 +1,18 @@
+use Rattle.std.proofs.Common.{◌≡◌, ◌++◌, ◌+◌, [], length}
+use Rattle.pg_rules.specs.History.{placed_of}
+use Rattle.pg_rules.specs.Legal.{document}
+use Rattle.pg_scaled.specs.Scaled.{Grows}
+use Rattle.pg_pages.specs.Sheets.{MaySheets, sheets_text}
+use Rattle.pg_pages.proofs.sheets.print_sheets.Given as goal
+
+abbrev pub invariant-each : goal.invariant-each
+invariant-each l = record {
+  text : l.out.items ++ sheets_text (document l.galley l.style) l.number l.placed l.rest
+      ≡ l.fn.out.items ++ sheets_text (document l.galley l.style) 1 (placed_of l.style []) l.pages;
+  may : MaySheets (document l.galley l.style) l.placed l.rest;
+  number : l.number + length l.rest ≡ 1 + length l.pages;
+  grows : Grows l.fn.out.items l.out.items;
+}
+
+abbrev pub decreases-each : goal.decreases-each
+decreases-each l = length l.rest

@@ -1,0 +1,139 @@
+-- How the printer goes along items, floats, columns and pages. It is proved to print the page text; nobody need believe
+-- what stands here.
+use Rattle.std.specs.Prelude.{◌<◌, ◌+◌, codes, decimal, ℕ, Bool, ◌&&◌, ◌||◌, not, if◌then◌else◌, List, [], ◌∷◌, ◌++◌, length, map, drop, Vec, ℤ, pos, neg_ℤ, ◌-ℤ◌, ◌<ℤ◌, ◌^◌, int_lt}
+use Rattle.std.specs.Borrow.{Bor}
+use Rattle.std.specs.declared.alloc.Global.{Global}
+use Rattle.std.specs.List.{flat_map, take_while}
+use Rattle.pg_list.specs.declared.item.Item.{Item}
+use Rattle.pg_list.specs.declared.item.Item.TheVariants.{Glue}
+use Rattle.pg_list.specs.declared.galley.Place.{Place}
+use Rattle.pg_list.specs.declared.blocks.Block.{Block}
+use Rattle.pg_list.specs.Shapes.{is_box, is_discardable}
+use Rattle.pg_flat.specs.Flat.{FlatItem, is_same_place}
+use Rattle.pg_style.specs.Classes.{is_float_class}
+use Rattle.pg_style.specs.declared.style.Class.{Class}
+use Rattle.pg_floats.specs.Callouts.{first_items}
+use Rattle.pg_style.specs.Values.{StyleValue}
+use Rattle.pg_plan.specs.declared.pages.Column.{Column}
+use Rattle.pg_rules.specs.Floats.{dealt_from, entry}
+use Rattle.pg_column.specs.declared.cost.TextCost.{TextCost}
+use Rattle.pg_pages.specs.PlainText.{numbers_text}
+use Rattle.pg_glue.specs.declared.Elastic.{Elastic}
+use Rattle.pg_glue.specs.declared.Sense.{Sense}
+use Rattle.pg_glue.specs.declared.Sense.TheVariants.{Stretch, Shrink}
+use Rattle.pg_glue.specs.Widths.{set_widths}
+use Rattle.pg_pages.specs.Bodies.{body_text, plain_text, set_text}
+use Rattle.pg_pages.specs.PageText.{area, inserted, is_note_kind, items_text}
+use Rattle.pg_pages.specs.Words.{line}
+use Rattle.pg_pages.specs.SetGlue.{own_width, shrinking, stretching}
+
+-- ---- items
+
+-- what is behind references, one after another
+abbrev pub behind : {T : Type 0} → List (Bor T) → List T
+behind xs = map (λ x. x.now) xs
+
+-- the items ahead up to a place, or up to the end
+abbrev pub items_to : Bool → Place → List FlatItem → List Item
+items_to is_end to [] = []
+items_to is_end to (x ∷ xs) = if not is_end && is_same_place x.place to then [] else x.item ∷ items_to is_end to xs
+
+-- the items that are kept, where a box was met before or not
+abbrev pub kept_from : Bool → List Item → List Item
+kept_from met [] = []
+kept_from met (item ∷ items) =
+    (if (met || is_box item) || not (is_discardable item) then item ∷ [] else []) ++ kept_from (met || is_box item) items
+
+-- ---- glue
+
+-- the glue of an item, as it grows or gives way
+abbrev pub elastic : Sense → Item → List Elastic
+elastic Stretch item = stretching item
+elastic Shrink item = shrinking item
+
+-- the set widths of the glue of a text with this goal and total
+abbrev pub widths_by : List Item → ℤ → ℤ → Bool → List ℤ
+widths_by items goal total is_spent =
+    if int_lt total goal && not is_spent then set_widths (flat_map (elastic Stretch) items) (goal -ℤ total) Stretch
+    else (if int_lt goal total then set_widths (flat_map (elastic Shrink) items) (total -ℤ goal) Shrink
+    else flat_map own_width items)
+
+-- a width that can be printed
+abbrev pub IsPrintable : ℤ → Type 0
+IsPrintable width = (neg_ℤ (pos (2 ^ 120)) <ℤ width) × (width <ℤ pos (2 ^ 120))
+
+-- ---- the text area
+
+-- the items before the first box or rule
+abbrev pub front_of : List Item → List Item
+front_of items = take_while (λ (item : Item). not (is_box item)) items
+
+-- those from it on
+abbrev pub box_on : List Item → List Item
+box_on items = drop (length (front_of items)) items
+
+-- an item behind the first box, where these set widths are left
+abbrev pub set_item : Item → List ℤ → List ℕ
+set_item (Glue width stretch order shrink body) [] = body_text body
+set_item (Glue width stretch order shrink body) (set ∷ widths) = set_text body set
+set_item item widths = plain_text item
+
+-- the set widths that are left behind it
+abbrev pub widths_behind : Item → List ℤ → List ℤ
+widths_behind (Glue width stretch order shrink body) widths = drop 1 widths
+widths_behind item widths = widths
+
+-- ---- notes
+
+-- a class of notes
+abbrev pub is_note_class : Class → Bool
+is_note_class class = is_note_kind class.kind
+
+-- the notes of a class among items
+abbrev pub class_notes_text : Class → List Item → List ℕ
+class_notes_text class items = if is_note_class class then flat_map body_text (inserted class.number items) else []
+
+-- the notes of classes, one class after another
+abbrev pub notes_by : List Class → List Item → List ℕ
+notes_by [] items = []
+notes_by (class ∷ classes) items = class_notes_text class items ++ notes_by classes items
+
+-- ---- floats
+
+-- for each of these classes, if it is one of floats, the shown texts of its floats
+abbrev pub bodies_of : List Block → List Class → List (List (List ℕ))
+bodies_of blocks [] = []
+bodies_of blocks (class ∷ classes) =
+    (if is_float_class class then inserted class.number (first_items blocks) ∷ [] else []) ++ bodies_of blocks classes
+
+-- the bodies that are lent, by class
+abbrev pub lent : List (Vec (Bor (List ℕ)) Global) → List (List (List ℕ))
+lent bodies = map (λ own. behind own.items) bodies
+
+-- the floats that counts deal out after others
+abbrev pub dealt_text : List (List (List ℕ)) → List ℕ → List ℕ → List ℕ
+dealt_text bodies before counts = flat_map body_text (dealt_from 0 bodies before counts)
+
+-- ---- columns
+
+-- counts that fit a count list together
+abbrev pub FitTogether : List ℕ → List ℕ → Type 0
+FitTogether a b = (slot : ℕ) → entry a slot + entry b slot < 2 ^ 16
+
+-- the text area of these items
+abbrev pub text_by : StyleValue → List Item → ℤ → ℤ → Bool → List ℕ
+text_by style items goal total is_spent =
+    line (codes "area text") ++ items_text style.topskip items (widths_by items goal total is_spent)
+
+-- the text of a column whose text has these items and numbers
+unfoldable pub read_text : StyleValue → List (List (List ℕ)) → List ℕ → List ℕ → Column → List Item → TextCost → Bool → List ℕ
+read_text style bodies before below column items numbers is_spent =
+    numbers_text numbers ++ area (codes "top") (dealt_text bodies before column.top)
+    ++ text_by style items numbers.goal numbers.total is_spent
+    ++ area (codes "bottom") (dealt_text bodies below column.bottom)
+    ++ area (codes "notes") (notes_by style.classes items)
+
+-- a column without text, with these floats at the top and at the bottom
+unfoldable pub bare_text : ℕ → List ℕ → List ℕ → List ℕ
+bare_text demerits top bottom =
+    line (codes "without text demerits " ++ decimal demerits) ++ (area (codes "top") top ++ area (codes "bottom") bottom)

@@ -1,0 +1,157 @@
+//! Where a column stands: the floats placed before it, and the room of its text.
+ghost use Rattle.std.specs.Prelude.{◌≡◌, ◌<◌, ◌≤◌, ◌+◌, ◌^◌, ◌∷◌, [], ℕ, List, IfOk, length, map, nat_abs, true, pos, slice_get, unwrap_or, ◌+ℤ◌, ◌-ℤ◌};
+ghost use Rattle.std.specs.List.{range_with_len, AllByRecursion};
+ghost use Rattle.pg_list.specs.Shapes.{IsBlock};
+ghost use Rattle.pg_list.specs.declared.blocks.Block.{Block as ABlock};
+ghost use Rattle.pg_style.specs.Values.{StyleValue};
+ghost use Rattle.pg_style.specs.Ranges.{IsStyle};
+ghost use Rattle.pg_rules.specs.Floats.{entry as entry_of, floats as floats_of};
+ghost use Rattle.pg_rules.specs.Room.{before_bottom, checked_height, extra, room};
+ghost use Rattle.pg_floats.specs.AreFloats.{AreFloats};
+ghost use Rattle.std.specs.Option.{option_map_or};
+ghost use Rattle.pg_style.specs.declared.style.Run.{Run as ARun};
+ghost use Rattle.pg_rules.specs.Legal.{document};
+ghost use Rattle.pg_pages.specs.Printed.{FitTogether};
+ghost use Rattle.pg_pages.specs.Seated.{MayPrint, seated};
+
+use pg_floats::FloatList;
+use pg_list::Galley;
+use pg_plan::{Column, Counts};
+use pg_style::{AreaRule, Run, Style};
+use pg_whole::{minus, plus, wide};
+use std::alloc::{AllocError, Global};
+
+// An entry of a count list.
+fn count_at(counts: &[u16], slot: usize) -> u16
+    ensures { result ≡ entry_of counts.now slot }
+{
+    match counts.get(slot) {
+        Some(count) => *count,
+        None => 0,
+    }
+}
+
+/// Where a column stands: the run of its page, the height of its page's wide area, and the floats placed before it.
+#[derive(Drop)]
+pub struct Seat {
+    pub run: u8,
+    pub wide: Option<i64>,
+    pub before: Counts,
+}
+
+// Counts added, class by class.
+pub fn added(alloc: Global, slots: usize, a: &[u16], b: &[u16]) -> Result<Counts, AllocError>
+    requires { FitTogether a.now b.now }
+    ensures { IfOk result (λ counts. counts
+        ≡ map (λ (slot : ℕ). entry_of a.now slot + entry_of b.now slot) (range_with_len 0 slots)) }
+{
+    let mut counts = Counts::new(alloc);
+    for slot in 0..slots {
+        counts.push(count_at(a, slot) + count_at(b, slot))?;
+    }
+    Ok(counts)
+}
+
+// The height of an area whose counts are allowed; 0 where a float is not there.
+fn area_height(floats: &FloatList, rule: &AreaRule, before: &Counts, counts: &Counts) -> i64
+    ensures { (blocks : List ABlock) (style : StyleValue) → AreFloats blocks style floats.now →
+        result ≡ checked_height (floats_of blocks style) true rule.now before.now counts.now }
+{
+    match floats.area(rule, before, counts) {
+        Some(height) => height,
+        None => 0,
+    }
+}
+
+// The height of a column's top area.
+fn top_height(floats: &FloatList, style: &Style, before: &Counts, counts: &Counts) -> i64
+    ensures { (blocks : List ABlock) (those : StyleValue) → AreFloats blocks those floats.now →
+        result ≡ checked_height (floats_of blocks those) true style.now.top before.now counts.now }
+{
+    area_height(floats, &style.top, before, counts)
+}
+
+// The height of a column's bottom area.
+fn bottom_height(floats: &FloatList, style: &Style, below: &Counts, counts: &Counts) -> i64
+    ensures { (blocks : List ABlock) (those : StyleValue) → AreFloats blocks those floats.now →
+        result ≡ checked_height (floats_of blocks those) true style.now.bottom below.now counts.now }
+{
+    area_height(floats, &style.bottom, below, counts)
+}
+
+// The height of a page's wide area.
+pub fn wide_area(floats: &FloatList, style: &Style, placed: &Counts, counts: &Counts) -> i64
+    ensures { (blocks : List ABlock) (those : StyleValue) → AreFloats blocks those floats.now →
+        result ≡ checked_height (floats_of blocks those) true style.now.wide placed.now counts.now }
+{
+    area_height(floats, &style.wide, placed, counts)
+}
+
+// What a run adds to the height of a column.
+fn extra_of(runs: &[Run], run: u8) -> i32
+    ensures { result ≡ option_map_or (λ (it : ARun). it.extra) (slice_get runs.now run) (pos 0) }
+{
+    match runs.get(run as usize) {
+        Some(run) => run.extra,
+        None => 0,
+    }
+}
+
+// The height of a column on a page of a run.
+fn full_height(style: &Style, run: u8) -> i64
+    ensures value { result ≡ style.now.height +ℤ extra style.now run }
+    ensures size { nat_abs result < 2 ^ 33 }
+{
+    plus(
+        wide(style.height),
+        wide(extra_of(style.runs.as_slice(), run)),
+    )
+}
+
+// The height of a wide area, 0 where there is none.
+fn wide_height(wide: Option<i64>) -> i64
+    ensures { result ≡ unwrap_or wide (pos 0) }
+{
+    match wide {
+        Some(height) => height,
+        None => 0,
+    }
+}
+
+// What the areas leave of a column's height.
+fn room_left(full: i64, wide: i64, top: i64, bottom: i64) -> i64
+    requires full { nat_abs full < 2 ^ 33 }
+    requires wide { nat_abs wide < 2 ^ 33 }
+    requires top { nat_abs top < 2 ^ 33 }
+    requires bottom { nat_abs bottom < 2 ^ 33 }
+    ensures value { result ≡ (((full -ℤ wide) -ℤ top) -ℤ bottom) }
+    ensures size { nat_abs result < 2 ^ 40 }
+{
+    minus(minus(minus(full, wide), top), bottom)
+}
+
+// The room of a column's text.
+pub fn room_of(
+    galley: &Galley,
+    style: &Style,
+    floats: &FloatList,
+    seat: &Seat,
+    below: &Counts,
+    column: &Column,
+) -> i64
+    requires floats { AreFloats galley.now.blocks style.now floats.now }
+    requires may { MayPrint (seated (document galley.now style.now) seat.now column.now) }
+    requires below { below.now ≡ before_bottom (seated (document galley.now style.now) seat.now column.now) }
+    ensures value { result ≡ room (seated (document galley.now style.now) seat.now column.now) }
+    ensures size { nat_abs result < 2 ^ 40 }
+{
+    style.stays_in_range();
+    let top = top_height(floats, style, &seat.before, &column.top);
+    let bottom = bottom_height(floats, style, below, &column.bottom);
+    room_left(
+        full_height(style, seat.run),
+        wide_height(seat.wide),
+        top,
+        bottom,
+    )
+}

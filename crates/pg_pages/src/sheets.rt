@@ -1,0 +1,314 @@
+//! Pages in reading order.
+ghost use Rattle.std.specs.Prelude.{◌≡◌, ◌<◌, ◌≤◌, ◌+◌, ◌^◌, ◌++◌, ◌∷◌, [], ℕ, List, OnOk, OnErr, IfOk, codes, length, nat_lt, pos, true};
+ghost use Rattle.std.specs.List.{sum_by, range_with_len};
+ghost use Rattle.pg_rules.specs.Floats.{entry as entry_of, float_numbers, is_area_allowed, plus_counts, takes_wide};
+ghost use Rattle.pg_list.specs.declared.blocks.Block.{Block as ABlock};
+ghost use Rattle.pg_rules.specs.History.{made_wide as made_wide_of, placed_of, side_of as side_in};
+ghost use Rattle.pg_rules.specs.Legal.{document};
+ghost use Rattle.pg_floats.specs.AreFloats.{AreFloats};
+ghost use Rattle.pg_scaled.specs.Scaled.{Grows};
+ghost use Rattle.pg_pages.specs.Words.{side_text};
+ghost use Rattle.pg_pages.specs.PageText.{area, float_bodies as bodies_in, head_line, page_line, page_text, page_side};
+ghost use Rattle.pg_pages.specs.Printed.{FitTogether, dealt_text, lent};
+ghost use Rattle.pg_pages.specs.Sheets.{AreFilled, MayFrom, MaySheet, MaySheets, columns_from, is_any, placed_behind, placed_from, sheet_behind, sheet_text, sheets_text};
+
+use crate::areas::float_bodies;
+use crate::column::{print_column, print_floats};
+use crate::pages::{print_head, print_numbered, print_run};
+use crate::seats::{Seat, added, wide_area};
+use pg_column::blocks_of;
+use pg_floats::FloatList;
+use pg_list::Galley;
+use pg_plan::{Column, Counts, Page, Pagination, Side};
+use pg_style::{First, Style};
+use std::alloc::{AllocError, Global};
+
+// The side of a page by its number.
+fn side_of(first: First, number: u128) -> Side
+    ensures { result ≡ side_in first number }
+{
+    match first {
+        First::Single => Side::S,
+        First::Left => { if number % 2 == 1 { Side::L } else { Side::R } }
+        First::Right => { if number % 2 == 1 { Side::R } else { Side::L } }
+    }
+}
+
+// The letter of a side.
+fn print_side(side: Side, out: &mut Vec<u8>) -> Result<(), AllocError>
+    ensures ok { OnOk result (out.new.items ≡ out.old.items ++ side_text side) }
+    ensures grows { Grows out.old.items out.new.items }
+{
+    let letter = match side {
+        Side::L => b'L',
+        Side::R => b'R',
+        Side::S => b'S',
+    };
+    out.push(letter)?;
+    Ok(())
+}
+
+// The number and the side of a page.
+#[tactic(auto, unfolding(crate::specs::PageText::page_side))]
+fn print_page_side(number: u128, side: Side, out: &mut Vec<u8>) -> Result<(), AllocError>
+    ensures ok { OnOk result (out.new.items ≡ out.old.items ++ page_side number side) }
+    ensures grows { Grows out.old.items out.new.items }
+{
+    print_numbered(b"page ", number, out)?;
+    out.extend_from_slice(b" side ")?;
+    print_side(side, out)
+}
+
+// The line of a page.
+#[tactic(auto, unfolding(crate::specs::PageText::page_line))]
+pub fn print_side_line(
+    number: u128,
+    side: Side,
+    page: &Page,
+    out: &mut Vec<u8>,
+) -> Result<(), AllocError>
+    ensures ok { OnOk result (out.new.items ≡ out.old.items ++ page_line number side page.now.run page.now.wide) }
+    ensures grows { Grows out.old.items out.new.items }
+{
+    print_page_side(number, side, out)?;
+    print_run(page, out)?;
+    out.push(b'\n')?;
+    Ok(())
+}
+
+// The floats placed behind a column.
+fn placed_after(
+    alloc: Global,
+    style: &Style,
+    slots: usize,
+    before: &[u16],
+    column: &Column,
+) -> Result<Counts, AllocError>
+    requires slots { slots ≡ length (float_numbers style.now) }
+    requires tops { FitTogether before.now column.now.top }
+    requires bottoms { FitTogether (plus_counts style.now before.now column.now.top) column.now.bottom }
+    ensures { IfOk result (λ placed. placed ≡ placed_behind style.now before.now column.now) }
+{
+    // the clause alone speaks of the style
+    let _ = style;
+    let below = added(alloc, slots, before, column.top.as_slice())?;
+    let placed = added(alloc, slots, below.as_slice(), column.bottom.as_slice())?;
+    Ok(placed)
+}
+
+// The columns of a page, one behind the other; the seat is then behind them.
+fn print_seats(
+    galley: &Galley,
+    style: &Style,
+    floats: &FloatList,
+    bodies: &[Vec<&[u8]>],
+    seat: &mut Seat,
+    columns: &[Column],
+    out: &mut Vec<u8>,
+) -> Result<(), AllocError>
+    requires floats { AreFloats galley.now.blocks style.now floats.now }
+    requires bodies { lent bodies.now ≡ bodies_in (document galley.now style.now) }
+    requires may { MayFrom (document galley.now style.now) seat.old.run seat.old.wide seat.old.before columns.now }
+    ensures ok { OnOk result (out.new.items ≡ out.old.items
+        ++ columns_from (document galley.now style.now) seat.old.run seat.old.wide 1 seat.old.before columns.now) }
+    ensures placed { OnOk result (seat.new.before ≡ placed_from style.now seat.old.before columns.now) }
+    ensures grows { Grows out.old.items out.new.items }
+{
+    let alloc = *out.allocator();
+    let slots = bodies.len();
+    let mut number: u128 = 1;
+    let mut rest = columns;
+    'each: while let [column, after @ ..] = rest {
+        print_column(galley, style, floats, bodies, seat, number, column, out)?;
+        seat.before = placed_after(alloc, style, slots, seat.before.as_slice(), column)?;
+        number += 1;
+        rest = after;
+    }
+    Ok(())
+}
+
+// Whether some count is not 0.
+fn deals_any(counts: &[u16]) -> bool
+    ensures { result ≡ is_any counts.now }
+{
+    let mut rest = counts;
+    'each: while let [count, after @ ..] = rest {
+        if *count > 0 {
+            return true;
+        }
+        rest = after;
+    }
+    false
+}
+
+// The height of a page's wide area, where it has a wide float.
+fn made_wide(floats: &FloatList, style: &Style, placed: &Counts, counts: &Counts) -> Option<i64>
+    requires { is_area_allowed style.now takes_wide style.now.wide.count counts.now ≡ true }
+    ensures { (blocks : List ABlock) → AreFloats blocks style.now floats.now →
+        result ≡ made_wide_of (record { blocks = blocks; style = style.now }) placed.now counts.now }
+{
+    if deals_any(counts.as_slice()) {
+        Some(wide_area(floats, style, placed, counts))
+    } else {
+        None
+    }
+}
+
+// The line of a page and its wide area.
+fn print_page_head(
+    style: &Style,
+    bodies: &[Vec<&[u8]>],
+    number: u128,
+    placed: &Counts,
+    page: &Page,
+    out: &mut Vec<u8>,
+) -> Result<(), AllocError>
+    ensures ok { OnOk result (out.new.items ≡ out.old.items
+        ++ (page_line number (side_in style.now.first number) page.now.run page.now.wide
+        ++ area (codes "wide") (dealt_text (lent bodies.now) placed.now page.now.wide))) }
+    ensures grows { Grows out.old.items out.new.items }
+{
+    print_side_line(number, side_of(style.first, number), page, out)?;
+    print_floats(
+        b"wide",
+        bodies,
+        placed.as_slice(),
+        page.wide.as_slice(),
+        out,
+    )
+}
+
+// Where the first column of a page stands.
+fn first_seat(
+    galley: &Galley,
+    style: &Style,
+    floats: &FloatList,
+    slots: usize,
+    placed: &Counts,
+    page: &Page,
+    alloc: Global,
+) -> Result<Seat, AllocError>
+    requires floats { AreFloats galley.now.blocks style.now floats.now }
+    requires slots { slots ≡ length (float_numbers style.now) }
+    requires wide { is_area_allowed style.now takes_wide style.now.wide.count page.now.wide ≡ true }
+    requires fit { FitTogether placed.now page.now.wide }
+    ensures run { IfOk result (λ seat. seat.run ≡ page.now.run) }
+    ensures wide { IfOk result (λ seat. seat.wide
+        ≡ made_wide_of (document galley.now style.now) placed.now page.now.wide) }
+    ensures before { IfOk result (λ seat. seat.before ≡ plus_counts style.now placed.now page.now.wide) }
+{
+    // the clauses alone speak of the galley
+    let _ = galley;
+    let before = added(alloc, slots, placed.as_slice(), page.wide.as_slice())?;
+    Ok(Seat {
+        run: page.run,
+        wide: made_wide(floats, style, placed, &page.wide),
+        before,
+    })
+}
+
+// A page of this number, behind so many placed floats; answers those placed behind it.
+fn print_sheet(
+    galley: &Galley,
+    style: &Style,
+    floats: &FloatList,
+    bodies: &[Vec<&[u8]>],
+    number: u128,
+    placed: &Counts,
+    page: &Page,
+    out: &mut Vec<u8>,
+) -> Result<Counts, AllocError>
+    requires floats { AreFloats galley.now.blocks style.now floats.now }
+    requires bodies { lent bodies.now ≡ bodies_in (document galley.now style.now) }
+    requires may { MaySheet (document galley.now style.now) placed.now page.now }
+    ensures ok { OnOk result (out.new.items ≡ out.old.items
+        ++ sheet_text (document galley.now style.now) number placed.now page.now) }
+    ensures placed { IfOk result (λ behind. behind ≡ sheet_behind style.now placed.now page.now) }
+    ensures grows { Grows out.old.items out.new.items }
+{
+    let alloc = *out.allocator();
+    let slots = bodies.len();
+    print_page_head(style, bodies, number, placed, page, out)?;
+    let mut seat = first_seat(galley, style, floats, slots, placed, page, alloc)?;
+    let columns = page.columns.as_slice();
+    print_seats(galley, style, floats, bodies, &mut seat, columns, out)?;
+    let Seat { before, .. } = seat;
+    Ok(before)
+}
+
+// Pages one behind the other, from the first on.
+fn print_sheets(
+    galley: &Galley,
+    style: &Style,
+    floats: &FloatList,
+    bodies: &[Vec<&[u8]>],
+    pages: &[Page],
+    out: &mut Vec<u8>,
+) -> Result<(), AllocError>
+    requires floats { AreFloats galley.now.blocks style.now floats.now }
+    requires bodies { lent bodies.now ≡ bodies_in (document galley.now style.now) }
+    requires may { MaySheets (document galley.now style.now) (placed_of style.now []) pages.now }
+    ensures ok { OnOk result (out.new.items ≡ out.old.items
+        ++ sheets_text (document galley.now style.now) 1 (placed_of style.now []) pages.now) }
+    ensures grows { Grows out.old.items out.new.items }
+{
+    let alloc = *out.allocator();
+    let mut placed = added(alloc, bodies.len(), &[], &[])?;
+    let mut number: u128 = 1;
+    let mut rest = pages;
+    'each: while let [page, after @ ..] = rest {
+        placed = print_sheet(galley, style, floats, bodies, number, &placed, page, out)?;
+        number += 1;
+        rest = after;
+    }
+    Ok(())
+}
+
+// The pages of a galley with their head, without giving back what a refusal left.
+fn print_whole(
+    galley: &Galley,
+    style: &Style,
+    floats: &FloatList,
+    plan: &Pagination,
+    cost: i128,
+    out: &mut Vec<u8>,
+) -> Result<(), AllocError>
+    requires floats { AreFloats galley.now.blocks style.now floats.now }
+    requires may { MaySheets (document galley.now style.now) (placed_of style.now []) plan.now.pages }
+    requires filled { AreFilled style.now.columns plan.now.pages }
+    ensures ok { OnOk result (out.new.items ≡ out.old.items ++ page_text galley.now style.now plan.now cost) }
+    ensures grows { Grows out.old.items out.new.items }
+{
+    style.stays_in_range();
+    let alloc = *out.allocator();
+    let pages = plan.pages.as_slice();
+    let bodies = float_bodies(alloc, blocks_of(galley), style.classes.as_slice())?;
+    print_head(pages.len() as u128, cost, i64::from(galley.width()), out)?;
+    print_sheets(galley, style, floats, bodies.as_slice(), pages, out)
+}
+
+/// Appends the text of a pagination with its cost, in demerits; lengths are written in points.
+///
+/// Each page has its columns, and each column keeps the rules on columns behind those before it. The only refusal is
+/// for want of memory, and `out` is then as before.
+pub fn print_filled(
+    galley: &Galley,
+    style: &Style,
+    floats: &FloatList,
+    plan: &Pagination,
+    cost: i128,
+    out: &mut Vec<u8>,
+) -> Result<(), AllocError>
+    requires floats { AreFloats galley.now.blocks style.now floats.now }
+    requires may { MaySheets (document galley.now style.now) (placed_of style.now []) plan.now.pages }
+    requires filled { AreFilled style.now.columns plan.now.pages }
+    ensures ok { OnOk result (out.new.items ≡ out.old.items ++ page_text galley.now style.now plan.now cost) }
+    ensures err { OnErr result (out.new.items ≡ out.old.items) }
+{
+    let start = out.len();
+    if let Err(refused) = print_whole(galley, style, floats, plan, cost, out) {
+        out.truncate(start);
+        return Err(refused);
+    }
+    Ok(())
+}

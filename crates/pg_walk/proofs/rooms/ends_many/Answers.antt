@@ -1,0 +1,14 @@
+use Rattle.std.proofs.Common.{rules, subst, ℤ, w64}
+use Rattle.std.proofs.lemmas.Int.{to_z-of_z}
+use Rattle.pg_rules.specs.Legal.{document}
+use Rattle.pg_walk_laws.specs.Candidates.{AreCandidates}
+use Rattle.pg_walk.proofs.Several.{for_each}
+use Rattle.pg_walk.proofs.rooms.ends_many.Goals as goal
+
+pub returns : goal.returns
+returns c =
+    let doc = document c.args.galley.now c.args.style.now in
+    let top = to_z-of_z w64 c.top_of.result (record { sfits = search rules }) in
+    for_each c.ends_each.result doc c.args.from c.top_of.result c.args.rooms.now c.in_ok-found.found c.top_of.ensures
+    (subst (λ (z : ℤ). AreCandidates doc c.args.from z c.in_ok-found.found) top c.in_ok-found.ensures)
+    c.ends_each.ensures
