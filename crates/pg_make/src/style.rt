@@ -9,7 +9,7 @@ use pg_style::{
 use std::alloc::Global;
 
 // A point in scaled points.
-const POINT: i32 = 65536;
+pub const POINT: i32 = 65536;
 
 /// Three runs: of the height itself, and longer or shorter by 12 points for 1000 demerits.
 fn make_runs(alloc: Global) -> Runs
