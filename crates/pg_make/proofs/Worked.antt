@@ -1,5 +1,5 @@
 -- The smallest galleys, worked out.
-use Rattle.std.proofs.Common.{◌≡◌, refl, ℕ, List, [], ◌∷◌, length}
+use Rattle.std.proofs.Common.{◌≡◌, refl, [], ◌∷◌, length}
 use Rattle.std.specs.Prelude.{map}
 use Rattle.pg_list.specs.Counts.{item_count}
 use Rattle.pg_list.specs.declared.variants.Variant.{Variant}
