@@ -27,7 +27,7 @@ use Rattle.pg_floats.proofs.Numbers.{numbers_are}
 use Rattle.pg_floats.specs.declared.callouts.Callout.{Callout}
 use Rattle.pg_floats.specs.declared.fault.FloatFault.{FloatFault}
 use Rattle.pg_floats.specs.declared.fault.FloatFault.TheVariants.{Class as FaultClass, Limit, Memory}
-use Rattle.pg_floats.specs.AreFloats.{HasFloats, IsWithinLimit}
+use Rattle.pg_floats.specs.AreFloats.{AreFloats, HasFloats, IsWithinLimit, float_total}
 use Rattle.pg_floats.specs.FloatsValue.{ClassFloatsValue, total_of}
 use Rattle.pg_floats.specs.Callouts.{callouts_in, callouts_from, class_floats, first_items, insert_class, unknown_among}
 use Rattle.pg_floats.specs.Callouts.{unknown_blocks, lists_from}
@@ -191,6 +191,10 @@ the_total_is blocks (number ∷ numbers) all =
     ∙ (ap (λ n. length (sizes_of number (flat blocks [])) + n) (the_total_is blocks numbers all)
     ∙ sym (sum_by-cons (λ (sizes : List ℤ). length sizes) (sizes_of number (flat blocks []))
     (map (λ number. sizes_of number (flat blocks [])) numbers))))
+
+pub list_total : (blocks : List Block) (style : StyleValue) (list : List ClassFloatsValue) →
+    AreFloats blocks style list → total_of list ≡ float_total blocks style
+list_total blocks style list are = ap total_of are.floats_are ∙ the_total_is blocks (float_numbers style) are.shape
 
 pub has_floats : (r : Result (List ClassFloatsValue) FloatFault) (blocks : List Block) (style : StyleValue) →
     AllByRecursion IsBlock blocks →

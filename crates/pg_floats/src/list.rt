@@ -13,10 +13,10 @@ ghost use Rattle.pg_flat.specs.Flat.{items_before};
 ghost use Rattle.pg_rules.specs.Floats.{called, entry, floats, sizes_of};
 ghost use Rattle.pg_floats.specs.declared.callouts.Callout.{Callout as ACallout};
 ghost use Rattle.pg_floats.specs.Areas.{has_dealt, IsDealt};
-ghost use Rattle.pg_floats.specs.FloatsValue.{callout_at, IsInRange, total_of};
+ghost use Rattle.pg_floats.specs.FloatsValue.{callout_at, AreKept, IsInRange, total_of};
 ghost use Rattle.pg_floats.specs.Callouts.{class_floats, lists_from, unknown_among, unknown_blocks};
 ghost use Rattle.pg_floats.specs.AreFloats.{AreFloats, HasFloats, IsWithinLimit, MakesList, unknown_class};
-ghost use Rattle.pg_floats.specs.AreFloats.{float_size, height_of};
+ghost use Rattle.pg_floats.specs.AreFloats.{float_size, float_total, height_of};
 
 use crate::area::{Dealt, area_size, deal};
 use crate::callouts::{Callout, Callouts, callouts_of, first_items_of};
@@ -250,6 +250,21 @@ impl FloatList {
             Some(number) => Err(FloatFault::Class { number }),
             None => all_floats(alloc, galley, style),
         }
+    }
+
+    /// Hands on that there are at most 2^12 floats.
+    pub fn stays_few(&self)
+        ensures { (blocks : List ABlock) (style : StyleValue) → AreFloats blocks style self.now →
+            float_total blocks style ≤ 2 ^ 12 }
+    {
+        self.stays_kept();
+    }
+
+    // Hands on what the type keeps.
+    fn stays_kept(&self)
+        ensures { AreKept self.now }
+    {
+        let _ = &self.classes;
     }
 
     // The callout of a float, by its slot and number.

@@ -85,7 +85,7 @@ shrink_high (item ∷ items) all =
     add : (a b : ℤ) (n : ℕ) → a ≤ℤ pos (2 ^ 30) → b ≤ℤ pos (2 ^ 30 * n) → (a +ℤ b) ≤ℤ pos (2 ^ 30 * suc n)
     add a b n h k = omega (arith, ints, h, k)
 
-within : (total shrink goal : ℤ) → is_over total shrink goal ≡ false → (total -ℤ goal) ≤ℤ pos 0 ⊎ (total -ℤ goal) ≤ℤ shrink
+pub within : (total shrink goal : ℤ) → is_over total shrink goal ≡ false → (total -ℤ goal) ≤ℤ pos 0 ⊎ (total -ℤ goal) ≤ℤ shrink
 within total shrink goal e = by (int_le goal total) (int_lt shrink (total -ℤ goal)) refl refl e
   where
     by : (a b : Bool) → int_le goal total ≡ a → int_lt shrink (total -ℤ goal) ≡ b → (a && b) ≡ false →

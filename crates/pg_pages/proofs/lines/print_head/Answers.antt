@@ -5,8 +5,8 @@ use Rattle.std.proofs.lemmas.Int.{to_z-of_z}
 use Rattle.pg_scaled.specs.Scaled.{scaled_text}
 use Rattle.pg_pages.specs.Words.{line}
 use Rattle.pg_pages.specs.PageText.{head_line, head_counts}
-use Rattle.pg_pages.proofs.Singles.{on_ok, two_parts}
-use Rattle.pg_pages.proofs.pages.print_head.Goals as goal
+use Rattle.pg_pages.proofs.Grown.{on_ok, two_parts}
+use Rattle.pg_pages.proofs.lines.print_head.Goals as goal
 
 pub returns-clause-ok : goal.returns-clause-ok
 unfolding head_line
