@@ -62,10 +62,6 @@ pub record Stopped {A : Type 0} (said : Held → Result A Stop) (Unread : OverSh
   pub no_write : OnWriteFault (status_of ending) ⊥
   pub no_usage : status_of ending ≢ Usage
 
--- the style has the classes of all inserts, and the floats are at most 2^12
-abbrev pub AreTaken : List Block → StyleValue → Type 0
-AreTaken blocks style = (unknown_class blocks style ≡ None) × (float_total blocks style ≤ 2 ^ 12)
-
 -- how a run ends where a galley has no list of floats
 abbrev pub ending_of : FloatFault → Ending
 ending_of (fault.Class number) = ending.UnknownClass number
