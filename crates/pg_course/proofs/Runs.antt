@@ -6,7 +6,6 @@ use Rattle.std.specs.List.{list_all}
 use Rattle.std.specs.Io.KnownBytes.{Appends, Keeps}
 use Rattle.std.proofs.lemmas.Bool.Decides.{nat_tests}
 use Rattle.pg_list.specs.GalleyValue.{GalleyValue}
-use Rattle.pg_list.specs.declared.blocks.Block.{Block}
 use Rattle.pg_style.specs.Values.{StyleValue}
 use Rattle.pg_floats.specs.AreFloats.{MakesList, unknown_class, float_total}
 use Rattle.pg_floats.specs.declared.fault.FloatFault.{FloatFault}

@@ -1,9 +1,6 @@
 -- What the function of a command promises, over any shelf and any sink.
-use Rattle.std.specs.Prelude.{◌≡◌, ◌≢◌, ◌↔◌, ◌≤◌, ◌^◌, ℕ, List, Option, Some, None, Result, Err, IfSome}
+use Rattle.std.specs.Prelude.{◌≡◌, ◌≢◌, ◌↔◌, ℕ, List, Option, Some, None, Result, Err, IfSome}
 use Rattle.std.specs.Io.KnownBytes.{Keeps}
-use Rattle.pg_list.specs.declared.blocks.Block.{Block}
-use Rattle.pg_style.specs.Values.{StyleValue}
-use Rattle.pg_floats.specs.AreFloats.{float_total, unknown_class}
 use Rattle.pg_floats.specs.declared.fault.FloatFault.{FloatFault}
 use Rattle.pg_floats.specs.declared.fault.FloatFault.TheVariants as fault
 use Rattle.pg_outside.specs.Outside.{Held, Rose}

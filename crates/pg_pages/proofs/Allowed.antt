@@ -12,11 +12,11 @@ use Rattle.pg_plan.specs.declared.pages.PageMove.{PageMove}
 use Rattle.pg_plan.specs.declared.pages.Pagination.{Pagination}
 use Rattle.pg_style.specs.Ranges.{IsAreaRule}
 use Rattle.pg_style.specs.Values.{StyleValue}
-use Rattle.pg_rules.specs.ColumnRules.{has_counts, has_dealable}
-use Rattle.pg_rules.specs.Floats.{float_numbers, floats, has_all, is_area_allowed, plus_counts, slots, takes_wide}
+use Rattle.pg_rules.specs.ColumnRules.{has_dealable}
+use Rattle.pg_rules.specs.Floats.{float_numbers, floats, has_all, plus_counts, slots}
 use Rattle.pg_rules.specs.History.{context, made_wide, next_column, placed_of, wide_of, with_wide}
-use Rattle.pg_rules.specs.Legal.{Legal, breach, document, has_wide_counts, misfilled}
-use Rattle.pg_rules.specs.Room.{Document, before_bottom, is_bottom_allowed, is_top_allowed}
+use Rattle.pg_rules.specs.Legal.{Legal, breach, document}
+use Rattle.pg_rules.specs.Room.{Document, is_bottom_allowed, is_top_allowed}
 use Rattle.pg_place_laws.proofs.Callouts.{entry_zero}
 use Rattle.pg_column_laws.specs.Stands.{Stand, StandsAfter}
 use Rattle.pg_beginning_laws.proofs.Faults.{Sound, sound_of}
@@ -27,7 +27,7 @@ use Rattle.pg_lemmas.proofs.Bools.{both_of, if_false, if_true}
 use Rattle.pg_lemmas.proofs.Numbers.{eq_no, eq_yes}
 use Rattle.pg_pages.specs.Printed.{FitTogether}
 use Rattle.pg_pages.specs.Seated.{IsWide, MayPrint}
-use Rattle.pg_pages.specs.Sheets.{AreFilled, MayFrom, MaySheet, MaySheets, context_at, placed_behind, sheet_behind}
+use Rattle.pg_pages.specs.Sheets.{AreFilled, MayFrom, MaySheet, MaySheets, context_at, placed_behind}
 use Rattle.pg_pages.proofs.Filled.{are_filled}
 use Rattle.pg_pages.proofs.Later.{context_is, lists_same, not_one, placed_later}
 use Rattle.pg_pages.proofs.Placed.{AreFewPlaced, few_behind, fit_together}
