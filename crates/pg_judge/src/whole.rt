@@ -4,6 +4,7 @@ ghost use Rattle.pg_list.specs.GalleyValue.{GalleyValue};
 ghost use Rattle.pg_plan.specs.declared.pages.PageMove.{PageMove as APageMove};
 ghost use Rattle.pg_plan.specs.Order.{columns};
 ghost use Rattle.pg_rules.specs.Legal.{document, misfilled as misfilled_of};
+ghost use Rattle.pg_floats.specs.AreFloats.{AreFloats};
 ghost use Rattle.pg_judge.specs.Given.{IsListOf};
 ghost use Rattle.pg_judge.specs.Progress.{IsKept, IsProgress, broken_pair};
 ghost use Rattle.pg_judge.specs.Settled.{JudgesPlan, Settles, answered};
@@ -127,8 +128,8 @@ fn judge_columns(
 /// The cost of a pagination that breaks no rule, or else the least rule that it breaks, from 1 to 13, with the first
 /// column that breaks it, counted from 1.
 ///
-/// Conditions: the list is of this galley and style, of at most 2^12 floats, as `FloatList::of` makes it, and the
-/// pagination has fewer than 2^31 columns. Any pagination is judged: places, picks, counts and runs may be none of the
+/// Conditions: the list is of this galley and style, as `FloatList::of` makes it, and the pagination has fewer than
+/// 2^31 columns. Any pagination is judged: places, picks, counts and runs may be none of the
 /// galley's or the style's. `Memory` may come in place of any answer.
 pub fn judge(
     alloc: Global,
@@ -137,10 +138,11 @@ pub fn judge(
     floats: &FloatList,
     plan: &Pagination,
 ) -> Result<i128, JudgeFault>
-    requires list { IsListOf galley.now.blocks style.now floats.now }
+    requires floats { AreFloats galley.now.blocks style.now floats.now }
     requires few { length (columns plan.now) < 2 ^ 31 }
     ensures { JudgesPlan galley.now style.now plan.now result }
 {
+    floats.stays_few();
     match first_misfilled(style, plan) {
         Some(column) => Err(JudgeFault::Broken { rule: 1, column }),
         None => judge_columns(alloc, galley, style, floats, plan),
