@@ -1,16 +1,13 @@
 -- What a run promises, by what was found for its galley.
 use Rattle.std.proofs.Common.{◌≡◌, ◌≤◌, ◌<◌, ◌^◌, ℕ, sym, ap, List, [], ◌∷◌, refl, subst, true, false, arith}
 use Rattle.std.proofs.Common.{append-nil}
-use Rattle.std.specs.Prelude.{Option, Some, None, Result, Ok, Err, IfSome, MatchOption, nat_le}
+use Rattle.std.specs.Prelude.{Option, Some, None, Result, Ok, Err, IfSome, nat_le}
 use Rattle.std.specs.List.{list_all}
-use Rattle.std.specs.Result.{result_err}
 use Rattle.std.specs.Io.KnownBytes.{Appends, Keeps}
 use Rattle.std.proofs.lemmas.Bool.Decides.{nat_tests}
 use Rattle.pg_list.specs.GalleyValue.{GalleyValue}
-use Rattle.pg_list.specs.declared.blocks.Block.{Block}
 use Rattle.pg_style.specs.Values.{StyleValue}
 use Rattle.pg_floats.specs.AreFloats.{MakesList, unknown_class, float_total}
-use Rattle.pg_floats.specs.FloatsValue.{ClassFloatsValue}
 use Rattle.pg_floats.specs.declared.fault.FloatFault.{FloatFault}
 use Rattle.pg_floats.specs.declared.fault.FloatFault.TheVariants as float_fault
 use Rattle.pg_outside.specs.Outside.{AppendsFront, Held, Rose}
@@ -22,7 +19,7 @@ use Rattle.pg_command.specs.declared.status.Status.TheVariants.{Memory, NotProve
 use Rattle.pg_command.specs.Words.{StyleName, run}
 use Rattle.pg_command.specs.Lines.{line_of, many_line, status_of}
 use Rattle.pg_command.proofs.Fronts.{appends_nothing, front_of_more}
-use Rattle.pg_course.specs.Calls.{AreTaken, OverSink, Writes, ending_of, over_sink}
+use Rattle.pg_course.specs.Calls.{OverSink, Writes, ending_of, over_sink}
 use Rattle.pg_course.specs.Course.{Stop, opened, opened_style, PaginateGalley, BuiltGalley, RunGalley, RunCourse}
 use Rattle.pg_course.specs.Course.{StyledCourse, EndsBy, BeginsBy, EndedBefore, OnSettled, OnWriteFault}
 use Rattle.pg_course.specs.Galleys.{is_built_block}
@@ -169,13 +166,6 @@ no_floats style name galley old before float_fault.Memory known = record {
   no_read = tt;
   no_usage = λ e. absurd (cc);
 }
-
--- a galley without a fault of its floats is taken
-pub fault_or_taken : (blocks : List Block) (style : StyleValue) (r : Result (List ClassFloatsValue) FloatFault) →
-    MakesList r blocks style →
-    MatchOption (result_err r) (AreTaken blocks style) (λ fault. MakesList (Err fault) blocks style)
-fault_or_taken blocks style (Ok list) made = (made.1, made.2)
-fault_or_taken blocks style (Err fault) made = made
 
 -- a galley that is built is paginated
 pub built_writes : (style : StyleValue) (name : List ℕ) (galley : GalleyValue) (out : OverSink) (end : Ending) →

@@ -1,9 +1,6 @@
 -- What the function of a command promises, over any shelf and any sink.
-use Rattle.std.specs.Prelude.{◌≡◌, ◌≢◌, ◌↔◌, ◌≤◌, ◌^◌, ℕ, List, Option, Some, None, Result, Err, IfSome}
+use Rattle.std.specs.Prelude.{◌≡◌, ◌≢◌, ◌↔◌, ℕ, List, Option, Some, None, Result, Err, IfSome}
 use Rattle.std.specs.Io.KnownBytes.{Keeps}
-use Rattle.pg_list.specs.declared.blocks.Block.{Block}
-use Rattle.pg_style.specs.Values.{StyleValue}
-use Rattle.pg_floats.specs.AreFloats.{float_total, unknown_class}
 use Rattle.pg_floats.specs.declared.fault.FloatFault.{FloatFault}
 use Rattle.pg_floats.specs.declared.fault.FloatFault.TheVariants as fault
 use Rattle.pg_outside.specs.Outside.{Held, Rose}
@@ -61,10 +58,6 @@ pub record Stopped {A : Type 0} (said : Held → Result A Stop) (Unread : OverSh
   pub read : OnReadFault (status_of ending) (Unread shelf (line_of ending))
   pub no_write : OnWriteFault (status_of ending) ⊥
   pub no_usage : status_of ending ≢ Usage
-
--- the style has the classes of all inserts, and the floats are at most 2^12
-abbrev pub AreTaken : List Block → StyleValue → Type 0
-AreTaken blocks style = (unknown_class blocks style ≡ None) × (float_total blocks style ≤ 2 ^ 12)
 
 -- how a run ends where a galley has no list of floats
 abbrev pub ending_of : FloatFault → Ending

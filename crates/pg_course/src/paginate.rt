@@ -3,10 +3,11 @@ ghost use Rattle.std.specs.Prelude.{IfOk};
 ghost use Rattle.pg_rules.specs.Ranges.{AreInRange};
 ghost use Rattle.pg_flat.specs.Rigid.{AreRigid};
 ghost use Rattle.pg_plain.specs.Plain.{IsPlainStyle};
+ghost use Rattle.pg_floats.specs.AreFloats.{AreFloats};
 ghost use Rattle.pg_text_laws.specs.Texts.{LegalHaveEachOnce};
 ghost use Rattle.pg_course.specs.Out.{Out, bytes_of, end_of};
 
-use pg_legal_laws::legal_pages_are_plain;
+use pg_floats::FloatList;
 use pg_list::Galley;
 use pg_pages::{print_none, print_pages};
 use pg_space::{Outcome, solve};
@@ -38,18 +39,19 @@ pub fn page_text_of<L: Ledger>(
     alloc: Global,
     galley: &Galley,
     style: &Style,
+    floats: &FloatList,
     steps: &mut Steps<L>,
 ) -> Result<PageText, AllocError>
+    requires floats { AreFloats galley.now.blocks style.now floats.now }
     requires rigid { AreRigid galley.now.blocks }
     requires plain { IsPlainStyle style.now }
     ensures { IfOk result (λ page. Out galley.now style.now (bytes_of page) (end_of page)) }
 {
-    legal_pages_are_plain(galley, style);
     each_once(galley, style);
     let mut text = Vec::new(alloc);
     match solve(alloc, galley, style, steps)? {
         Outcome::Best(plan, cost) => {
-            print_pages(galley, style, &plan, cost, &mut text)?;
+            print_pages(galley, style, floats, &plan, cost, &mut text)?;
             Ok(PageText::Best(text))
         }
         Outcome::NoLegal => {

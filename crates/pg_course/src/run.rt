@@ -1,11 +1,11 @@
 //! The command `run`.
-ghost use Rattle.std.specs.Prelude.{◌≡◌, Err, MatchOption, Some};
+ghost use Rattle.std.specs.Prelude.{◌≡◌, Some};
 ghost use Rattle.pg_flat.specs.Rigid.{AreRigid};
 ghost use Rattle.pg_plain.specs.Plain.{IsPlainStyle};
-ghost use Rattle.pg_floats.specs.AreFloats.{MakesList};
+ghost use Rattle.pg_floats.specs.AreFloats.{AreFloats};
 ghost use Rattle.pg_command.specs.Words.{run as run_command, style_name, IsStyle};
 ghost use Rattle.pg_course.specs.Course.{PaginateGalley, BuiltGalley, RunGalley, RunCourse, opened};
-ghost use Rattle.pg_course.specs.Calls.{AreTaken, Goes, GoesOn, Writes, ending_of, over_shelf, over_sink};
+ghost use Rattle.pg_course.specs.Calls.{Goes, GoesOn, Writes, ending_of, over_shelf, over_sink};
 
 use crate::built::are_built;
 use crate::open::{open_galley, open_style};
@@ -24,15 +24,17 @@ fn write_page_text<'a, O: Sink, L: Ledger>(
     alloc: Global,
     galley: &Galley,
     style: &Style,
+    floats: &FloatList,
     out: &mut O,
     steps: &mut Steps<L>,
 ) -> Ending<'a>
+    requires floats { AreFloats galley.now.blocks style.now floats.now }
     requires rigid { AreRigid galley.now.blocks }
     requires plain { IsPlainStyle style.now }
     ensures writes { Writes (PaginateGalley style.now galley.now)
         (over_sink (O.written out.old) (O.written out.new) (O.faults out.old) (O.faults out.new)) result }
 {
-    match page_text_of(alloc, galley, style, steps) {
+    match page_text_of(alloc, galley, style, floats, steps) {
         Err(_) => Ending::Memory,
         Ok(PageText::Best(text)) => match out.write(&text) {
             Err(_) => Ending::WriteFault,
@@ -50,26 +52,20 @@ fn run_built<'a, O: Sink, L: Ledger>(
     alloc: Global,
     galley: &Galley,
     style: &Style,
+    floats: &FloatList,
     name: &'a str,
     out: &mut O,
     steps: &mut Steps<L>,
 ) -> Ending<'a>
-    requires { IsPlainStyle style.now }
+    requires plain { IsPlainStyle style.now }
+    requires floats { AreFloats galley.now.blocks style.now floats.now }
     ensures writes { Writes (BuiltGalley style.now name.now galley.now)
         (over_sink (O.written out.old) (O.written out.new) (O.faults out.old) (O.faults out.new)) result }
 {
     if !are_built(galley.blocks().as_slice()) {
         return Ending::NotBuilt(name);
     }
-    write_page_text(alloc, galley, style, out, steps)
-}
-
-// Why a galley has no list of floats, if it has none.
-fn float_fault(alloc: Global, galley: &Galley, style: &Style) -> Option<FloatFault>
-    ensures { MatchOption result (AreTaken galley.now.blocks style.now)
-        (λ fault. MakesList (Err fault) galley.now.blocks style.now) }
-{
-    FloatList::of(alloc, galley, style).err()
+    write_page_text(alloc, galley, style, floats, out, steps)
 }
 
 // How a run ends where a galley has no list of floats.
@@ -96,9 +92,9 @@ fn run_galley<'a, O: Sink, L: Ledger>(
     ensures writes { Writes (RunGalley style.now name.now galley.now)
         (over_sink (O.written out.old) (O.written out.new) (O.faults out.old) (O.faults out.new)) result }
 {
-    match float_fault(alloc, galley, style) {
-        Some(fault) => float_ending(fault),
-        None => run_built(alloc, galley, style, name, out, steps),
+    match FloatList::of(alloc, galley, style) {
+        Err(fault) => float_ending(fault),
+        Ok(floats) => run_built(alloc, galley, style, &floats, name, out, steps),
     }
 }
 

@@ -1,6 +1,6 @@
 -- The excess of a text that is not over is small.
-use Rattle.std.proofs.Common.{◌≡◌, refl, sym, ◌∙◌, ℕ, suc, ◌*◌, ◌^◌, ◌≤◌, ◌<◌, ◌⊎◌, inl, inr, arith, List, [], ◌∷◌, length, Bool, true, false, Option, Some, None}
-use Rattle.std.specs.Prelude.{◌&&◌, nat_abs, ℤ, pos, negsuc, ◌+ℤ◌, ◌-ℤ◌, ◌≤ℤ◌, ◌<ℤ◌, int_le, int_lt, reverse}
+use Rattle.std.proofs.Common.{◌≡◌, refl, ℕ, suc, ◌*◌, ◌^◌, ◌≤◌, ◌<◌, ◌⊎◌, inl, inr, arith, List, [], ◌∷◌, length, Bool, true, false, Option, Some, None}
+use Rattle.std.specs.Prelude.{◌&&◌, nat_abs, ℤ, pos, ◌+ℤ◌, ◌-ℤ◌, ◌≤ℤ◌, ◌<ℤ◌, int_le, int_lt, reverse}
 use Rattle.std.specs.List.{AllByRecursion, find}
 use Rattle.std.specs.Int.{int_max, int_min}
 use Rattle.std.specs.Option.{option_map_or}
@@ -85,7 +85,7 @@ shrink_high (item ∷ items) all =
     add : (a b : ℤ) (n : ℕ) → a ≤ℤ pos (2 ^ 30) → b ≤ℤ pos (2 ^ 30 * n) → (a +ℤ b) ≤ℤ pos (2 ^ 30 * suc n)
     add a b n h k = omega (arith, ints, h, k)
 
-within : (total shrink goal : ℤ) → is_over total shrink goal ≡ false → (total -ℤ goal) ≤ℤ pos 0 ⊎ (total -ℤ goal) ≤ℤ shrink
+pub within : (total shrink goal : ℤ) → is_over total shrink goal ≡ false → (total -ℤ goal) ≤ℤ pos 0 ⊎ (total -ℤ goal) ≤ℤ shrink
 within total shrink goal e = by (int_le goal total) (int_lt shrink (total -ℤ goal)) refl refl e
   where
     by : (a b : Bool) → int_le goal total ≡ a → int_lt shrink (total -ℤ goal) ≡ b → (a && b) ≡ false →

@@ -41,7 +41,7 @@ none_added style a b counts =
     omega (arith, e, z))
 
 -- the context of a later column
-context_is : (doc : Document) (run : ℕ) (wide a b : List ℕ) (column : Column) (ms : List PageMove) →
+pub context_is : (doc : Document) (run : ℕ) (wide a b : List ℕ) (column : Column) (ms : List PageMove) →
     placed_of doc.style ms ≡ plus_counts doc.style a b → (next_column doc.style ms == 1) ≡ false →
     context doc (later run wide column) ms ≡ context_at doc run (wide_of doc ms) (placed_of doc.style ms) column
 context_is doc run wide a b column ms p f =
@@ -60,20 +60,23 @@ later_text doc run wide a b column ms p f =
     ∙ ap (λ it. column_line (next_column doc.style ms) column ++ column_body it) (context_is doc run wide a b column ms p f)
 
 -- a later column adds its own floats alone, and leaves the page's wide area
-placed_later : (doc : Document) (run : ℕ) (wide a b : List ℕ) (column : Column) (ms : List PageMove) →
+pub placed_later : (doc : Document) (run : ℕ) (wide a b : List ℕ) (column : Column) (ms : List PageMove) →
     placed_of doc.style ms ≡ plus_counts doc.style a b →
     placed_of doc.style (later run wide column ∷ ms) ≡ placed_behind doc.style (placed_of doc.style ms) column
 placed_later doc run wide a b column ms p =
     ap (λ (before : List ℕ). placed_behind doc.style before column)
     (ap (λ (counts : List ℕ). plus_counts doc.style counts (no_floats wide)) p ∙ none_added doc.style a b wide ∙ sym p)
 
-lists_same : (run : ℕ) (wide : List ℕ) (column : Column) (columns : List Column) (ms : List PageMove) →
+pub lists_same : (run : ℕ) (wide : List ℕ) (column : Column) (columns : List Column) (ms : List PageMove) →
     reverse (map (later run wide) (column ∷ columns)) ++ ms
     ≡ reverse (map (later run wide) columns) ++ (later run wide column ∷ ms)
 lists_same run wide column columns ms =
     ap (λ (xs : List PageMove). xs ++ ms)
     (reverse-append (later run wide column ∷ []) (map (later run wide) columns))
     ∙ append_assoc (reverse (map (later run wide) columns)) (later run wide column ∷ []) ms
+
+pub not_one : (n number : ℕ) → n ≡ number → 2 ≤ number → (n == 1) ≡ false
+not_one n number e h = grind (arith, nat_tests)
 
 -- the later columns of a page, and the floats placed behind them
 pub record AreLater (doc : Document) (run : ℕ) (wide : List ℕ) (number : ℕ) (columns : List Column)
@@ -119,9 +122,6 @@ are_later doc run wide a b number (column ∷ columns) ms p two few next =
       placed = ap (placed_of doc.style) (lists_same run wide column columns ms) ∙ rest.placed
           ∙ ap (λ (before : List ℕ). placed_from doc.style before columns) behind;
     }
-  where
-    not_one : (n number : ℕ) → n ≡ number → 2 ≤ number → (n == 1) ≡ false
-    not_one n number e h = grind (arith, nat_tests)
 
 -- the page turns behind its last column
 pub record HasTurned (style : StyleValue) (ms behind : List PageMove) : Type 0 where

@@ -1,9 +1,6 @@
 pub mod WorkedTexts
-pub mod Singles
-pub mod Plain
-pub mod PlainColumn
+pub mod Grown
 pub mod Numbers
-pub mod PlainPages
 pub mod Printed
 pub mod Between
 pub mod Widths
@@ -14,3 +11,6 @@ pub mod TextColumn
 pub mod SheetText
 pub mod Later
 pub mod Whole
+pub mod Filled
+pub mod Placed
+pub mod Allowed

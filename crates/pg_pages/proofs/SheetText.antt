@@ -16,7 +16,7 @@ use Rattle.pg_lemmas.proofs.Numbers.{less_of}
 use Rattle.pg_pages.specs.Sheets.{columns_from, is_any, placed_from, sheet_behind, sheet_text}
 use Rattle.pg_pages.specs.PageText.{area, float_bodies, floats_text, page_line}
 use Rattle.pg_pages.specs.Printed.{dealt_text}
-use Rattle.pg_pages.proofs.Singles.{two_parts}
+use Rattle.pg_pages.proofs.Grown.{two_parts}
 
 any_step : (n m : ℕ) (b : Bool) → b ≡ nat_lt 0 m → (nat_lt 0 n || b) ≡ nat_lt 0 (n + m)
 any_step zero m b e = let same : m ≡ 0 + m = omega arith in e ∙ ap (nat_lt 0) same

@@ -38,8 +38,7 @@ use Rattle.pg_pages.specs.Words.{line}
 use Rattle.pg_pages.specs.Seated.{seated}
 use Rattle.pg_pages.specs.Sheets.{seat_text}
 use Rattle.pg_pages.specs.declared.seats.Seat.{Seat}
-use Rattle.pg_pages.specs.PlainText.{numbers_text}
-use Rattle.pg_pages.specs.Printed.{bare_text, dealt_text, items_to, read_text, text_by}
+use Rattle.pg_pages.specs.Printed.{bare_text, dealt_text, items_to, numbers_text, read_text, text_by}
 use Rattle.pg_pages.proofs.ColumnText.{notes_are, widths_are}
 use Rattle.pg_pages.proofs.Excess.{excess_small}
 use Rattle.pg_pages.proofs.Numbers.{printed}

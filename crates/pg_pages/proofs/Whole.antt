@@ -34,10 +34,10 @@ pub record IsSheet (doc : Document) (page : Page) (columns : List Column) (ms : 
       ≡ sheet_behind doc.style (placed_of doc.style ms) (record { run = page.run; wide = page.wide; columns = columns })
 
 -- a page's first column
-abbrev first_of : Page → Column → PageMove
+abbrev pub first_of : Page → Column → PageMove
 first_of page column = record { column = column; run = page.run; wide = page.wide }
 
-first_apart : (page : Page) (column : Column) (columns : List Column) (ms : List PageMove) →
+pub first_apart : (page : Page) (column : Column) (columns : List Column) (ms : List PageMove) →
     reverse (page_moves page (column ∷ columns)) ++ ms
     ≡ reverse (map (later page.run page.wide) columns)
     ++ (record { column = column; run = page.run; wide = page.wide } ∷ ms)
@@ -117,7 +117,7 @@ moves_append [] ys = refl
 moves_append (page ∷ xs) ys = ap (λ (more : List PageMove). reverse (page_moves page page.columns) ++ more)
     (moves_append xs ys) ∙ sym (append_assoc (reverse (page_moves page page.columns)) (columns_of xs) (columns_of ys))
 
-moves_more : (page : Page) (pages : List Page) (ms : List PageMove) →
+pub moves_more : (page : Page) (pages : List Page) (ms : List PageMove) →
     columns_of (reverse (page ∷ pages)) ++ ms
     ≡ columns_of (reverse pages) ++ (reverse (page_moves page page.columns) ++ ms)
 moves_more page pages ms =
@@ -127,12 +127,12 @@ moves_more page pages ms =
     ∙ ap (λ (them : List PageMove). columns_of (reverse pages) ++ (them ++ ms))
     (append-nil (reverse (page_moves page page.columns)))
 
-sheet_by : (doc : Document) (page : Page) (columns : List Column) (ms : List PageMove) → 1 ≤ length columns →
+pub sheet_by : (doc : Document) (page : Page) (columns : List Column) (ms : List PageMove) → 1 ≤ length columns →
     length columns ≤ doc.style.columns → next_column doc.style ms ≡ 1 → IsSheet doc page columns ms
 sheet_by doc page [] ms some few first = absurd (omega (arith, some))
 sheet_by doc page (column ∷ columns) ms some few first = is_sheet doc page column columns ms first (omega (arith, few))
 
-turned_by : (doc : Document) (page : Page) (columns : List Column) (ms : List PageMove) → 1 ≤ length columns →
+pub turned_by : (doc : Document) (page : Page) (columns : List Column) (ms : List PageMove) → 1 ≤ length columns →
     length columns ≡ doc.style.columns → next_column doc.style ms ≡ 1 →
     HasTurned doc.style ms (reverse (page_moves page columns) ++ ms)
 turned_by doc page [] ms some full first = absurd (omega (arith, some))

@@ -2,7 +2,6 @@ pub mod Words
 pub mod Bodies
 pub mod SetGlue
 pub mod PageText
-pub mod PlainText
 pub mod Printed
 pub mod Seated
 pub mod Sheets

@@ -17,14 +17,14 @@ use Rattle.pg_style.specs.Values.{StyleValue}
 use Rattle.pg_plan.specs.declared.pages.Column.{Column}
 use Rattle.pg_rules.specs.Floats.{dealt_from, entry}
 use Rattle.pg_column.specs.declared.cost.TextCost.{TextCost}
-use Rattle.pg_pages.specs.PlainText.{numbers_text}
 use Rattle.pg_glue.specs.declared.Elastic.{Elastic}
 use Rattle.pg_glue.specs.declared.Sense.{Sense}
 use Rattle.pg_glue.specs.declared.Sense.TheVariants.{Stretch, Shrink}
 use Rattle.pg_glue.specs.Widths.{set_widths}
 use Rattle.pg_pages.specs.Bodies.{body_text, plain_text, set_text}
 use Rattle.pg_pages.specs.PageText.{area, inserted, is_note_kind, items_text}
-use Rattle.pg_pages.specs.Words.{line}
+use Rattle.pg_pages.specs.Words.{line, whole_text}
+use Rattle.pg_scaled.specs.Scaled.{scaled_text}
 use Rattle.pg_pages.specs.SetGlue.{own_width, shrinking, stretching}
 
 -- ---- items
@@ -113,6 +113,24 @@ lent bodies = map (λ own. behind own.items) bodies
 -- the floats that counts deal out after others
 abbrev pub dealt_text : List (List (List ℕ)) → List ℕ → List ℕ → List ℕ
 dealt_text bodies before counts = flat_map body_text (dealt_from 0 bodies before counts)
+
+-- ---- numbers
+
+-- the goal and the total
+abbrev pub sizes_text : TextCost → List ℕ
+sizes_text it = codes "set goal " ++ scaled_text it.goal ++ codes " total " ++ scaled_text it.total
+
+-- the badness and the penalty
+abbrev pub costs_text : TextCost → List ℕ
+costs_text it = codes " badness " ++ decimal it.badness ++ codes " penalty " ++ whole_text it.penalty
+
+-- the demerits, and the end of the line
+abbrev pub demerits_line : ℤ → List ℕ
+demerits_line demerits = line (codes " demerits " ++ whole_text demerits)
+
+-- the line of a text column's numbers
+unfoldable pub numbers_text : TextCost → List ℕ
+numbers_text it = sizes_text it ++ costs_text it ++ demerits_line it.demerits
 
 -- ---- columns
 

@@ -20,9 +20,9 @@ ghost use Rattle.pg_pages.specs.Words.{line};
 ghost use Rattle.pg_pages.specs.Printed.{IsPrintable, behind, dealt_text, items_to, bare_text, lent, notes_by, read_text, text_by};
 
 use crate::areas::{close_area, open_area, print_dealt, print_notes};
-use crate::columns::print_numbers;
 use crate::glue::widths_of;
-use crate::pages::{print_column_line, print_numbered};
+use crate::lines::{print_column_line, print_numbered};
+use crate::number_line::print_numbers;
 use crate::seats::{Seat, added, room_of};
 use crate::segment::{items_between, trimmed};
 use crate::text::print_items_set;

@@ -1,20 +1,18 @@
 //! Pages in reading order.
-ghost use Rattle.std.specs.Prelude.{◌≡◌, ◌<◌, ◌≤◌, ◌+◌, ◌^◌, ◌++◌, ◌∷◌, [], ℕ, List, OnOk, OnErr, IfOk, codes, length, nat_lt, pos, true};
-ghost use Rattle.std.specs.List.{sum_by, range_with_len};
-ghost use Rattle.pg_rules.specs.Floats.{entry as entry_of, float_numbers, is_area_allowed, plus_counts, takes_wide};
+ghost use Rattle.std.specs.Prelude.{◌≡◌, ◌++◌, [], List, OnOk, OnErr, IfOk, codes, length, true};
+ghost use Rattle.pg_rules.specs.Floats.{float_numbers, is_area_allowed, plus_counts, takes_wide};
 ghost use Rattle.pg_list.specs.declared.blocks.Block.{Block as ABlock};
 ghost use Rattle.pg_rules.specs.History.{made_wide as made_wide_of, placed_of, side_of as side_in};
-ghost use Rattle.pg_rules.specs.Legal.{document};
+ghost use Rattle.pg_rules.specs.Legal.{Legal, document};
 ghost use Rattle.pg_floats.specs.AreFloats.{AreFloats};
 ghost use Rattle.pg_scaled.specs.Scaled.{Grows};
-ghost use Rattle.pg_pages.specs.Words.{side_text};
-ghost use Rattle.pg_pages.specs.PageText.{area, float_bodies as bodies_in, head_line, page_line, page_text, page_side};
+ghost use Rattle.pg_pages.specs.PageText.{area, float_bodies as bodies_in, page_line, page_text};
 ghost use Rattle.pg_pages.specs.Printed.{FitTogether, dealt_text, lent};
 ghost use Rattle.pg_pages.specs.Sheets.{AreFilled, MayFrom, MaySheet, MaySheets, columns_from, is_any, placed_behind, placed_from, sheet_behind, sheet_text, sheets_text};
 
 use crate::areas::float_bodies;
 use crate::column::{print_column, print_floats};
-use crate::pages::{print_head, print_numbered, print_run};
+use crate::lines::{print_head, print_side_line};
 use crate::seats::{Seat, added, wide_area};
 use pg_column::blocks_of;
 use pg_floats::FloatList;
@@ -32,48 +30,6 @@ fn side_of(first: First, number: u128) -> Side
         First::Left => { if number % 2 == 1 { Side::L } else { Side::R } }
         First::Right => { if number % 2 == 1 { Side::R } else { Side::L } }
     }
-}
-
-// The letter of a side.
-fn print_side(side: Side, out: &mut Vec<u8>) -> Result<(), AllocError>
-    ensures ok { OnOk result (out.new.items ≡ out.old.items ++ side_text side) }
-    ensures grows { Grows out.old.items out.new.items }
-{
-    let letter = match side {
-        Side::L => b'L',
-        Side::R => b'R',
-        Side::S => b'S',
-    };
-    out.push(letter)?;
-    Ok(())
-}
-
-// The number and the side of a page.
-#[tactic(auto, unfolding(crate::specs::PageText::page_side))]
-fn print_page_side(number: u128, side: Side, out: &mut Vec<u8>) -> Result<(), AllocError>
-    ensures ok { OnOk result (out.new.items ≡ out.old.items ++ page_side number side) }
-    ensures grows { Grows out.old.items out.new.items }
-{
-    print_numbered(b"page ", number, out)?;
-    out.extend_from_slice(b" side ")?;
-    print_side(side, out)
-}
-
-// The line of a page.
-#[tactic(auto, unfolding(crate::specs::PageText::page_line))]
-pub fn print_side_line(
-    number: u128,
-    side: Side,
-    page: &Page,
-    out: &mut Vec<u8>,
-) -> Result<(), AllocError>
-    ensures ok { OnOk result (out.new.items ≡ out.old.items ++ page_line number side page.now.run page.now.wide) }
-    ensures grows { Grows out.old.items out.new.items }
-{
-    print_page_side(number, side, out)?;
-    print_run(page, out)?;
-    out.push(b'\n')?;
-    Ok(())
 }
 
 // The floats placed behind a column.
@@ -287,11 +243,11 @@ fn print_whole(
     print_sheets(galley, style, floats, bodies.as_slice(), pages, out)
 }
 
-/// Appends the text of a pagination with its cost, in demerits; lengths are written in points.
+/// Appends the text of a legal pagination with its cost, in demerits; lengths are written in points.
 ///
-/// Each page has its columns, and each column keeps the rules on columns behind those before it. The only refusal is
-/// for want of memory, and `out` is then as before.
-pub fn print_filled(
+/// Conditions: the list is that of the galley's floats, as `FloatList::of` makes it, and the pagination breaks no rule.
+/// The only refusal is for want of memory, and `out` is then as before.
+pub fn print_pages(
     galley: &Galley,
     style: &Style,
     floats: &FloatList,
@@ -300,11 +256,12 @@ pub fn print_filled(
     out: &mut Vec<u8>,
 ) -> Result<(), AllocError>
     requires floats { AreFloats galley.now.blocks style.now floats.now }
-    requires may { MaySheets (document galley.now style.now) (placed_of style.now []) plan.now.pages }
-    requires filled { AreFilled style.now.columns plan.now.pages }
+    requires legal { Legal galley.now style.now plan.now }
     ensures ok { OnOk result (out.new.items ≡ out.old.items ++ page_text galley.now style.now plan.now cost) }
     ensures err { OnErr result (out.new.items ≡ out.old.items) }
 {
+    style.stays_in_range();
+    floats.stays_few();
     let start = out.len();
     if let Err(refused) = print_whole(galley, style, floats, plan, cost, out) {
         out.truncate(start);

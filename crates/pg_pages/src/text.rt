@@ -8,7 +8,7 @@ ghost use Rattle.pg_pages.specs.PageText.{items_text, set_items, top_line};
 ghost use Rattle.pg_pages.specs.Printed.{IsPrintable, behind, box_on, front_of, set_item, widths_behind};
 
 use crate::bodies::{print_body, print_set};
-use crate::pages::print_length_line;
+use crate::lines::print_length_line;
 use pg_list::{Item, item_is_box};
 use pg_sums::lift;
 use std::alloc::AllocError;

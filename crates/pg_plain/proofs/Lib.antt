@@ -1,4 +1,1 @@
-pub mod Singles
 pub mod Contexts
-pub mod Tails
-pub mod Fronts

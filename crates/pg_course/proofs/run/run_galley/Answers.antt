@@ -5,21 +5,21 @@ use Rattle.pg_course.specs.Course.{RunGalley}
 use Rattle.pg_course.proofs.Runs.{no_floats, taken_writes}
 use Rattle.pg_course.proofs.run.run_galley.Goals as goal
 
-pub returns-in-Some : goal.returns-in-Some
-returns-in-Some g c = record {
+pub returns-in-Err : goal.returns-in-Err
+returns-in-Err g c = record {
   writes =
       subst (λ (end : Ending). Writes (RunGalley c.args.style.now c.args.name.now c.args.galley.now)
       (over_sink (g.O.Sink.written c.args.out.now) (g.O.Sink.written c.args.out.now)
       (g.O.Sink.faults c.args.out.now) (g.O.Sink.faults c.args.out.now)) end) (sym c.float_ending.ensures)
       (no_floats c.args.style.now c.args.name.now c.args.galley.now (g.O.Sink.written c.args.out.now)
-      (g.O.Sink.faults c.args.out.now) c.in-Some.fault c.in-Some.ensures);
+      (g.O.Sink.faults c.args.out.now) c.in-Err.fault c.in-Err.ensures);
 }
 
-pub returns-in-None : goal.returns-in-None
-returns-in-None g c = record {
+pub returns-in-Ok : goal.returns-in-Ok
+returns-in-Ok g c = record {
   writes =
       taken_writes c.args.style.now c.args.name.now c.args.galley.now
       (over_sink (g.O.Sink.written c.args.out.now) (g.O.Sink.written c.run_built.new.out)
       (g.O.Sink.faults c.args.out.now) (g.O.Sink.faults c.run_built.new.out)) c.run_built.result
-      c.in-None.ensures.0 c.in-None.ensures.1 c.run_built.ensures.writes;
+      c.in-Ok.ensures.1 c.in-Ok.ensures.2 c.run_built.ensures.writes;
 }

@@ -3,7 +3,7 @@ use Rattle.std.specs.List.{range_with_len}
 use Rattle.pg_rules.specs.Floats.{entry}
 use Rattle.pg_rules.specs.Legal.{document}
 use Rattle.pg_pages.specs.Seated.{seated}
-use Rattle.pg_pages.proofs.Singles.{on_same}
+use Rattle.pg_pages.proofs.Grown.{on_same}
 use Rattle.pg_pages.proofs.TextColumn.{bodies_long, body_of_floats, summed}
 use Rattle.pg_pages.proofs.column.print_column_body.Goals as goal
 

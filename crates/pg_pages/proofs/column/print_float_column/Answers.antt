@@ -3,7 +3,7 @@ use Rattle.std.specs.Prelude.{codes, decimal}
 use Rattle.pg_pages.specs.Words.{line}
 use Rattle.pg_pages.specs.PageText.{area}
 use Rattle.pg_pages.specs.Printed.{bare_text, dealt_text, lent}
-use Rattle.pg_pages.proofs.Singles.{on_ok, two_parts}
+use Rattle.pg_pages.proofs.Grown.{on_ok, two_parts}
 use Rattle.pg_pages.proofs.column.print_float_column.Goals as goal
 
 pub returns-clause-ok : goal.returns-clause-ok

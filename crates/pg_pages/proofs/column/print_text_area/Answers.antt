@@ -6,7 +6,7 @@ use Rattle.pg_pages.specs.Words.{line}
 use Rattle.pg_pages.specs.PageText.{items_text}
 use Rattle.pg_pages.specs.Printed.{IsPrintable, behind, widths_by}
 use Rattle.pg_pages.proofs.Printed.{behind_long}
-use Rattle.pg_pages.proofs.Singles.{on_ok}
+use Rattle.pg_pages.proofs.Grown.{on_ok}
 use Rattle.pg_pages.proofs.Widths.{by_printable}
 use Rattle.pg_pages.proofs.column.print_text_area.Goals as goal
 

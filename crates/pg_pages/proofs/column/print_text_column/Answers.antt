@@ -9,7 +9,7 @@ use Rattle.pg_pages.specs.Printed.{behind}
 use Rattle.pg_pages.specs.Seated.{seated}
 use Rattle.pg_lemmas.proofs.Numbers.{eq_yes}
 use Rattle.pg_pages.proofs.Printed.{behind_long}
-use Rattle.pg_pages.proofs.Singles.{on_same}
+use Rattle.pg_pages.proofs.Grown.{on_same}
 use Rattle.pg_pages.proofs.TextColumn.{bodies_long, column_text_is, excess_is_small, named, segment_few, segment_is, segment_range, sized, summed}
 use Rattle.pg_pages.proofs.column.print_text_column.Goals as goal
 

@@ -5,7 +5,7 @@ use Rattle.pg_rules.specs.Legal.{document}
 use Rattle.pg_pages.specs.Printed.{FitTogether}
 use Rattle.pg_pages.specs.Sheets.{MayFrom, columns_from, placed_behind, placed_from, seat_text}
 use Rattle.pg_pages.proofs.Printed.{split_first}
-use Rattle.pg_pages.proofs.Singles.{grows_on}
+use Rattle.pg_pages.proofs.Grown.{grows_on}
 use Rattle.pg_pages.proofs.TextColumn.{bodies_long, seat_same}
 use Rattle.pg_pages.proofs.sheets.print_seats.Goals as goal
 

@@ -1,6 +1,6 @@
 use Rattle.pg_rules.specs.Legal.{document}
 use Rattle.pg_pages.proofs.SheetText.{sheet_is}
-use Rattle.pg_pages.proofs.Singles.{grows_on}
+use Rattle.pg_pages.proofs.Grown.{grows_on}
 use Rattle.pg_pages.proofs.TextColumn.{bodies_long}
 use Rattle.pg_pages.proofs.sheets.print_sheet.Goals as goal
 

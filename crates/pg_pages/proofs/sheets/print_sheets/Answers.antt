@@ -4,7 +4,7 @@ use Rattle.pg_rules.specs.Legal.{document}
 use Rattle.pg_pages.specs.Sheets.{MaySheets, sheet_behind, sheet_text, sheets_text}
 use Rattle.pg_pages.proofs.Printed.{split_first}
 use Rattle.pg_pages.proofs.SheetText.{none_placed}
-use Rattle.pg_pages.proofs.Singles.{grown, grows_on}
+use Rattle.pg_pages.proofs.Grown.{grown, grows_on}
 use Rattle.pg_pages.proofs.TextColumn.{bodies_long}
 use Rattle.pg_pages.proofs.sheets.print_sheets.Goals as goal
 

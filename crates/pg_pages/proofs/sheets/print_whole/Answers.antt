@@ -10,7 +10,7 @@ use Rattle.pg_pages.specs.PageText.{head_line, page_text}
 use Rattle.pg_pages.specs.Printed.{bodies_of, lent}
 use Rattle.pg_pages.specs.Sheets.{sheets_text}
 use Rattle.pg_pages.proofs.ColumnText.{bodies_are}
-use Rattle.pg_pages.proofs.Singles.{on_ok, on_same, two_parts}
+use Rattle.pg_pages.proofs.Grown.{on_ok, on_same, two_parts}
 use Rattle.pg_pages.proofs.Whole.{page_text_is}
 use Rattle.pg_pages.proofs.sheets.print_whole.Goals as goal
 

@@ -1,6 +1,6 @@
 use Rattle.std.proofs.Common.{sym, ◌∙◌}
 use Rattle.pg_pages.proofs.Printed.{front_text}
-use Rattle.pg_pages.proofs.Singles.{grows_on}
+use Rattle.pg_pages.proofs.Grown.{grows_on}
 use Rattle.pg_pages.proofs.text.print_front.Goals as goal
 
 pub front-preserved : goal.front-preserved

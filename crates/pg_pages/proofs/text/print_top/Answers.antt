@@ -5,7 +5,7 @@ use Rattle.pg_flat.specs.Totals.{top_glue}
 use Rattle.pg_scaled.specs.Scaled.{scaled_text}
 use Rattle.pg_pages.specs.Words.{line}
 use Rattle.pg_pages.specs.Printed.{behind}
-use Rattle.pg_pages.proofs.Singles.{on_ok}
+use Rattle.pg_pages.proofs.Grown.{on_ok}
 use Rattle.pg_pages.proofs.text.print_top.Goals as goal
 
 pub returns-clause-ok : goal.returns-clause-ok

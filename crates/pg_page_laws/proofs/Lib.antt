@@ -1,0 +1,4 @@
+pub mod SetSizes
+pub mod Shrinking
+pub mod Shown
+pub mod Filling
