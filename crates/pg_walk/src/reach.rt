@@ -1,13 +1,10 @@
 //! How far columns from a place may go.
-ghost use Rattle.std.specs.Prelude.{◌≡◌, ◌<◌, ◌^◌, ◌+◌, [], IfOk, IfSome, nat_abs};
-ghost use Rattle.pg_column.specs.Passed.{nothing};
+ghost use Rattle.std.specs.Prelude.{◌≡◌, [], IfOk, option_map};
 ghost use Rattle.pg_rules.specs.IsState.{IsPlace};
 ghost use Rattle.pg_rules.specs.Legal.{document};
 ghost use Rattle.pg_rules.specs.Reach.{IsReach, greatest_extra as greatest_extra_of};
-ghost use Rattle.pg_stretch.specs.View.{views};
-ghost use Rattle.pg_walk_laws.specs.Reached.{first_reach, tallest as tallest_of};
-ghost use Rattle.pg_walk_laws.specs.Walk.{first_front, first_items, past_stretch};
-ghost use Rattle.pg_walk_space.specs.Meaning.{IsOwn};
+ghost use Rattle.pg_walk_laws.specs.Reached.{tallest as tallest_of};
+ghost use Rattle.pg_walk.specs.Blocks.{IsGreatestFrom, state};
 
 use pg_list::{Galley, Place};
 use pg_stretch::{Cursor, Passed, State, pass_on};
@@ -84,9 +81,44 @@ fn tallest(style: &Style) -> i64
     i64::from(style.height) + i64::from(greatest_extra(style.runs.as_slice()))
 }
 
-/// One more than the greatest block of a place that a column of text from a place may end at or go through, in the
-/// tallest room, whatever is picked, without notes. One straight walk up to the first choice; where there are choices,
-/// the table over their fronts.
+// Before a front with what was passed.
+fn state_at(block: u32, passed: Option<Passed>) -> Option<State>
+    ensures { result ≡ option_map (state block) passed }
+{
+    match passed {
+        None => None,
+        Some(passed) => Some(State { block, passed }),
+    }
+}
+
+// The greatest block that columns of text from a place come to, whatever they pick, up to breaks that no room up to the
+// greatest one lets pass.
+fn greatest_block(
+    alloc: Global,
+    galley: &Galley,
+    style: &Style,
+    top: i64,
+    from: Place,
+) -> Result<u32, AllocError>
+    requires { IsPlace galley.now.blocks from }
+    ensures { IfOk result (IsGreatestFrom (document galley.now style.now) top from) }
+{
+    let _ = galley.blocks().as_slice();
+    let ahead = Cursor::first(galley, from);
+    let passing = pass_on(galley, style, top, ahead, Passed::nothing(style));
+    let first = passing.greatest;
+    let Some(start) = state_at(passing.front, passing.passed) else {
+        return Ok(first);
+    };
+    if variants_at(galley, start.block).is_empty() {
+        return Ok(first);
+    }
+    furthest(alloc, galley, style, top, start, first)
+}
+
+/// One more than the greatest block of a place that a column of text from a place may reach: in the tallest room,
+/// whatever is picked, without notes. One straight walk up to the first choice; where there are choices, the table over
+/// their fronts.
 ///
 /// Condition: the place is the galley's. The one refusal is want of memory.
 pub fn reach_of(
@@ -102,19 +134,6 @@ pub fn reach_of(
     let _ = galley.blocks().as_slice();
     walk_tells_reach(galley, style);
     let quiet = quiet_style(alloc, style);
-    let top = tallest(style);
-    let passing = pass_on(galley, &quiet, top, Cursor::first(galley, from), Passed::nothing(&quiet));
-    let first = passing.greatest;
-    let front = passing.front;
-    let Some(passed) = passing.passed else {
-        return Ok(first + 1);
-    };
-    if variants_at(galley, front).is_empty() {
-        return Ok(first + 1);
-    }
-    let start = State {
-        block: front,
-        passed,
-    };
-    Ok(furthest(alloc, galley, &quiet, top, start, first)? + 1)
+    let block = greatest_block(alloc, galley, &quiet, tallest(style), from)?;
+    Ok(block + 1)
 }
