@@ -43,8 +43,14 @@ fn list_end(rt: &HostRuntime, end: &End) -> anyhow::Result<()> {
     let picks = picks_text(alloc, end.picks.as_slice())?;
     let goal = points(alloc, cost.goal)?;
     let total = points(alloc, cost.total)?;
-    println!(rt; "to {} {} {} picks {} price {} fitness {}", to.block, to.variant, to.index, picks, end.pick_demerits, cost.fitness)?;
-    println!(rt; "set goal {} total {} badness {} penalty {} demerits {}", goal, total, cost.badness, cost.penalty, cost.demerits)?;
+    println!(rt;
+        "to {} {} {} picks {} price {} fitness {}",
+        to.block, to.variant, to.index, picks, end.pick_demerits, cost.fitness
+    )?;
+    println!(rt;
+        "set goal {} total {} badness {} penalty {} demerits {}",
+        goal, total, cost.badness, cost.penalty, cost.demerits
+    )?;
     Ok(())
 }
 
@@ -59,7 +65,12 @@ fn list_room(rt: &HostRuntime, room: i64, ends: &[End]) -> anyhow::Result<()> {
 }
 
 /// Lists the reach of a place, and the ends of columns from it in each room.
-pub fn list_from(rt: &HostRuntime, galley: &Galley, style: &Style, columns: &Columns) -> anyhow::Result<()>
+pub fn list_from(
+    rt: &HostRuntime,
+    galley: &Galley,
+    style: &Style,
+    columns: &Columns,
+) -> anyhow::Result<()>
     requires { AllByRecursion (λ (room : ℤ). nat_abs room < 2 ^ 40) columns.now.rooms.items }
 {
     let from = columns.from;
@@ -67,7 +78,10 @@ pub fn list_from(rt: &HostRuntime, galley: &Galley, style: &Style, columns: &Col
         return Err(anyhow!("no such place"));
     }
     let reach = reach_of(rt.alloc(), galley, style, from)?;
-    println!(rt; "from {} {} {} reach {}", from.block, from.variant, from.index, reach)?;
+    println!(rt;
+        "from {} {} {} reach {}",
+        from.block, from.variant, from.index, reach
+    )?;
     let rooms = columns.rooms.as_slice();
     let lists = ends_many(rt.alloc(), galley, style, from, rooms)?;
     for (room, ends) in rooms.iter().zip(lists.as_slice()) {

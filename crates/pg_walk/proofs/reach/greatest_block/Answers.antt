@@ -58,7 +58,8 @@ furthest-requires c =
     (to_z-of_z w64 c.args.top (record { sfits = c.ranges.top.sfits })) c.args.from (view c.nothing.result)
     c.nothing.ensures.value _ c.first-ahead.ensures.items _ c.first-ahead.ensures.front c.pass_on-passing.result.passed
     c.pass_on-passing.result.front c.pass_on-passing.result.greatest c.pass_on-passing.ensures.reach
-    c.pass_on-passing.ensures.past c.pass_on-passing.ensures.front (subst (AllByRecursion IsBlock) c.blocks-2.ensures.blocks c.as_slice.ensures.shape) c.blocks-2.ensures.limit
+    c.pass_on-passing.ensures.past c.pass_on-passing.ensures.front
+    (subst (AllByRecursion IsBlock) c.blocks-2.ensures.blocks c.as_slice.ensures.shape) c.blocks-2.ensures.limit
     c.requires c.pass_on-passing.ensures.style c.nothing.result.sums.count c.nothing.result.notes.count
     c.nothing.ensures.counts.0 c.nothing.ensures.counts.1 c.pass_on-passing.ensures.counts c.in-Some.start
     (sym c.state_at.ensures ∙ c.in-Some.is) in
@@ -71,7 +72,8 @@ returns c =
     (to_z-of_z w64 c.args.top (record { sfits = c.ranges.top.sfits })) c.args.from (view c.nothing.result)
     c.nothing.ensures.value _ c.first-ahead.ensures.items _ c.first-ahead.ensures.front c.pass_on-passing.result.passed
     c.pass_on-passing.result.front c.pass_on-passing.result.greatest c.pass_on-passing.ensures.reach
-    c.pass_on-passing.ensures.past c.pass_on-passing.ensures.front (subst (AllByRecursion IsBlock) c.blocks-2.ensures.blocks c.as_slice.ensures.shape) c.blocks-2.ensures.limit
+    c.pass_on-passing.ensures.past c.pass_on-passing.ensures.front
+    (subst (AllByRecursion IsBlock) c.blocks-2.ensures.blocks c.as_slice.ensures.shape) c.blocks-2.ensures.limit
     c.requires c.pass_on-passing.ensures.style c.nothing.result.sums.count c.nothing.result.notes.count
     c.nothing.ensures.counts.0 c.nothing.ensures.counts.1 c.pass_on-passing.ensures.counts c.in-Some.start
     (sym c.state_at.ensures ∙ c.in-Some.is) in
