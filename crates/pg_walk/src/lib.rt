@@ -3,14 +3,17 @@
 //! Proved: `candidates` finds where columns may end in some room up to a greatest one (`AreCandidates` of
 //! pg_walk_laws), and `ends` lists each place and fitness at which a column of text from the place, in a room of a
 //! height, keeps the rules on one column, with its numbers and its best picks, in order, and nothing else (`AreEnds` of
-//! pg_ends); `ends_many` does so for several rooms from one walk. This holds for every galley and style.
+//! pg_ends); `ends_many` does so for several rooms from one walk; `reach_of` tells how far columns from a place may go
+//! (`IsReach` of pg_rules). This holds for every galley and style.
 #![tactic(auto)]
 
+mod reach;
 mod rooms;
 mod walking;
 
 pub use pg_candidates::CandidateList;
 pub use pg_column::TextCost;
 pub use pg_ends::{End, EndList, EndLists};
+pub use reach::reach_of;
 pub use rooms::{ends, ends_many};
 pub use walking::candidates;

@@ -1,5 +1,5 @@
 -- One label more.
-use Rattle.std.proofs.Common.{◌≡◌, refl, sym, ap, ◌∙◌, subst, ℕ, zero, suc, ◌<◌, ◌^◌, inl, inr, Some, Result, Ok, Err, OnOk, List, [], ◌∷◌, ◌++◌, length, arith, ℤ}
+use Rattle.std.proofs.Common.{◌≡◌, refl, sym, ap, ◌∙◌, subst, ℕ, zero, suc, ◌<◌, ◌^◌, inl, inr, Some, Result, Ok, Err, IfOk, OnOk, List, [], ◌∷◌, ◌++◌, length, arith, ℤ}
 use Rattle.std.specs.Prelude.{Contains, get_or, nat_abs, reverse, slice_get}
 use Rattle.std.proofs.lemmas.Option.{slice_get-get_or}
 use Rattle.std.proofs.lemmas.List.{reverse-reverse}
@@ -81,7 +81,7 @@ small_abs : (c : ℤ) → Small c → nat_abs c < 2 ^ 62
 small_abs c s = omega (arith, ints, s.above, s.below)
 
 -- the labels of a filled table
-pub are_small : (galley : GalleyValue) (style : StyleValue) (top : ℤ) (start : State) (range : AreInRange galley style)
+are_small : (galley : GalleyValue) (style : StyleValue) (top : ℤ) (start : State) (range : AreInRange galley style)
     (own : IsOwn (document galley style) top start) (es : List (Entry State ℕ)) →
     IsTable (space_meaning (document galley style) top start) es → AreSmall (document galley style) top es
 are_small galley style top start range own es table =
@@ -106,15 +106,28 @@ got_at xs i x h is = slice_get-get_or xs i x h ∙ ap Some (sym is)
 
 -- ---- of the same document and state
 
-pub table_at : (g g' : GalleyValue) (s s' : StyleValue) (t t' : ℤ) (u u' : State) (es es' : List (Entry State ℕ)) →
-    g ≡ g' → s ≡ s' → t ≡ t' → u ≡ u' → es ≡ es' → IsTable (space_meaning (document g s) t u) es →
-    IsTable (space_meaning (document g' s') t' u') es'
-table_at g g' s s' t t' u u' es es' p q r o n h =
-    subst (λ x. IsTable (space_meaning (document x s') t' u') es') p
-    (subst (λ x. IsTable (space_meaning (document g x) t' u') es') q
-    (subst (λ x. IsTable (space_meaning (document g s) x u') es') r
-    (subst (λ x. IsTable (space_meaning (document g s) t x) es') o
-    (subst (λ x. IsTable (space_meaning (document g s) t u) x) n h))))
+module _ (g g' : GalleyValue) (s s' : StyleValue) (t t' : ℤ) (u u' : State) (p : g ≡ g') (q : s ≡ s') (r : t ≡ t')
+    (o : u ≡ u') where
+  table_at : (es : List (Entry State ℕ)) → IsTable (space_meaning (document g s) t u) es →
+      IsTable (space_meaning (document g' s') t' u') es
+  table_at es h =
+      subst (λ x. IsTable (space_meaning (document x s') t' u') es) p
+      (subst (λ x. IsTable (space_meaning (document g x) t' u') es) q
+      (subst (λ x. IsTable (space_meaning (document g s) x u') es) r
+      (subst (λ x. IsTable (space_meaning (document g s) t x) es) o h)))
+
+  pub filled_at : {E : Type 0} (result : Result (List (Entry State ℕ)) E) →
+      IfOk result (IsTable (space_meaning (document g s) t u)) →
+      IfOk result (IsTable (space_meaning (document g' s') t' u'))
+  filled_at (Ok es) h = table_at es h
+  filled_at (Err e) h = tt
+
+pub filled_small : {E : Type 0} (result : Result (List (Entry State ℕ)) E) (galley : GalleyValue) (style : StyleValue)
+    (top : ℤ) (start : State) → AreInRange galley style → IsOwn (document galley style) top start →
+    IfOk result (IsTable (space_meaning (document galley style) top start)) →
+    IfOk result (AreSmall (document galley style) top)
+filled_small (Ok es) galley style top start range own h = are_small galley style top start range own es h
+filled_small (Err e) galley style top start range own h = tt
 
 pub collected : {T E : Type 0} (r : Result T E) (doc : Document) (top : ℤ) (start : State) (es : List (Entry State ℕ))
     (old new : List Candidate) → IsTable (space_meaning doc top start) es → OnOk r (HasEnds doc top es es old new) →

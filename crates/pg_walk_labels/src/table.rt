@@ -1,42 +1,21 @@
-//! The labels of a filled table, one after another.
-ghost use Rattle.std.specs.Prelude.{◌≡◌, ◌<◌, ◌≤◌, ◌^◌, Contains, IfOk, OnOk, length, nat_abs, ℕ};
+//! The ends of the labels of a filled table, one label after another.
+ghost use Rattle.std.specs.Prelude.{◌≡◌, ◌<◌, ◌≤◌, ◌^◌, Contains, OnOk, length, nat_abs, ℕ};
 ghost use Rattle.pg_rules.specs.Legal.{document};
 ghost use Rattle.pg_stretch.specs.declared.passing.State.{State as AState};
-ghost use Rattle.pg_table.specs.Label.{Grounded, IsTable};
+ghost use Rattle.pg_table.specs.Label.{Grounded};
 ghost use Rattle.pg_table.specs.declared.table.Entry.{Entry as AnEntry};
-ghost use Rattle.pg_walk_space.specs.Meaning.{IsOwn, space_meaning};
+ghost use Rattle.pg_walk_space.specs.Meaning.{IsOwn};
 ghost use Rattle.pg_walk_labels.specs.Collected.{AreSmall, Collects, HasEnds};
 
+use crate::filling::filled_from;
 use crate::label::add_label;
 use crate::runs::picks_of;
 use pg_candidates::CandidateList;
 use pg_list::Galley;
-use pg_steps::Steps;
 use pg_stretch::State;
 use pg_style::Style;
-use pg_table::{Entry, Table};
-use pg_walk_space::{Key, WalkSpace};
+use pg_table::Entry;
 use std::alloc::{AllocError, Global};
-use std::marker::Brand;
-use std::sync::ledger::{Blank, Ledger};
-
-// A filled table of the walk, with a counter of its own.
-fn filled<L: Ledger>(
-    alloc: Global,
-    space: &WalkSpace<'_>,
-    blank: Blank,
-) -> Result<Table<State, u32, Key>, AllocError>
-    requires name { blank.name ≡ L.name }
-    requires parts { blank.parts ≡ L.parts }
-    requires one { blank.parts ≡ 1 }
-    ensures { IfOk result (IsTable (space_meaning (document space.now.galley.now space.now.style.now) space.now.top
-        space.now.start)) }
-{
-    let mut steps = Steps::<L>::new(blank);
-    let mut table = Table::new(alloc);
-    table.fill(space, &mut steps)?;
-    Ok(table)
-}
 
 // Adds the ends of each label.
 fn add_labels(
@@ -77,9 +56,6 @@ pub fn collect(
     requires { IsOwn (document galley.now style.now) top start }
     ensures { OnOk result (Collects (document galley.now style.now) top start found.old found.new) }
 {
-    style.stays_in_range();
-    let _ = galley.blocks().as_slice();
-    let space = WalkSpace::new(alloc, galley, style, top, start);
-    let table = filled::<Brand>(alloc, &space, Blank::new(1))?;
+    let table = filled_from(alloc, galley, style, top, start)?;
     add_labels(alloc, galley, style, top, table.labels(), found)
 }

@@ -1,5 +1,5 @@
 -- The walk over all picks in the tallest room tells the reach of a place.
-use Rattle.std.proofs.Common.{◌≡◌, refl, sym, ap, ◌∙◌, subst, ℕ, zero, suc, ◌+◌, ◌≤◌, ◌<◌, inl, inr, List, [], ◌∷◌, ◌++◌, length, length-append, take, drop, arith, Bool, true, false, Option, Some, None, ℤ, pos, ◌+ℤ◌, ◌-ℤ◌}
+use Rattle.std.proofs.Common.{◌≡◌, refl, sym, ap, ◌∙◌, subst, ℕ, zero, suc, ◌+◌, ◌≤◌, ◌<◌, ◌⊎◌, inl, inr, List, [], ◌∷◌, ◌++◌, length, length-append, take, drop, arith, Bool, true, false, Option, Some, None, ℤ, pos, ◌+ℤ◌, ◌-ℤ◌}
 use Rattle.std.specs.Prelude.{◌==◌, ◌||◌, not, ◌-◌, if◌then◌else◌, max, slice_get, nat_le, nat_abs, unsigned_abs}
 use Rattle.std.specs.List.{AllByRecursion, list_all, range_with_len}
 use Rattle.std.specs.Option.{option_map_or}
@@ -24,7 +24,9 @@ use Rattle.pg_breaks.proofs.Lists.{get_left, get_right, get_lt}
 use Rattle.pg_cut_laws.proofs.Splits.{stands_at}
 use Rattle.pg_place_laws.proofs.Among.{all_same}
 use Rattle.pg_lemmas.proofs.Bools.{both, both_of, by_bool, if_true}
-use Rattle.pg_place_laws.proofs.Places.{begins}
+use Rattle.pg_place_laws.proofs.Measures.{place_within}
+use Rattle.pg_place_laws.proofs.Places.{begins, ends_at}
+use Rattle.pg_place_laws.specs.Past.{IsPast}
 use Rattle.std.proofs.Math.Nat.{le_refl}
 use Rattle.std.proofs.lemmas.List.{take_all}
 use Rattle.pg_place_laws.proofs.Tests.{place_refl}
@@ -129,6 +131,42 @@ max_left a b n h = omega (arith, h)
 max_right : (a b n : ℕ) → n ≤ b → n ≤ max a b
 max_right a b n h = omega (arith, h)
 
+-- what holds of two numbers holds of the greater
+of_either : (P : ℕ → Type 0) (a b : ℕ) → P a → P b → P (max a b)
+of_either P a b p q = by_bool (nat_le a b)
+    (λ t. let e : max a b ≡ b = bigger a b t in subst P (sym e) q)
+    (λ f. let e : max a b ≡ a = smaller a b f in subst P (sym e) p)
+  where
+    bigger : (a b : ℕ) → nat_le a b ≡ true → max a b ≡ b
+    bigger a b t = grind (arith, nat_tests)
+
+    smaller : (a b : ℕ) → nat_le a b ≡ false → max a b ≡ a
+    smaller a b t = grind (arith, nat_tests)
+
+-- what holds of each of the numbers holds of the greatest
+pub of_greatest : (P : ℕ → Type 0) (f : ℕ → ℕ) (b a n : ℕ) → P b → ((k : ℕ) → a ≤ k → k < a + n → P (f k)) →
+    P (greatest_from f b a n)
+of_greatest P f b a zero p each = p
+of_greatest P f b a (suc n) p each =
+    of_either P (f a) (greatest_from f b (a + 1) n) (each a (omega arith) (omega arith))
+    (of_greatest P f b (a + 1) n p (λ k l u. each k (omega (arith, l)) (omega (arith, u))))
+
+-- no less than the last
+pub least_of : (f : ℕ → ℕ) (b a n : ℕ) → b ≤ greatest_from f b a n
+least_of f b a zero = omega arith
+least_of f b a (suc n) = max_right (f a) (greatest_from f b (a + 1) n) b (least_of f b (a + 1) n)
+
+-- no less than each of the numbers
+pub greatest_at : (f : ℕ → ℕ) (b a d n m : ℕ) → d < n → m ≤ f (a + d) → m ≤ greatest_from f b a n
+greatest_at f b a d zero m h l = absurd (omega (arith, h))
+greatest_at f b a zero (suc n) m h l =
+    let e : a + 0 ≡ a = omega arith in
+    max_left (f a) (greatest_from f b (a + 1) n) m (subst (λ (z : ℕ). m ≤ f z) e l)
+greatest_at f b a (suc d) (suc n) m h l =
+    let e : a + suc d ≡ a + 1 + d = omega arith in
+    max_right (f a) (greatest_from f b (a + 1) n) m
+    (greatest_at f b (a + 1) d n m (omega (arith, h)) (subst (λ (z : ℕ). m ≤ f z) e l))
+
 module _ (doc : Document) (all : AllByRecursion IsBlock doc.blocks) (is-style : IsStyle doc.style) (from : Place)
     (at : IsPlace doc.blocks from) where
   abbrev pub still : Document
@@ -186,16 +224,6 @@ module _ (doc : Document) (all : AllByRecursion IsBlock doc.blocks) (is-style : 
       by (Some q) h more = subst (λ (n : ℕ). to.block ≤ n)
           (sym (if_true (fits q.bound top) (reach_along still top b q xs) 0
           (items_fit still top q r (take k xs) h f))) (more q h)
-
-  greatest_at : (f : ℕ → ℕ) (b a d n m : ℕ) → d < n → m ≤ f (a + d) → m ≤ greatest_from f b a n
-  greatest_at f b a d zero m h l = absurd (omega (arith, h))
-  greatest_at f b a zero (suc n) m h l =
-      let e : a + 0 ≡ a = omega arith in
-      max_left (f a) (greatest_from f b (a + 1) n) m (subst (λ (z : ℕ). m ≤ f z) e l)
-  greatest_at f b a (suc d) (suc n) m h l =
-      let e : a + suc d ≡ a + 1 + d = omega arith in
-      max_right (f a) (greatest_from f b (a + 1) n) m
-      (greatest_at f b (a + 1) d n m (omega (arith, h)) (subst (λ (z : ℕ). m ≤ f z) e l))
 
   no_variants : (n : ℕ) (blocks : List Block) → length blocks ≤ n → variants_at blocks n ≡ []
   no_variants n [] h = refl
@@ -336,17 +364,6 @@ module _ (doc : Document) (all : AllByRecursion IsBlock doc.blocks) (is-style : 
 
   abbrev pub Attained : ℕ → Type 0
   Attained n = (to : Place) × (Reaches doc from to × (to.block ≡ n))
-
-  either_attained : (a b : ℕ) → Attained a → Attained b → Attained (max a b)
-  either_attained a b p q = by_bool (nat_le a b)
-      (λ t. let e : max a b ≡ b = bigger a b t in subst Attained (sym e) q)
-      (λ f. let e : max a b ≡ a = smaller a b f in subst Attained (sym e) p)
-    where
-      bigger : (a b : ℕ) → nat_le a b ≡ true → max a b ≡ b
-      bigger a b t = grind (arith, nat_tests)
-
-      smaller : (a b : ℕ) → nat_le a b ≡ false → max a b ≡ a
-      smaller a b t = grind (arith, nat_tests)
 
   or_none : (a : ℕ) → Attained a → Attained (max a 0)
   or_none a p = let e : max a 0 ≡ a = omega arith in subst Attained (sym e) p
@@ -533,14 +550,8 @@ module _ (doc : Document) (all : AllByRecursion IsBlock doc.blocks) (is-style : 
         where
           inside : (t : Bool) → fits s.bound top ≡ t →
               Attained (max x.place.block (if t then reach_along still top b s ys else 0))
-          inside true f = either_attained x.place.block (reach_along still top b s ys) a (more s g f)
+          inside true f = of_either Attained x.place.block (reach_along still top b s ys) a (more s g f)
           inside false f = or_none x.place.block a
-
-  greatest_attained : (f : ℕ → ℕ) (b a n : ℕ) → Attained b → ((k : ℕ) → Attained (f k)) →
-      Attained (greatest_from f b a n)
-  greatest_attained f b a zero p each = p
-  greatest_attained f b a (suc n) p each =
-      either_attained (f a) (greatest_from f b (a + 1) n) (each a) (greatest_attained f b (a + 1) n p each)
 
   some_bound : (p s : Passed) (xs : List FlatItem) → past_stretch still top p xs ≡ Some s → fits s.bound top ≡ true
   some_bound p s xs e = (past_parts still top p s xs e).1
@@ -550,8 +561,8 @@ module _ (doc : Document) (all : AllByRecursion IsBlock doc.blocks) (is-style : 
       Attained (reach_from fuel still top b s)
   from_attained zero picks b s d o f a = a
   from_attained (suc fuel) picks b s d o f a =
-      greatest_attained Part b 0 (length (variants_at doc.blocks b)) a
-      (λ q. by q (slice_get (variants_at doc.blocks b) q) refl
+      of_greatest Attained Part b 0 (length (variants_at doc.blocks b)) a
+      (λ q from_on within. by q (slice_get (variants_at doc.blocks b) q) refl
       (λ v r o' f' a'. from_attained fuel (picks ++ q ∷ []) (picked_front doc.blocks b) r (d +ℤ pos v.demerits) o' f'
       a'))
     where
@@ -605,7 +616,7 @@ module _ (doc : Document) (all : AllByRecursion IsBlock doc.blocks) (is-style : 
               (option_map_or (λ (r : Passed). reach_from fuel still top (picked_front doc.blocks b) r) w 0))
           onward None g = or_none
               (reach_along still top (picked_front doc.blocks b) s (picked_stretch doc.blocks b q)) near
-          onward (Some r) g = either_attained
+          onward (Some r) g = of_either Attained
               (reach_along still top (picked_front doc.blocks b) s (picked_stretch doc.blocks b q))
               (reach_from fuel still top (picked_front doc.blocks b) r) near
               (again v r (past_before still top all from at (picks ++ q ∷ []) (picked_front doc.blocks b) s r
@@ -651,7 +662,7 @@ module _ (doc : Document) (all : AllByRecursion IsBlock doc.blocks) (is-style : 
           Attained (max (reach_along still top front nothing lead)
           (option_map_or (λ (p : Passed). reach_from (length doc.blocks) still top front p) w 0))
       onward None g = or_none (reach_along still top front nothing lead) near
-      onward (Some s) g = either_attained (reach_along still top front nothing lead)
+      onward (Some s) g = of_either Attained (reach_along still top front nothing lead)
           (reach_from (length doc.blocks) still top front s) near
           (from_attained (length doc.blocks) [] front s (pos 0)
           (past_before still top all from at [] front nothing s (pos 0) lead before g) parts.1
@@ -684,3 +695,47 @@ module _ (doc : Document) (all : AllByRecursion IsBlock doc.blocks) (is-style : 
       subst (λ (n : ℕ). IsReach doc from (n + 1))
       (ap (λ (o : Option Passed). max (reach_along still top front nothing lead)
       (option_map_or (λ (p : Passed). reach_from (length doc.blocks) still top front p) o 0)) e ∙ z) reach_is
+
+  -- no reach is beyond the galley's end
+  pub reach_within : (n : ℕ) → IsReach doc from n → n ≤ length doc.blocks + 1
+  reach_within n r =
+      let picked = both_of _ _ r.reached.picked in
+      by (ends_at doc.blocks from r.last r.reached.picks r.reached.size all at (eqb-true _ _ picked.1) r.reached.leads)
+    where
+      by : (r.last ≡ from) ⊎ IsPast doc.blocks from r.last → n ≤ length doc.blocks + 1
+      by (inl e) =
+          let here = place_within doc.blocks from at in
+          let same = ap (λ (p : Place). p.block) e in
+          let more = r.one_more in omega (arith, here, same, more)
+      by (inr past) =
+          let there = place_within doc.blocks r.last past.place in
+          let more = r.one_more in omega (arith, there, more)
+
+  -- where no choice is behind the first stretch
+  pub stretch_alone : variants_at doc.blocks front ≡ [] →
+      IsReach doc from (reach_along still top front nothing lead + 1)
+  unfolding reach_of
+  stretch_alone last = by (past_stretch still top nothing lead) refl
+    where
+      here : ℕ
+      here = reach_along still top front nothing lead
+
+      none_from : (f : ℕ → ℕ) (b n : ℕ) → n ≡ 0 → greatest_from f b 0 n ≡ b
+      none_from f b zero e = refl
+      none_from f b (suc n) e = absurd cc
+
+      none_behind : (fuel : ℕ) (p : Passed) → reach_from fuel still top front p ≡ front
+      none_behind zero p = refl
+      none_behind (suc fuel) p = none_from _ front (length (variants_at doc.blocks front)) (ap length last)
+
+      by : (o : Option Passed) → past_stretch still top nothing lead ≡ o → IsReach doc from (here + 1)
+      by None e = stretch_tells e
+      by (Some s) e =
+          let parts = past_parts still top nothing s lead e in
+          let low : front ≤ here = along_below front (place front 0 0) nothing s lead (length lead) (inr (refl, refl))
+          (ap (pass_items still nothing) (take_all _ lead (le_refl _)) ∙ parts.0) parts.1 in
+          let whole : max here front ≡ here = omega (arith, low) in
+          subst (λ (n : ℕ). IsReach doc from (n + 1))
+          (ap (λ (o : Option Passed). max here
+          (option_map_or (λ (p : Passed). reach_from (length doc.blocks) still top front p) o 0)) e
+          ∙ (ap (λ (n : ℕ). max here n) (none_behind (length doc.blocks) s) ∙ whole)) reach_is

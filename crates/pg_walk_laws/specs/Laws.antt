@@ -78,8 +78,9 @@ LabelsTellReach doc = (from : Place) (start : WalkState) (es : List (Entry WalkS
     HasLabels (walk_meaning (quiet doc) (tallest doc.style) start) es →
     IsGreatest (quiet doc) (tallest doc.style) from es n → IsReach doc from (n + 1)
 
--- so does the first stretch alone, where it is not passed
+-- so does the first stretch alone, where it is not passed or no choice stands behind it
 abbrev pub StretchTellsReach : Document → Type 0
 StretchTellsReach doc = (from : Place) → IsPlace doc.blocks from →
-    past_stretch (quiet doc) (tallest doc.style) nothing (first_items doc.blocks from) ≡ None →
+    (past_stretch (quiet doc) (tallest doc.style) nothing (first_items doc.blocks from) ≡ None)
+    ⊎ (variants_at doc.blocks (first_front doc.blocks from) ≡ []) →
     IsReach doc from (first_reach (quiet doc) (tallest doc.style) from + 1)

@@ -1,0 +1,32 @@
+-- The greatest block that columns from a place come to.
+use Rattle.std.specs.Prelude.{◌≡◌, ◌⊎◌, ℕ, [], Some, None, ℤ}
+use Rattle.pg_column.specs.Passed.{nothing}
+use Rattle.pg_list.specs.declared.galley.Place.{Place}
+use Rattle.pg_rules.specs.Room.{Document}
+use Rattle.pg_stretch.specs.View.{view}
+use Rattle.pg_stretch.specs.declared.passed.Passed.{Passed}
+use Rattle.pg_stretch.specs.declared.passing.State.{State}
+use Rattle.pg_walk_labels.specs.Furthest.{GoesTo}
+use Rattle.pg_walk_laws.specs.Reached.{first_reach}
+use Rattle.pg_walk_laws.specs.Walk.{first_front, first_items, past_stretch, variants_at}
+
+-- before a front with what was passed
+abbrev pub state : ℕ → Passed → State
+state block passed = record { block = block; passed = passed }
+
+-- the greatest block along the first stretch, which is not passed or has no choice behind it
+pub record IsAlone (doc : Document) (top : ℤ) (from : Place) (n : ℕ) : Type 0 where
+  pub is : n ≡ first_reach doc top from
+  pub last : (past_stretch doc top nothing (first_items doc.blocks from) ≡ None)
+      ⊎ (variants_at doc.blocks (first_front doc.blocks from) ≡ [])
+
+-- the greatest block along the first stretch and along the picks at the fronts behind it
+pub record IsByPicks (doc : Document) (top : ℤ) (from : Place) (n : ℕ) : Type 0 where
+  pub start : State
+  pub front : start.block ≡ first_front doc.blocks from
+  pub past : Some (view start.passed) ≡ past_stretch doc top nothing (first_items doc.blocks from)
+  pub goes : GoesTo doc top start (first_reach doc top from) n
+
+-- the greatest block of the walk from a place
+abbrev pub IsGreatestFrom : Document → ℤ → Place → ℕ → Type 0
+IsGreatestFrom doc top from n = IsAlone doc top from n ⊎ IsByPicks doc top from n

@@ -1,0 +1,139 @@
+//! How far columns from a place may go.
+ghost use Rattle.std.specs.Prelude.{◌≡◌, [], IfOk, option_map};
+ghost use Rattle.pg_rules.specs.IsState.{IsPlace};
+ghost use Rattle.pg_rules.specs.Legal.{document};
+ghost use Rattle.pg_rules.specs.Reach.{IsReach, greatest_extra as greatest_extra_of};
+ghost use Rattle.pg_walk_laws.specs.Reached.{tallest as tallest_of};
+ghost use Rattle.pg_walk.specs.Blocks.{IsGreatestFrom, state};
+
+use pg_list::{Galley, Place};
+use pg_stretch::{Cursor, Passed, State, pass_on};
+use pg_style::{Classes, Run, Runs, Style};
+use pg_walk_labels::furthest;
+use pg_walk_laws::laws::walk_tells_reach;
+use pg_walk_space::variants_at;
+use std::alloc::{AllocError, Global};
+
+// The same runs.
+fn copy_runs(alloc: Global, runs: &Runs) -> Runs
+    ensures { result ≡ runs.now }
+{
+    let [first, after @ ..] = runs.as_slice() else {
+        unreachable!()
+    };
+    let mut copy = Runs::new(alloc, *first);
+    let mut left = after;
+    'runs: while let [run, behind @ ..] = left {
+        copy.push(*run);
+        left = behind;
+    }
+    copy
+}
+
+// The style without classes, under which each variant may be picked. No memory is taken.
+fn quiet_style(alloc: Global, style: &Style) -> Style
+    ensures { result ≡ record style.now { classes = []; max_looseness = 100 } }
+{
+    style.stays_in_range();
+    Style {
+        version: style.version,
+        columns: style.columns,
+        first: style.first,
+        height: style.height,
+        topskip: style.topskip,
+        maxdepth: style.maxdepth,
+        min_text: style.min_text,
+        tolerance: style.tolerance,
+        line: style.line,
+        max_looseness: 100,
+        runs: copy_runs(alloc, &style.runs),
+        top: style.top,
+        bottom: style.bottom,
+        wide: style.wide,
+        float_column: style.float_column,
+        classes: Classes::new(alloc),
+        fitness: style.fitness,
+    }
+}
+
+// The most that a run adds.
+fn greatest_extra(runs: &[Run]) -> i32
+    ensures { result ≡ greatest_extra_of runs.now }
+{
+    let [first, after @ ..] = runs else {
+        return 0;
+    };
+    let mut greatest = first.extra;
+    let mut left = after;
+    'runs: while let [run, behind @ ..] = left {
+        if greatest < run.extra {
+            greatest = run.extra;
+        }
+        left = behind;
+    }
+    greatest
+}
+
+// The room of the tallest run.
+fn tallest(style: &Style) -> i64
+    ensures { result ≡ tallest_of style.now }
+{
+    i64::from(style.height) + i64::from(greatest_extra(style.runs.as_slice()))
+}
+
+// Before a front with what was passed.
+fn state_at(block: u32, passed: Option<Passed>) -> Option<State>
+    ensures { result ≡ option_map (state block) passed }
+{
+    match passed {
+        None => None,
+        Some(passed) => Some(State { block, passed }),
+    }
+}
+
+// The greatest block that columns of text from a place come to, whatever they pick, up to breaks that no room up to the
+// greatest one lets pass.
+fn greatest_block(
+    alloc: Global,
+    galley: &Galley,
+    style: &Style,
+    top: i64,
+    from: Place,
+) -> Result<u32, AllocError>
+    requires { IsPlace galley.now.blocks from }
+    ensures { IfOk result (IsGreatestFrom (document galley.now style.now) top from) }
+{
+    let _ = galley.blocks().as_slice();
+    let ahead = Cursor::first(galley, from);
+    let passing = pass_on(galley, style, top, ahead, Passed::nothing(style));
+    let first = passing.greatest;
+    let Some(start) = state_at(passing.front, passing.passed) else {
+        return Ok(first);
+    };
+    if variants_at(galley, start.block).is_empty() {
+        return Ok(first);
+    }
+    furthest(alloc, galley, style, top, start, first)
+}
+
+/// One more than the greatest block of a place that a column of text from a place may reach: in the tallest room,
+/// whatever is picked, without notes. One straight walk up to the first choice; where there are choices, the table over
+/// their fronts.
+///
+/// Condition: the place is the galley's. The one refusal is want of memory.
+pub fn reach_of(
+    alloc: Global,
+    galley: &Galley,
+    style: &Style,
+    from: Place,
+) -> Result<u32, AllocError>
+    requires { IsPlace galley.now.blocks from }
+    ensures { IfOk result (IsReach (document galley.now style.now) from) }
+{
+    style.stays_in_range();
+    let _ = galley.blocks().as_slice();
+    walk_tells_reach(galley, style);
+    let quiet = quiet_style(alloc, style);
+    let block = greatest_block(alloc, galley, &quiet, tallest(style), from)?;
+    Ok(block + 1)
+}
