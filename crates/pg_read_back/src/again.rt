@@ -23,7 +23,9 @@ fn begins_item(line: &[u8]) -> bool {
 }
 
 fn count_items(text: &[u8]) -> usize {
-    text.split(|byte| *byte == b'\n').filter(|line| begins_item(line)).count()
+    text.split(|byte| *byte == b'\n')
+        .filter(|line| begins_item(line))
+        .count()
 }
 
 // Whether a text reads back to a galley of which the same text is printed.

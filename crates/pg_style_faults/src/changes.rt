@@ -48,12 +48,7 @@ fn changed_by(alloc: Global, text: &str, line: &str) -> Result<Option<String>, A
     Ok(Some(text))
 }
 
-fn say_line(
-    alloc: Global,
-    style: &str,
-    line: &str,
-    out: &mut Vec<u8>,
-) -> Result<(), AllocError> {
+fn say_line(alloc: Global, style: &str, line: &str, out: &mut Vec<u8>) -> Result<(), AllocError> {
     match changed_by(alloc, style, line)? {
         Some(text) => say_verdict(alloc, text.as_bytes(), out)?,
         None => out.extend_from_slice(b"not there")?,

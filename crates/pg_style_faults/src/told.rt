@@ -68,7 +68,11 @@ fn say_class(
         }
         Kind::Float { area, distance } => {
             let area = area_word(*area);
-            say_text(alloc, format!(in alloc; "class {number} float {area}")?, out)?;
+            say_text(
+                alloc,
+                format!(in alloc; "class {number} float {area}")?,
+                out,
+            )?;
             say_entries(alloc, distance.as_slice(), out)?;
         }
     }
