@@ -20,6 +20,3 @@ mod values;
 
 pub use fault::{StyleFault, StyleKind};
 pub use read::read_style;
-
-#[cfg(test)]
-mod tests;

@@ -1,7 +1,6 @@
 //! Badness and set widths.
 ghost use Rattle.std.specs.Prelude.{◌≤◌, ◌^◌, length};
 
-use crate::sample;
 use crate::tables::{cut, points};
 use pg_badness::badness;
 use pg_glue::{Elastic, Sense, set_widths};
@@ -30,6 +29,42 @@ const BADNESS: [(i64, i64, u16); 16] = [
     (7230585, 7230585, 100),
     (1073741823, 1073741823, 100),
 ];
+
+// What TeX (TeX Live 2022) said of the breaks behind the footnote of LaTeX's sample document, up to the one that is over
+// full: the total, the goal, the stretch and the shrink of the page, with those of the space above the footnote, and the
+// badness.
+const STRETCHED: &str = r"58.0 531.45999 5.0 2.0 10000
+70.0 531.45999 6.0 2.0 10000
+82.0 531.45999 6.0 2.0 10000
+94.0 531.45999 6.0 2.0 10000
+106.0 531.45999 6.0 2.0 10000
+172.97215 531.45999 13.16663 2.86108 10000
+192.97215 531.45999 16.16663 6.86108 10000
+204.97215 531.45999 16.16663 6.86108 10000
+224.97215 531.45999 19.16663 10.86108 10000
+244.97215 531.45999 23.16663 14.86108 10000
+256.97215 531.45999 23.16663 14.86108 10000
+268.97215 531.45999 24.16663 14.86108 10000
+280.97215 531.45999 24.16663 14.86108 10000
+300.97215 531.45999 27.16663 18.86108 10000
+312.97215 531.45999 27.16663 18.86108 10000
+332.97215 531.45999 30.16663 22.86108 10000
+344.97215 531.45999 30.16663 22.86108 10000
+356.97215 531.45999 30.16663 22.86108 10000
+376.97215 531.45999 34.16663 24.86108 10000
+388.97215 531.45999 34.16663 24.86108 7238
+408.97215 531.45999 38.16663 26.86108 3302
+420.97215 531.45999 38.16663 26.86108 2418
+436.97215 531.45999 40.16663 28.86108 1297
+448.97215 531.45999 40.16663 28.86108 862
+468.97215 531.45999 44.16663 30.86108 283
+480.97215 531.45999 44.16663 30.86108 149
+500.97215 531.45999 48.16663 32.86108 25
+520.97215 531.45999 51.16663 36.86108 1
+540.97215 531.45999 54.16663 40.86108 1
+552.97215 531.45999 54.16663 40.86108 14
+568.97215 531.45999 56.16663 41.86108 72
+";
 
 // A sense and an excess; glue with its width, the amount that it can change by, and the order of that; and the widths
 // that are set. 0.00002 points is one unit.
@@ -66,7 +101,7 @@ fn badness_of_page(total: i32, goal: i32, stretch: i32, shrink: i32) -> u16 {
 
 #[test]
 fn badness_of_a_page_of_tex(rt: HostRuntime) -> Result<(), Fail> {
-    for row in sample::STRETCHED.lines() {
+    for row in STRETCHED.lines() {
         let (total, rest) = cut(row, ' ');
         let (goal, rest) = cut(rest, ' ');
         let (stretch, rest) = cut(rest, ' ');
