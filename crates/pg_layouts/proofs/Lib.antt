@@ -1,0 +1,5 @@
+pub mod OneMore
+pub mod CountLists
+pub mod Areas
+pub mod Fits
+pub mod Contracts
