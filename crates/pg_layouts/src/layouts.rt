@@ -1,9 +1,9 @@
-//! The layouts, run by run and area by area.
-ghost use Rattle.std.specs.Prelude.{◌≡◌, ◌++◌, ◌+◌, ◌∷◌, [], if◌then◌else◌, ℕ, List, Contains, length, map, IfOk, OnOk};
-ghost use Rattle.std.specs.List.{flat_map, range_with_len};
-ghost use Rattle.pg_rules.specs.Floats.{entry, float_numbers, plus_counts as the_plus_counts, takes_bottom, takes_top};
-ghost use Rattle.pg_layouts.specs.Layouts.{area_lists, layout_of, runs_of, takes_run, with_tops};
-ghost use Rattle.pg_layouts.specs.Behind.{bottoms_behind, of_run};
+//! The layouts with the same wide floats, area by area.
+ghost use Rattle.std.specs.Prelude.{◌≡◌, ◌++◌, ◌≤◌, ℕ, List, Contains, length, map, IfOk, OnOk};
+ghost use Rattle.std.specs.List.{flat_map};
+ghost use Rattle.pg_rules.specs.Floats.{float_numbers, plus_counts as the_plus_counts, takes_bottom, takes_in_column, takes_top};
+ghost use Rattle.pg_layouts.specs.Layouts.{area_lists, layout_of, zeros};
+ghost use Rattle.pg_layouts.specs.Behind.{bottoms_behind, floats_alone};
 ghost use Rattle.pg_layouts.specs.Fit.{Fit};
 
 use crate::counting::count_lists;
@@ -167,110 +167,47 @@ pub fn push_tops(
     )
 }
 
-// Adds the layouts with these wide floats, behind the counts that are placed.
-fn push_wide(
+// Adds a layout for each of these counts of a column without text.
+fn push_each_float(
+    run: u8,
+    wide: &Counts,
+    none: &Counts,
+    tops: &[Counts],
+    layouts: &mut Vec<Layout>,
+) -> Result<(), AllocError>
+    ensures { OnOk result (layouts.new.items ≡ layouts.old.items ++ map (floats_alone run wide.now none.now) tops.now) }
+{
+    for top in tops {
+        layouts.push(layout(run, wide, top, none)?)?;
+    }
+    Ok(())
+}
+
+// How many floats a column without text takes.
+fn float_count(style: &Style) -> u8
+    ensures { result ≡ style.now.float_column.count }
+{
+    style.float_column.count
+}
+
+/// Adds the layouts without text with these wide floats, behind the counts `before`, which these are added to.
+pub fn push_floats(
     alloc: Global,
     style: &Style,
     slots: usize,
-    placed: &[u16],
+    before: &[u16],
     ceiling: &[u16],
     run: u8,
     wide: &Counts,
     layouts: &mut Vec<Layout>,
 ) -> Result<(), AllocError>
     requires slots { slots ≡ length (float_numbers style.now) }
-    requires fit { Fit placed.now wide.now }
-    ensures { OnOk result (layouts.new.items ≡ layouts.old.items
-        ++ with_tops style.now placed.now ceiling.now run wide.now) }
+    requires few { slots ≤ 8 }
+    ensures { OnOk result (layouts.new.items ≡ layouts.old.items ++ map (floats_alone run wide.now (zeros style.now))
+        (area_lists style.now takes_in_column style.now.float_column.count before.now ceiling.now)) }
 {
-    let before = plus_counts(alloc, style, slots, placed, wide.as_slice())?;
-    push_tops(
-        alloc,
-        style,
-        slots,
-        before.as_slice(),
-        ceiling,
-        run,
-        wide,
-        layouts,
-    )
-}
-
-/// Adds the layouts of a run for each of these wide counts, behind the counts that are placed.
-pub fn push_wides(
-    alloc: Global,
-    style: &Style,
-    slots: usize,
-    placed: &[u16],
-    ceiling: &[u16],
-    run: u8,
-    wides: &[Counts],
-    layouts: &mut Vec<Layout>,
-) -> Result<(), AllocError>
-    requires slots { slots ≡ length (float_numbers style.now) }
-    requires fit { (wide : List ℕ) → Contains wides.now wide → Fit placed.now wide }
-    ensures { OnOk result (layouts.new.items ≡ layouts.old.items
-        ++ flat_map (with_tops style.now placed.now ceiling.now run) wides.now) }
-{
-    for wide in wides {
-        push_wide(alloc, style, slots, placed, ceiling, run, wide, layouts)?;
-    }
-    Ok(())
-}
-
-fn is_run_taken(must: Option<u8>, run: u8) -> bool
-    ensures { result ≡ takes_run must run }
-{
-    match must {
-        Some(other) => run == other,
-        None => true,
-    }
-}
-
-// Adds the layouts of a run, where the page may have it.
-fn push_run(
-    alloc: Global,
-    style: &Style,
-    slots: usize,
-    placed: &[u16],
-    ceiling: &[u16],
-    must: Option<u8>,
-    run: u8,
-    wides: &[Counts],
-    layouts: &mut Vec<Layout>,
-) -> Result<(), AllocError>
-    requires slots { slots ≡ length (float_numbers style.now) }
-    requires fit { (wide : List ℕ) → Contains wides.now wide → Fit placed.now wide }
-    ensures { OnOk result (layouts.new.items ≡ layouts.old.items ++ flat_map
-        (of_run style.now placed.now ceiling.now wides.now) (if takes_run must run then run ∷ [] else [])) }
-{
-    if is_run_taken(must, run) {
-        push_wides(alloc, style, slots, placed, ceiling, run, wides, layouts)?;
-    }
-    Ok(())
-}
-
-/// Adds the layouts of a column of text, for these wide counts of its page.
-pub fn push_runs(
-    alloc: Global,
-    style: &Style,
-    slots: usize,
-    placed: &[u16],
-    ceiling: &[u16],
-    must: Option<u8>,
-    wides: &[Counts],
-    layouts: &mut Vec<Layout>,
-) -> Result<(), AllocError>
-    requires slots { slots ≡ length (float_numbers style.now) }
-    requires fit { (wide : List ℕ) → Contains wides.now wide → Fit placed.now wide }
-    ensures { OnOk result (layouts.new.items ≡ layouts.old.items ++ flat_map
-        (of_run style.now placed.now ceiling.now wides.now) (runs_of style.now must)) }
-{
-    let count = style.runs.as_slice().len() as u8;
-    for run in 0..count {
-        push_run(
-            alloc, style, slots, placed, ceiling, must, run, wides, layouts,
-        )?;
-    }
-    Ok(())
+    let limits = area_limits(alloc, Spot::Column, style, slots, before, ceiling)?;
+    let tops = count_lists(alloc, float_count(style), limits.as_slice())?;
+    let none = Counts::zeros(alloc, slots);
+    push_each_float(run, wide, &none, tops.as_slice(), layouts)
 }

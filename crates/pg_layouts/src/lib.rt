@@ -5,13 +5,16 @@
 #![tactic(auto)]
 
 mod counting;
+mod kind;
 mod laws;
 mod layout;
 mod layouts;
 mod limits;
+mod runs;
 
 pub use counting::count_lists;
 pub use laws::counts_are_listed;
 pub use layout::Layout;
-pub use layouts::{plus_counts, push_bottoms, push_runs, push_tops, push_wides};
+pub use layouts::plus_counts;
 pub use limits::area_limits;
+pub use runs::{float_layouts, text_layouts};
