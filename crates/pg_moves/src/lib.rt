@@ -1,0 +1,8 @@
+//! The moves of the space of pages in code.
+#![tactic(auto)]
+
+mod ages;
+mod calls;
+mod sources;
+
+pub use sources::Sources;
