@@ -205,7 +205,7 @@ flat_same f g [] h = refl
 flat_same f g (x ∷ xs) h = ap (λ zs. zs ++ flat_map f xs) (h x (inl refl))
     ∙ ap (λ zs. g x ++ zs) (flat_same f g xs (λ y a. h y (inr a)))
 
-sum_append : {X : Type 0} (h : X → ℤ) (xs ys : List X) →
+pub sum_append : {X : Type 0} (h : X → ℤ) (xs ys : List X) →
     whole_sum_by h (xs ++ ys) ≡ whole_sum_by h xs +ℤ whole_sum_by h ys
 sum_append h [] ys = zero_plus (whole_sum_by h ys)
   where

@@ -3,6 +3,7 @@
 
 mod ages;
 mod calls;
+mod lines;
 mod sources;
 
 pub use sources::Sources;
