@@ -22,7 +22,7 @@ use Rattle.pg_rules.specs.Room.{ColumnContext, Document, flat_items_of, is_text,
 use Rattle.pg_column.specs.Fits.{does_fit_from}
 use Rattle.pg_column.specs.Judged.{Judges, text_fault}
 use Rattle.pg_column.specs.declared.cost.TextCost.{TextCost}
-use Rattle.pg_judge.specs.Counts.{count_in}
+use Rattle.pg_areas.specs.Counts.{count_in}
 use Rattle.pg_judge.specs.Judged.{JudgesColumn}
 use Rattle.pg_judge.specs.Seats.{IsSeat}
 use Rattle.pg_judge.specs.declared.seat.Seat.{Seat}

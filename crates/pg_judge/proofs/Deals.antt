@@ -18,10 +18,10 @@ use Rattle.pg_place_laws.proofs.Among.{all_same}
 use Rattle.pg_lemmas.proofs.Bools.{both_of, both_ways, or_cases}
 use Rattle.pg_lemmas.proofs.Numbers.{eq_yes}
 use Rattle.pg_judge.specs.Added.{added_by}
-use Rattle.pg_judge.specs.Counts.{cap, capped}
+use Rattle.pg_areas.specs.Counts.{cap, capped}
 use Rattle.pg_judge.specs.Moves.{page_ends}
 use Rattle.pg_judge.specs.Waits.{is_slot_called, price_of, prices_below, slot_price}
-use Rattle.pg_judge.proofs.Capped.{AreFew, entry_capped}
+use Rattle.pg_areas.proofs.Capped.{AreFew, entry_capped}
 use Rattle.pg_judge.proofs.Distances.{Chained, wait_is}
 use Rattle.pg_judge.proofs.LeastRules.{added_rule}
 use Rattle.pg_judge.proofs.Priced.{ArePriced, all_flat, all_numbered, all_priced, one_priced, prices_same, slot_priced}

@@ -13,8 +13,8 @@ use Rattle.pg_rules.specs.Room.{Document}
 use Rattle.pg_lemmas.proofs.Bools.{both_ways}
 use Rattle.pg_lemmas.proofs.Numbers.{eq_yes}
 use Rattle.pg_place_laws.proofs.Among.{all_same}
-use Rattle.pg_judge.specs.Counts.{cap, capped}
-use Rattle.pg_judge.proofs.Capped.{AreFew, entry_capped}
+use Rattle.pg_areas.specs.Counts.{cap, capped}
+use Rattle.pg_areas.proofs.Capped.{AreFew, entry_capped}
 use Rattle.pg_judge.proofs.Walks.{take_whole}
 
 all_before : (blocks : List Block) → items_before blocks (end_of blocks) ≡ flat blocks []

@@ -12,7 +12,7 @@ use Rattle.pg_lemmas.proofs.Bools.{both, both_of, both_ways}
 use Rattle.pg_lemmas.proofs.Lists.{range_more}
 use Rattle.pg_lemmas.proofs.Numbers.{less_of, less_true, not_less, suc_not}
 use Rattle.pg_judge.specs.Waits.{both_prices, prices_below}
-use Rattle.pg_judge.proofs.Ranges.{all_append_is}
+use Rattle.pg_areas.proofs.Ranges.{all_append_is}
 use Rattle.pg_judge.proofs.Waiting.{got_near, none_near}
 
 -- all are near and pay so much, or one is not near

@@ -13,12 +13,12 @@ use Rattle.pg_rules.specs.Legal.{document}
 use Rattle.pg_lemmas.proofs.Bools.{if_true}
 use Rattle.pg_lemmas.proofs.Numbers.{less_of}
 use Rattle.pg_rules.specs.Room.{checked_height, extra}
-use Rattle.pg_judge.specs.Counts.{capped, count_in}
-use Rattle.pg_judge.specs.Given.{IsAreaHeight, IsListOf, IsWideHeight, seated}
-use Rattle.pg_judge.specs.Seats.{IsSeat}
+use Rattle.pg_areas.specs.Counts.{capped, count_in}
+use Rattle.pg_areas.specs.Given.{IsAreaHeight, IsListOf, IsWideHeight}
+use Rattle.pg_judge.specs.Seats.{IsSeat, seated}
 use Rattle.pg_judge.specs.declared.seat.Seat.{Seat}
-use Rattle.pg_judge.proofs.Capped.{are_few, height_capped}
-use Rattle.pg_judge.proofs.Heights.{is_height, no_height}
+use Rattle.pg_areas.proofs.Capped.{are_few, height_capped}
+use Rattle.pg_areas.proofs.Heights.{is_height, no_height}
 
 pub wide_is : (wide : Option ℤ) → IsWideHeight wide → IsAreaHeight (unwrap_or wide (pos 0))
 wide_is None h = no_height

@@ -1,12 +1,9 @@
 pub mod Added
-pub mod Counts
-pub mod Given
 pub mod Judged
 pub mod Moves
 pub mod Picks
 pub mod Progress
 pub mod Seats
 pub mod Settled
-pub mod Spots
 pub mod Verdict
 pub mod Waits

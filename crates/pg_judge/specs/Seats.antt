@@ -1,7 +1,11 @@
 -- What a page leaves to a column.
-use Rattle.std.specs.Prelude.{◌≡◌, ◌<◌, ◌^◌, is_some, nat_abs}
+use Rattle.std.specs.Prelude.{◌≡◌, ◌<◌, ◌^◌, ℕ, List, Option, ℤ, is_some, nat_abs}
+use Rattle.pg_list.specs.GalleyValue.{GalleyValue}
+use Rattle.pg_plan.specs.declared.pages.Column.{Column}
+use Rattle.pg_style.specs.Values.{StyleValue}
+use Rattle.pg_rules.specs.Legal.{document}
 use Rattle.pg_rules.specs.Room.{ColumnContext, bottom_height, full_height, is_bottom_allowed, is_text, is_top_allowed, top_height, wide_height}
-use Rattle.pg_judge.specs.Given.{IsAreaHeight}
+use Rattle.pg_areas.specs.Given.{IsAreaHeight}
 use Rattle.pg_judge.specs.declared.seat.Seat.{Seat}
 
 -- heights within their ranges
@@ -21,3 +25,8 @@ pub record IsSeat (it : ColumnContext) (seat : Seat) : Type 0 where
   pub wide : seat.wide ≡ wide_height it
   pub top : seat.top ≡ top_height it
   pub bottom : seat.bottom ≡ bottom_height it
+
+-- a column on a page of a run, with a wide area and floats placed before its own
+abbrev pub seated : GalleyValue → StyleValue → Column → ℕ → Option ℤ → List ℕ → ColumnContext
+seated galley style column run wide placed =
+    record { document = document galley style; column = column; run = run; wide = wide; before = placed }

@@ -8,15 +8,13 @@ ghost use Rattle.pg_rules.specs.Legal.{document};
 ghost use Rattle.pg_rules.specs.Room.{checked_height};
 ghost use Rattle.pg_floats.specs.AreFloats.{AreFloats};
 ghost use Rattle.pg_judge.specs.Added.{added_by};
-ghost use Rattle.pg_judge.specs.Counts.{capped, capped_sum};
-ghost use Rattle.pg_judge.specs.Given.{IsListOf, IsWideHeight};
+ghost use Rattle.pg_areas.specs.Counts.{capped, capped_sum};
+ghost use Rattle.pg_areas.specs.Given.{IsListOf, IsWideHeight};
 ghost use Rattle.pg_judge.specs.Waits.{is_slot_called, prices_below, slot_price};
 
-use crate::areas::checked_area;
-use crate::counts::{count_floats, is_allowed, plus, total};
 use crate::floats::{are_called, float_demerits};
 use crate::seat::Seat;
-use crate::spot::Spot;
+use pg_areas::{Spot, checked_area, count_floats, is_allowed, plus, total};
 use pg_floats::FloatList;
 use pg_list::{Galley, Place};
 use pg_plan::{Column, Counts};

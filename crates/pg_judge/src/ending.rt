@@ -6,11 +6,11 @@ ghost use Rattle.pg_rules.specs.Floats.{called, entry as entry_of};
 ghost use Rattle.pg_rules.specs.IsState.{IsPlace};
 ghost use Rattle.pg_rules.specs.Legal.{document, is_spent_at as is_spent_at_of};
 ghost use Rattle.pg_style.specs.Values.{StyleValue};
-ghost use Rattle.pg_judge.specs.Given.{IsListOf};
+ghost use Rattle.pg_areas.specs.Given.{IsListOf};
 ghost use Rattle.pg_judge.specs.Settled.{end_fault};
 
-use crate::counts::entry;
 use crate::picks::all_blocks;
+use pg_areas::entry;
 use pg_breaks::is_spent;
 use pg_floats::FloatList;
 use pg_list::{Galley, Place};

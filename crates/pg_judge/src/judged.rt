@@ -8,8 +8,8 @@ ghost use Rattle.pg_column.specs.Fits.{does_fit_from};
 ghost use Rattle.pg_judge.specs.Judged.{JudgesColumn};
 ghost use Rattle.pg_judge.specs.Seats.{AreHeights, IsSeat};
 
-use crate::counts::count_floats;
 use crate::seat::Seat;
+use pg_areas::count_floats;
 use pg_column::judge_from;
 use pg_list::Galley;
 use pg_plan::Column;

@@ -7,8 +7,6 @@
 #![tactic(auto)]
 
 mod added;
-mod areas;
-mod counts;
 mod ending;
 mod floats;
 mod judged;
@@ -18,7 +16,6 @@ mod picks;
 mod progress;
 mod rule;
 mod seat;
-mod spot;
 mod walk;
 mod whole;
 

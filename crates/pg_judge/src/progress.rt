@@ -12,7 +12,7 @@ ghost use Rattle.pg_rules.specs.Floats.{float_numbers};
 ghost use Rattle.pg_rules.specs.Legal.{document, is_chained as is_chained_of};
 ghost use Rattle.pg_rules.specs.History.{placed_of, wide_of};
 ghost use Rattle.pg_column.specs.Fits.{does_fit_from};
-ghost use Rattle.pg_judge.specs.Given.{IsListOf, IsWideHeight};
+ghost use Rattle.pg_areas.specs.Given.{IsListOf, IsWideHeight};
 ghost use Rattle.pg_judge.specs.Moves.{JudgesMove, fitness_cost};
 ghost use Rattle.pg_judge.specs.Progress.{AreCounted, IsAdvanced, IsGoing, IsKept, IsProgress, broken_pair, is_lost as is_lost_of, the_move};
 ghost use Rattle.pg_judge.specs.Verdict.{lesser};

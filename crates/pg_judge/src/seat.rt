@@ -7,13 +7,11 @@ ghost use Rattle.pg_rules.specs.Room.{checked_height};
 ghost use Rattle.pg_floats.specs.AreFloats.{AreFloats};
 ghost use Rattle.pg_list.specs.declared.blocks.Block.{Block as ABlock};
 ghost use Rattle.pg_style.specs.Ranges.{IsStyle};
-ghost use Rattle.pg_judge.specs.Counts.{capped};
-ghost use Rattle.pg_judge.specs.Given.{IsListOf, IsWideHeight, seated};
-ghost use Rattle.pg_judge.specs.Seats.{AreHeights, IsSeat};
+ghost use Rattle.pg_areas.specs.Counts.{capped};
+ghost use Rattle.pg_areas.specs.Given.{IsListOf, IsWideHeight};
+ghost use Rattle.pg_judge.specs.Seats.{AreHeights, IsSeat, seated};
 
-use crate::areas::{checked_area, full_height};
-use crate::counts::is_allowed;
-use crate::spot::Spot;
+use pg_areas::{Spot, checked_area, full_height, is_allowed};
 use pg_floats::FloatList;
 use pg_list::{Galley, Place};
 use pg_plan::{Column, Counts};

@@ -8,7 +8,6 @@ use Rattle.std.proofs.lemmas.Bool.Decides.{nat_tests}
 use Rattle.std.proofs.lemmas.Cmp.{tied_itself}
 use Rattle.std.proofs.lemmas.Int.{ints}
 use Rattle.std.proofs.lemmas.List.Kept.{AllPairs-filter}
-use Rattle.std.proofs.lemmas.Option.{slice_get_within}
 use Rattle.pg_list.specs.declared.blocks.Block.{Block}
 use Rattle.pg_list.specs.declared.galley.Place.{Place}
 use Rattle.pg_plan.specs.declared.pages.PageMove.{PageMove}
@@ -20,10 +19,10 @@ use Rattle.pg_style.specs.declared.style.Run.{Run}
 use Rattle.pg_flat.specs.Flat.{is_same_place}
 use Rattle.pg_plain.specs.Plain.{IsPlainStyle, plain_room}
 use Rattle.pg_rules.specs.BestPicks.{keeps_text}
-use Rattle.pg_rules.specs.ColumnRules.{does_fit, has_counts, has_room, is_tolerable, is_well_formed, keeps_looseness, keeps_note_limits, passes_breaks, text_fitness}
+use Rattle.pg_rules.specs.ColumnRules.{has_counts, is_well_formed, text_fitness}
 use Rattle.pg_rules.specs.Cost.{column_demerits, differs, fitness_demerits, pick_demerits, run_demerits, text_demerits}
 use Rattle.pg_rules.specs.Floats.{is_area_allowed, takes_bottom, takes_top, takes_wide}
-use Rattle.pg_rules.specs.Follow.{Follow, KeepsColumnRules, context_in}
+use Rattle.pg_rules.specs.Follow.{Follow, context_in}
 use Rattle.pg_rules.specs.History.{column_fitness, fitness_after}
 use Rattle.pg_rules.specs.IsState.{IsState}
 use Rattle.pg_rules.specs.Room.{ColumnContext, Document, bottom_height, is_text, room, top_height}
@@ -36,7 +35,9 @@ use Rattle.pg_space_laws.specs.PageSpace.{FollowBest, page_meaning}
 use Rattle.pg_space_laws.proofs.Least.{best_unique}
 use Rattle.pg_ends.specs.declared.end.End.{End}
 use Rattle.pg_ends.specs.Ends.{AreEnds, HasEnd, IsBefore, IsColumnIn, IsEndOf}
-use Rattle.pg_space.specs.PlainSteps.{fitness_cost, kept_fitness, plain_state, step_to, steps_of, text_move}
+use Rattle.pg_move_laws.specs.Steps.{fitness_cost, kept_fitness}
+use Rattle.pg_move_laws.proofs.Moves.{keep_rules, rules_keep, same_step, some_within}
+use Rattle.pg_space.specs.PlainSteps.{plain_state, step_to, steps_of, text_move}
 use Rattle.pg_space.proofs.Members.{in_filter, in_map, of_filter, of_map, pairs_map}
 use Rattle.pg_space.proofs.PlainStates.{form_is, plain_form, state_is, with_form}
 use Rattle.pg_lemmas.proofs.Bools.{both_of, both, not_true, by_bool, either_way, not_false, if_false, if_true}
@@ -49,41 +50,7 @@ use Rattle.pg_lemmas.proofs.Lists.{no_items}
 zero_le : (n : ℕ) → nat_le 0 n ≡ true
 zero_le n = grind (arith, nat_tests)
 
-some_within : (runs : List Run) (i : ℕ) → is_some (slice_get runs i) ≡ true → i < length runs
-some_within runs i h = by (slice_get runs i) refl h
-  where
-    by : (o : Option Run) → slice_get runs i ≡ o → is_some o ≡ true → i < length runs
-    by None e h = absurd cc
-    by (Some run) e h = slice_get_within runs i run e
-
 -- ---- the rules on one column
-
-rules_keep : (it : ColumnContext) → KeepsColumnRules it → keeps_text it ≡ true
-rules_keep it k = both (does_fit it) _ k.fits
-    (both (is_well_formed it) _ k.well_formed
-    (both (is_tolerable it) _ k.tolerable
-    (both (passes_breaks it) _ k.passes
-    (both (has_room it) _ k.room (both (keeps_note_limits it) (keeps_looseness it) k.note_limits
-    k.looseness)))))
-
-keep_rules : (it : ColumnContext) → keeps_text it ≡ true → has_counts it ≡ true → KeepsColumnRules it
-keep_rules it k counts =
-    let a = both_of (does_fit it) _ k in
-    let b = both_of (is_well_formed it) _ a.1 in
-    let c = both_of (is_tolerable it) _ b.1 in
-    let d = both_of (passes_breaks it) _ c.1 in
-    let e = both_of (has_room it) _ d.1 in
-    let f = both_of (keeps_note_limits it) (keeps_looseness it) e.1 in
-    record {
-      fits = a.0;
-      well_formed = b.0;
-      tolerable = c.0;
-      passes = d.0;
-      room = e.0;
-      counts = counts;
-      note_limits = f.0;
-      looseness = f.1;
-    }
 
 same_move : (at from to : Place) (top bottom picks wide : List ℕ) (run : ℕ) → from ≡ at → top ≡ [] →
     bottom ≡ [] → run ≡ 0 → wide ≡ [] → ◌≡◌ {A = PageMove} (record {
@@ -92,10 +59,6 @@ same_move : (at from to : Place) (top bottom picks wide : List ℕ) (run : ℕ) 
       wide = wide;
     }) (text_move at to picks)
 same_move at from to top bottom picks wide run p q r s t = cc
-
-same_step : (u v : State) (m n : PageMove) (c d : ℤ) → u ≡ v → m ≡ n → c ≡ d →
-    ◌≡◌ {A = Step State PageMove} (record { to = u; by = m; cost = c }) (record { to = v; by = n; cost = d })
-same_step u v m n c d p q r = cc
 
 sum_is : (a r f f' : ℤ) → f ≡ f' → a +ℤ (r +ℤ f) ≡ a +ℤ ((r +ℤ pos 0) +ℤ f')
 sum_is a r f f' e = omega (arith, ints)

@@ -1,54 +1,23 @@
 -- The test of a state tells the states.
-use Rattle.std.proofs.Common.{◌≡◌, refl, sym, ap, subst, ℕ, ◌<◌, List, [], ◌∷◌, length, true, Option, Some, None, inl, inr, arith}
-use Rattle.std.specs.Prelude.{◌⊎◌, ◌↔◌, ◌==◌, ◌||◌, not, nat_lt}
+use Rattle.std.proofs.Common.{◌≡◌, refl, sym, subst, ℕ, List, [], ◌∷◌, true, Option, Some, None, arith}
+use Rattle.std.specs.Prelude.{◌↔◌, ◌==◌}
 use Rattle.std.specs.Option.{is_none}
 use Rattle.pg_list.specs.declared.blocks.Block.{Block}
 use Rattle.pg_list.specs.declared.galley.Place.{Place}
-use Rattle.pg_list.specs.Places.{items_around}
 use Rattle.pg_plan.specs.declared.states.Side.{Side}
 use Rattle.pg_plan.specs.declared.states.Side.TheVariants.{L, R, S}
 use Rattle.pg_plan.specs.declared.states.State.{State}
 use Rattle.pg_style.specs.Values.{StyleValue}
-use Rattle.pg_flat.specs.Flat.{end_of, is_same_place}
 use Rattle.pg_plain.specs.Plain.{IsPlainStyle}
 use Rattle.pg_rules.specs.IsState.{IsPlace, IsState}
 use Rattle.pg_rules.specs.NoWorse.{is_same_side}
 use Rattle.pg_space.specs.PlainSteps.{plain_state}
-use Rattle.pg_space.specs.StateTest.{has_fitness, has_place, has_plain_fields, is_empty_list, is_plain_state}
+use Rattle.pg_move_laws.specs.StateTest.{has_place}
+use Rattle.pg_move_laws.proofs.StateTest.{place_test, test_place}
+use Rattle.pg_space.specs.StateTest.{has_fitness, has_plain_fields, is_empty_list, is_plain_state}
 use Rattle.pg_space.proofs.PlainStates.{fields, form_is, plain_form, state_is, with_form}
-use Rattle.pg_lemmas.proofs.Bools.{both_of, both, or_cases, or_right, by_bool, or_left}
+use Rattle.pg_lemmas.proofs.Bools.{both_of, both}
 use Rattle.std.proofs.lemmas.Bool.{eqb-true}
-use Rattle.pg_lemmas.proofs.Numbers.{less_of, less_true}
-
--- ---- places
-
-place_of : (blocks : List Block) (at : Place) → has_place blocks at ≡ true → IsPlace blocks at
-place_of blocks at h =
-    let t = both_of (is_same_place at (end_of blocks) || nat_lt at.index (length (items_around blocks at)))
-    (not (at.index == 0) || (at.variant == 0)) h in
-    record {
-      within = elim (or_cases (is_same_place at (end_of blocks))
-          (nat_lt at.index (length (items_around blocks at))) t.0) [
-            | inl e ↦ inl e
-            | inr l ↦ inr (less_true at.index (length (items_around blocks at)) l)
-          ];
-      front = λ zero. elim (or_cases (not (at.index == 0)) (at.variant == 0) t.1) [
-        | inl e ↦ absurd (let f : not (0 == 0) ≡ true = subst (λ (n : ℕ). not (n == 0) ≡ true) zero e in cc)
-        | inr v ↦ eqb-true at.variant 0 v
-      ];
-    }
-
-of_place : (blocks : List Block) (at : Place) → IsPlace blocks at → has_place blocks at ≡ true
-of_place blocks at place = both _ _ (within place.within)
-    (by_bool (at.index == 0)
-    (λ t. or_right (not (at.index == 0)) (at.variant == 0)
-    (subst (λ (n : ℕ). (n == 0) ≡ true) (sym (place.front (eqb-true at.index 0 t))) refl))
-    (λ f. or_left (not (at.index == 0)) (at.variant == 0) (ap not f)))
-  where
-    within : (is_same_place at (end_of blocks) ≡ true) ⊎ (at.index < length (items_around blocks at)) →
-        (is_same_place at (end_of blocks) || nat_lt at.index (length (items_around blocks at))) ≡ true
-    within (inl e) = or_left (is_same_place at (end_of blocks)) _ e
-    within (inr l) = or_right (is_same_place at (end_of blocks)) _ (less_of at.index _ l)
 
 -- ---- the other fields
 
@@ -106,8 +75,8 @@ test_tells blocks style plain u =
         let a = both_of (has_place blocks u.place) _ h in
         let b = both_of (has_plain_fields u) (has_fitness style u.fitness) a.1 in
         subst (IsState (with_form blocks style)) (sym (plain_of u b.0))
-        (own_plain blocks style u.place u.fitness (place_of blocks u.place a.0) b.1)
+        (own_plain blocks style u.place u.fitness (place_test blocks u.place a.0) b.1)
 
     from : IsState (with_form blocks style) u → is_plain_state blocks (plain_form style) u ≡ true
-    from own = both _ _ (of_place blocks u.place own.place)
+    from own = both _ _ (test_place blocks u.place own.place)
         (both _ _ (subst (λ (x : State). has_plain_fields x ≡ true) (sym (state_is blocks style u own)) refl) own.fitness)

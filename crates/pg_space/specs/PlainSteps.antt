@@ -1,16 +1,16 @@
 -- States and moves under a plain style.
-use Rattle.std.specs.Prelude.{ℕ, ◌==◌, not, if◌then◌else◌, List, [], map, Option, Some, None, ℤ, pos, ◌+ℤ◌}
+use Rattle.std.specs.Prelude.{ℕ, not, List, [], map, Option, None, ◌+ℤ◌}
 use Rattle.std.specs.List.{filter}
-use Rattle.std.specs.Option.{option_map_or}
 use Rattle.pg_list.specs.declared.galley.Place.{Place}
 use Rattle.pg_plan.specs.declared.pages.PageMove.{PageMove}
 use Rattle.pg_plan.specs.declared.states.Side.TheVariants.{S}
 use Rattle.pg_plan.specs.declared.states.State.{State}
 use Rattle.pg_style.specs.Values.{StyleValue}
 use Rattle.pg_flat.specs.Flat.{is_same_place}
-use Rattle.pg_rules.specs.Cost.{differs, run_demerits}
+use Rattle.pg_rules.specs.Cost.{run_demerits}
 use Rattle.pg_table.specs.declared.step.Step.{Step}
 use Rattle.pg_ends.specs.declared.end.End.{End}
+use Rattle.pg_move_laws.specs.Steps.{fitness_cost, kept_fitness}
 
 -- the state of a beginning that ends at a place, where the last column had this fitness
 abbrev pub plain_state : Place → Option ℕ → State
@@ -32,15 +32,6 @@ text_move from to picks = record {
   run = 0;
   wide = [];
 }
-
--- the fitness that the next column is compared with; version 1 compares none
-abbrev pub kept_fitness : StyleValue → ℕ → Option ℕ
-kept_fitness style fitness = if style.version == 1 then None else Some fitness
-
--- what a column of text pays for its fitness behind one of another
-abbrev pub fitness_cost : StyleValue → Option ℕ → ℕ → ℤ
-fitness_cost style last fitness = option_map_or (λ (it : ℕ). if differs it fitness then pos style.fitness else pos 0) last
-    (pos 0)
 
 -- the step from a state to an end
 abbrev pub step_to : StyleValue → State → End → Step State PageMove

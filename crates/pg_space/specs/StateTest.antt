@@ -1,20 +1,13 @@
 -- The test of a state under a plain style.
-use Rattle.std.specs.Prelude.{ℕ, Bool, true, false, ◌==◌, ◌&&◌, ◌||◌, not, nat_le, nat_lt, List, [], ◌∷◌, length, Option}
+use Rattle.std.specs.Prelude.{ℕ, Bool, true, false, ◌==◌, ◌&&◌, nat_le, List, [], ◌∷◌, Option}
 use Rattle.std.specs.Option.{is_none, option_map_or}
 use Rattle.pg_list.specs.declared.blocks.Block.{Block}
-use Rattle.pg_list.specs.declared.galley.Place.{Place}
-use Rattle.pg_list.specs.Places.{items_around}
 use Rattle.pg_plan.specs.declared.states.State.{State}
 use Rattle.pg_style.specs.Values.{StyleValue}
-use Rattle.pg_flat.specs.Flat.{end_of, is_same_place}
 use Rattle.pg_rules.specs.IsState.{not_first}
 use Rattle.pg_rules.specs.NoWorse.{is_same_side}
 use Rattle.pg_plan.specs.declared.states.Side.TheVariants.{S}
-
--- an item stands there, or it is the end; the front of a choice has variant 0
-abbrev pub has_place : List Block → Place → Bool
-has_place blocks at = (is_same_place at (end_of blocks) || nat_lt at.index (length (items_around blocks at)))
-    && (not (at.index == 0) || (at.variant == 0))
+use Rattle.pg_move_laws.specs.StateTest.{has_place}
 
 abbrev pub is_empty_list : {X : Type 0} → List X → Bool
 is_empty_list [] = true

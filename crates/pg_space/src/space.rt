@@ -16,10 +16,10 @@ ghost use Rattle.pg_table.specs.declared.table.Entry.{Entry};
 ghost use Rattle.pg_space.specs.OneProof.{AreRigid_prop, IsPlainStyle_prop};
 
 use crate::columns::moves_in;
-use crate::plans::pages_of;
 use crate::steps::{plain_state, steps_to};
 use crate::testing::is_plain_state;
 use pg_list::{Galley, Place};
+use pg_paging::{columns_are_paged, pages_of};
 use pg_plain::room;
 use pg_plan::{Moves, PageKey, PageMove, Pagination, State, compare_moves};
 use pg_space_laws::filled_table_tells_all;
@@ -82,8 +82,11 @@ impl<'a> PageSpace<'a> {
     pub fn pagination_of(&self, moves: &Moves) -> Result<Pagination, AllocError>
         ensures { IfOk result (λ plan. plan ≡ plan_of self.now.style.now (reverse moves.now)) }
     {
+        let style = self.style;
+        style.stays_in_range();
+        columns_are_paged(style);
         Ok(Pagination {
-            pages: pages_of(self.alloc, moves)?,
+            pages: pages_of(self.alloc, style.columns, moves.as_slice())?,
         })
     }
 

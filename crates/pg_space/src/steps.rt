@@ -1,7 +1,8 @@
 //! The steps from a state under a plain style.
 ghost use Rattle.std.specs.Prelude.{◌≡◌, ◌≤◌, ◌++◌, ◌∷◌, [], length, pos, ◌+ℤ◌, ◌≤ℤ◌, IfOk, OnOk};
 ghost use Rattle.pg_rules.specs.Cost.{run_demerits as the_run_demerits};
-ghost use Rattle.pg_space.specs.PlainSteps.{plain_state as the_plain_state, text_move as the_text_move, kept_fitness as the_kept_fitness, fitness_cost as the_fitness_cost, step_to as the_step_to, steps_of};
+ghost use Rattle.pg_move_laws.specs.Steps.{fitness_cost as the_fitness_cost, kept_fitness as the_kept_fitness};
+ghost use Rattle.pg_space.specs.PlainSteps.{plain_state as the_plain_state, text_move as the_text_move, step_to as the_step_to, steps_of};
 
 use pg_ends::End;
 use pg_list::Place;

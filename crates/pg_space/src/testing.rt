@@ -1,7 +1,8 @@
 //! The test of a state under a plain style.
 ghost use Rattle.std.specs.Prelude.{◌≡◌, ◌<◌, ◌^◌, length};
 ghost use Rattle.pg_flat.specs.Flat.{end_of, is_same_place};
-ghost use Rattle.pg_space.specs.StateTest.{has_fitness as the_has_fitness, has_place as the_has_place, has_plain_fields as the_has_plain_fields, is_plain_state as the_is_plain_state};
+ghost use Rattle.pg_move_laws.specs.StateTest.{has_place as the_has_place};
+ghost use Rattle.pg_space.specs.StateTest.{has_fitness as the_has_fitness, has_plain_fields as the_has_plain_fields, is_plain_state as the_is_plain_state};
 
 use pg_list::{Galley, Place, items_around};
 use pg_plan::{Side, State};

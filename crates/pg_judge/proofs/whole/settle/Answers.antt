@@ -10,10 +10,10 @@ use Rattle.pg_rules.specs.History.{placed_of}
 use Rattle.pg_rules.specs.IsState.{IsPlace}
 use Rattle.pg_rules.specs.Legal.{document, is_chained, is_spent_at}
 use Rattle.pg_beginning_laws.proofs.Faults.{kept}
-use Rattle.pg_judge.specs.Counts.{capped}
+use Rattle.pg_areas.specs.Counts.{capped}
 use Rattle.pg_judge.specs.Progress.{broken_pair}
 use Rattle.pg_judge.specs.Settled.{Settles}
-use Rattle.pg_judge.proofs.Capped.{are_few}
+use Rattle.pg_areas.proofs.Capped.{are_few}
 use Rattle.pg_judge.proofs.Distances.{chained_place}
 use Rattle.pg_judge.proofs.Ends.{dealt_is}
 use Rattle.pg_judge.proofs.Settling.{settles_going, settles_lost}

@@ -4,10 +4,10 @@ use Rattle.pg_list.specs.declared.galley.Place.{Place}
 use Rattle.pg_rules.specs.History.{context, placed_of, with_wide}
 use Rattle.pg_rules.specs.Legal.{document}
 use Rattle.pg_judge.specs.Added.{added_by}
-use Rattle.pg_judge.specs.Given.{seated}
+use Rattle.pg_judge.specs.Seats.{seated}
 use Rattle.pg_judge.specs.Moves.{JudgesMove}
 use Rattle.pg_judge.specs.Progress.{the_move}
-use Rattle.pg_judge.specs.Seats.{IsSeat}
+use Rattle.pg_judge.specs.Seats.{IsSeat, seated}
 use Rattle.pg_judge.proofs.Deals.{AreAdded}
 use Rattle.pg_judge.proofs.MoveVerdict.{move_is}
 use Rattle.pg_judge.proofs.Step.{added_move, calls_test, counts_test, deals_test, price_by, run_is, the_few}

@@ -1,0 +1,4 @@
+pub mod Ranges
+pub mod Takes
+pub mod Capped
+pub mod Heights

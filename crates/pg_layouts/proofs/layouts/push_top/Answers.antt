@@ -1,0 +1,11 @@
+use Rattle.std.proofs.Common.{rules, ◌≡◌, ◌++◌, subst, map, List, ℕ, OnOk}
+use Rattle.pg_rules.specs.Floats.{plus_counts, takes_bottom}
+use Rattle.pg_layouts.specs.Layouts.{area_lists, layout_of}
+use Rattle.pg_layouts.proofs.layouts.push_top.Goals as goal
+
+pub returns : goal.returns
+returns c = subst (λ (counts : List ℕ). OnOk c.push_bottoms.result (c.push_bottoms.new.layouts.items
+    ≡ c.args.layouts.now.items ++ map (layout_of c.args.run c.args.wide.now c.args.top.now)
+    (area_lists c.args.style.now takes_bottom c.args.style.now.bottom.count counts c.args.ceiling.now)))
+    (let e : c.as_slice-2.result.now ≡ plus_counts c.args.style.now c.args.before.now c.args.top.now = search rules in e)
+    c.push_bottoms.ensures

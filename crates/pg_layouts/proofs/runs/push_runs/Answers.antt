@@ -1,0 +1,18 @@
+use Rattle.std.proofs.Common.{rules, ◌≡◌, ◌++◌, ◌∙◌, ap, length, ℕ}
+use Rattle.std.specs.List.{filter, flat_map, range_with_len}
+use Rattle.pg_layouts.specs.Layouts.{takes_run}
+use Rattle.pg_layouts.specs.Behind.{of_run}
+use Rattle.pg_layouts.proofs.OneMore.{taken_next}
+use Rattle.pg_layouts.proofs.runs.push_runs.Goals as goal
+
+pub loop-run-preserved : goal.loop-run-preserved
+loop-run-preserved c = taken_next (of_run c.args.kind c.args.style.now c.args.placed.now c.args.ceiling.now c.args.wides.now)
+    (takes_run c.args.must) c.args.layouts.now.items c.loop-run.layouts.items c.push_run.new.layouts.items
+    c.loop-run.run c.loop-run.invariant (search rules)
+
+pub returns : goal.returns
+returns c = c.loop-run.invariant
+    ∙ ap (λ (n : ℕ). c.args.layouts.now.items ++ flat_map
+    (of_run c.args.kind c.args.style.now c.args.placed.now c.args.ceiling.now c.args.wides.now)
+    (filter (takes_run c.args.must) (range_with_len 0 n)))
+    (let e : c.loop-run.run ≡ length c.args.style.now.runs = search rules in e)

@@ -1,0 +1,5 @@
+pub mod Counts
+pub mod Layouts
+pub mod Behind
+pub mod Fit
+pub mod Laws

@@ -1,0 +1,280 @@
+//! The layouts of a column, run by run.
+ghost use Rattle.std.specs.Prelude.{◌≡◌, ◌++◌, ◌≤◌, ◌∷◌, [], if◌then◌else◌, ℕ, List, Contains, length, replicate, IfOk, OnOk};
+ghost use Rattle.std.specs.List.{flat_map};
+ghost use Rattle.pg_list.specs.declared.blocks.Block.{Block};
+ghost use Rattle.pg_rules.specs.Floats.{float_numbers};
+ghost use Rattle.pg_layouts.specs.Layouts.{float_layouts as the_float_layouts, runs_of, takes_run, text_layouts as the_text_layouts, wides_of};
+ghost use Rattle.pg_layouts.specs.Behind.{areas_behind, bare, of_run, with_areas};
+ghost use Rattle.pg_layouts.specs.Fit.{Fit};
+
+use crate::counting::count_lists;
+use crate::kind::ColumnKind;
+use crate::layout::Layout;
+use crate::layouts::{plus_counts, push_floats, push_tops};
+use crate::limits::area_limits;
+use pg_areas::Spot;
+use pg_plan::{Counts, State};
+use pg_style::Style;
+use std::alloc::{AllocError, Global};
+
+// Adds the layouts of a column with these wide floats, where so many are placed with them.
+fn push_areas(
+    alloc: Global,
+    style: &Style,
+    slots: usize,
+    kind: ColumnKind,
+    before: &[u16],
+    ceiling: &[u16],
+    run: u8,
+    wide: &Counts,
+    layouts: &mut Vec<Layout>,
+) -> Result<(), AllocError>
+    requires slots { slots ≡ length (float_numbers style.now) }
+    requires few { slots ≤ 8 }
+    ensures { OnOk result (layouts.new.items ≡ layouts.old.items
+        ++ areas_behind kind style.now before.now ceiling.now run wide.now) }
+{
+    match kind {
+        ColumnKind::Text => push_tops(alloc, style, slots, before, ceiling, run, wide, layouts),
+        ColumnKind::Floats => push_floats(alloc, style, slots, before, ceiling, run, wide, layouts),
+    }
+}
+
+// Adds the layouts with these wide floats, behind the counts that are placed.
+fn push_wide(
+    alloc: Global,
+    style: &Style,
+    slots: usize,
+    kind: ColumnKind,
+    placed: &[u16],
+    ceiling: &[u16],
+    run: u8,
+    wide: &Counts,
+    layouts: &mut Vec<Layout>,
+) -> Result<(), AllocError>
+    requires slots { slots ≡ length (float_numbers style.now) }
+    requires few { slots ≤ 8 }
+    requires fit { Fit placed.now wide.now }
+    ensures { OnOk result (layouts.new.items ≡ layouts.old.items
+        ++ with_areas kind style.now placed.now ceiling.now run wide.now) }
+{
+    let before = plus_counts(alloc, style, slots, placed, wide.as_slice())?;
+    push_areas(
+        alloc,
+        style,
+        slots,
+        kind,
+        before.as_slice(),
+        ceiling,
+        run,
+        wide,
+        layouts,
+    )
+}
+
+// Adds the layouts of a run for each of these wide counts, behind the counts that are placed.
+fn push_wides(
+    alloc: Global,
+    style: &Style,
+    slots: usize,
+    kind: ColumnKind,
+    placed: &[u16],
+    ceiling: &[u16],
+    run: u8,
+    wides: &[Counts],
+    layouts: &mut Vec<Layout>,
+) -> Result<(), AllocError>
+    requires slots { slots ≡ length (float_numbers style.now) }
+    requires few { slots ≤ 8 }
+    requires fit { (wide : List ℕ) → Contains wides.now wide → Fit placed.now wide }
+    ensures { OnOk result (layouts.new.items ≡ layouts.old.items
+        ++ flat_map (with_areas kind style.now placed.now ceiling.now run) wides.now) }
+{
+    for wide in wides {
+        push_wide(
+            alloc, style, slots, kind, placed, ceiling, run, wide, layouts,
+        )?;
+    }
+    Ok(())
+}
+
+// Whether the page may have a run.
+fn is_run_taken(must: Option<u8>, run: u8) -> bool
+    ensures { result ≡ takes_run must run }
+{
+    match must {
+        Some(other) => run == other,
+        None => true,
+    }
+}
+
+// Adds the layouts of a run, where the page may have it.
+fn push_run(
+    alloc: Global,
+    style: &Style,
+    slots: usize,
+    kind: ColumnKind,
+    placed: &[u16],
+    ceiling: &[u16],
+    must: Option<u8>,
+    run: u8,
+    wides: &[Counts],
+    layouts: &mut Vec<Layout>,
+) -> Result<(), AllocError>
+    requires slots { slots ≡ length (float_numbers style.now) }
+    requires few { slots ≤ 8 }
+    requires fit { (wide : List ℕ) → Contains wides.now wide → Fit placed.now wide }
+    ensures { OnOk result (layouts.new.items ≡ layouts.old.items ++ flat_map
+        (of_run kind style.now placed.now ceiling.now wides.now) (if takes_run must run then run ∷ [] else [])) }
+{
+    if is_run_taken(must, run) {
+        push_wides(
+            alloc, style, slots, kind, placed, ceiling, run, wides, layouts,
+        )?;
+    }
+    Ok(())
+}
+
+// Adds the layouts of a column, for these wide counts of its page.
+fn push_runs(
+    alloc: Global,
+    style: &Style,
+    slots: usize,
+    kind: ColumnKind,
+    placed: &[u16],
+    ceiling: &[u16],
+    must: Option<u8>,
+    wides: &[Counts],
+    layouts: &mut Vec<Layout>,
+) -> Result<(), AllocError>
+    requires slots { slots ≡ length (float_numbers style.now) }
+    requires few { slots ≤ 8 }
+    requires fit { (wide : List ℕ) → Contains wides.now wide → Fit placed.now wide }
+    ensures { OnOk result (layouts.new.items ≡ layouts.old.items ++ flat_map
+        (of_run kind style.now placed.now ceiling.now wides.now) (runs_of style.now must)) }
+{
+    let count = style.runs.as_slice().len() as u8;
+    for run in 0..count {
+        push_run(
+            alloc, style, slots, kind, placed, ceiling, must, run, wides, layouts,
+        )?;
+    }
+    Ok(())
+}
+
+// One list of counts, with no float of any class.
+fn no_wides(alloc: Global, slots: usize) -> Result<Vec<Counts>, AllocError>
+    requires { slots ≤ 8 }
+    ensures { IfOk result (λ wides. wides.items ≡ replicate slots 0 ∷ []) }
+{
+    let mut wides = Vec::new(alloc);
+    wides.push(Counts::zeros(alloc, slots))?;
+    Ok(wides)
+}
+
+// The counts of wide floats that the page of the next column may have.
+fn wides(
+    alloc: Global,
+    style: &Style,
+    slots: usize,
+    state: &State,
+    ceiling: &[u16],
+) -> Result<Vec<Counts>, AllocError>
+    requires slots { slots ≡ length (float_numbers style.now) }
+    requires few { slots ≤ 8 }
+    ensures { IfOk result (λ wides. wides.items ≡ wides_of (bare style.now) state.now ceiling.now) }
+{
+    if state.column == 1 {
+        let limits = area_limits(
+            alloc,
+            Spot::Across,
+            style,
+            slots,
+            state.placed.as_slice(),
+            ceiling,
+        )?;
+        count_lists(alloc, style.wide.count, limits.as_slice())
+    } else {
+        no_wides(alloc, slots)
+    }
+}
+
+// The layouts of a column.
+fn layouts_of(
+    alloc: Global,
+    style: &Style,
+    slots: usize,
+    kind: ColumnKind,
+    state: &State,
+    placed: &[u16],
+    ceiling: &[u16],
+) -> Result<Vec<Layout>, AllocError>
+    requires slots { slots ≡ length (float_numbers style.now) }
+    requires few { slots ≤ 8 }
+    requires placed { placed.now ≡ state.now.placed }
+    ensures { IfOk result (λ layouts. layouts.items ≡ flat_map (of_run kind style.now state.now.placed ceiling.now
+        (wides_of (bare style.now) state.now ceiling.now)) (runs_of style.now state.now.run)) }
+{
+    let wides = wides(alloc, style, slots, state, ceiling)?;
+    let mut layouts = Vec::new(alloc);
+    push_runs(
+        alloc,
+        style,
+        slots,
+        kind,
+        placed,
+        ceiling,
+        state.run,
+        wides.as_slice(),
+        &mut layouts,
+    )?;
+    Ok(layouts)
+}
+
+/// The layouts of a column of text that follows a state, with counts up to a ceiling.
+pub fn text_layouts(
+    alloc: Global,
+    style: &Style,
+    slots: usize,
+    state: &State,
+    ceiling: &[u16],
+) -> Result<Vec<Layout>, AllocError>
+    requires slots { slots ≡ length (float_numbers style.now) }
+    requires few { slots ≤ 8 }
+    ensures { IfOk result (λ layouts. (blocks : List Block) → layouts.items
+        ≡ the_text_layouts (record { blocks = blocks; style = style.now }) state.now ceiling.now) }
+{
+    layouts_of(
+        alloc,
+        style,
+        slots,
+        ColumnKind::Text,
+        state,
+        state.placed.as_slice(),
+        ceiling,
+    )
+}
+
+/// The layouts of a column without text that follows a state, with counts up to a ceiling.
+pub fn float_layouts(
+    alloc: Global,
+    style: &Style,
+    slots: usize,
+    state: &State,
+    ceiling: &[u16],
+) -> Result<Vec<Layout>, AllocError>
+    requires slots { slots ≡ length (float_numbers style.now) }
+    requires few { slots ≤ 8 }
+    ensures { IfOk result (λ layouts. (blocks : List Block) → layouts.items
+        ≡ the_float_layouts (record { blocks = blocks; style = style.now }) state.now ceiling.now) }
+{
+    layouts_of(
+        alloc,
+        style,
+        slots,
+        ColumnKind::Floats,
+        state,
+        state.placed.as_slice(),
+        ceiling,
+    )
+}

@@ -1,0 +1,9 @@
+pub mod Callouts
+pub mod Layouts
+pub mod Moves
+pub mod Ages
+pub mod Line
+pub mod Listed
+pub mod Ceilings
+pub mod StateTest
+pub mod Contracts

@@ -1,0 +1,2 @@
+pub mod CalledFew
+pub mod Next
