@@ -31,7 +31,7 @@ use Rattle.pg_column.specs.Numbers.{AreNumbers}
 use Rattle.pg_column.specs.declared.cost.TextCost.{TextCost}
 use Rattle.pg_column.proofs.Passing.{InRange, at_ranges}
 use Rattle.pg_column.proofs.Spans.{ahead_few}
-use Rattle.pg_lemmas.proofs.Bools.{both_of, if_false, if_true}
+use Rattle.pg_lemmas.proofs.Bools.{both_of, if_false}
 use Rattle.pg_lemmas.proofs.Lists.{all_take}
 use Rattle.pg_pages.specs.PageText.{area, bottom_area, column_body, column_line, float_column, float_bodies, floats_text, inserted, items_text, set_line, text_area, text_column, top_area}
 use Rattle.pg_pages.specs.Words.{line}
@@ -266,9 +266,6 @@ numbered it (Ok other) numbers is e n size =
 numbered it (Err rule) numbers is e n size = absurd cc
 
 -- ---- with text or without
-
-pub body_of_text : (it : ColumnContext) → is_text it ≡ true → option_map_or (text_column it) (size_of it) [] ≡ column_body it
-body_of_text it text = sym (if_true (is_text it) (option_map_or (text_column it) (size_of it) []) (float_column it) text)
 
 pub body_of_floats : (it : ColumnContext) → is_same_place it.column.from it.column.to ≡ true →
     (bodies : List (List (List ℕ))) (before below : List ℕ) → bodies ≡ float_bodies it.document → before ≡ it.before →
