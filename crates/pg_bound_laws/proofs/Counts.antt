@@ -14,6 +14,12 @@ use Rattle.pg_rules.specs.Floats.{numbered, floats_between}
 use Rattle.pg_rules.specs.Legal.{added}
 use Rattle.pg_column_laws.proofs.Counts.{total_cons}
 
+-- no float is counted beyond a list of counts
+pub entry_beyond : (counts : List ℕ) (slot : ℕ) → length counts ≤ slot → entry counts slot ≡ 0
+entry_beyond [] slot h = refl
+entry_beyond (count ∷ counts) zero h = absurd (omega (arith, h))
+entry_beyond (count ∷ counts) (suc slot) h = entry_beyond counts slot (omega (arith, h))
+
 pub zip_total : (F : ℕ → ℕ) (f : ℕ) (xs ys : List ℕ) → length xs ≡ length ys →
     ((i : ℕ) → F (f + i) ≡ entry xs i + entry ys i) →
     total_count (map F (range_with_len f (length xs))) ≡ total_count xs + total_count ys

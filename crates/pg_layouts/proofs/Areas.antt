@@ -44,11 +44,6 @@ within_at (limit ∷ limits) (n ∷ counts) w zero = w.0
 within_at (limit ∷ limits) (n ∷ counts) w (suc slot) = within_at limits counts w.1 slot
 
 -- behind the last count
-pub entry_beyond : (xs : List ℕ) (i : ℕ) → length xs ≤ i → entry xs i ≡ 0
-entry_beyond [] i h = refl
-entry_beyond (x ∷ xs) zero h = absurd (omega arith)
-entry_beyond (x ∷ xs) (suc i) h = entry_beyond xs i (omega arith)
-
 -- ---- what the counts of an area keep
 
 -- each class that deals out floats stays below a ceiling

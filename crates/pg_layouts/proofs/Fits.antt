@@ -12,7 +12,8 @@ use Rattle.pg_lemmas.proofs.Bools.{by_bool}
 use Rattle.pg_lemmas.proofs.Numbers.{less_true, not_less}
 use Rattle.pg_layouts.specs.Behind.{bare}
 use Rattle.pg_layouts.specs.Layouts.{area_lists, wides_of, zeros}
-use Rattle.pg_layouts.proofs.Areas.{IsOfArea, entry_beyond, of_area, slots_long, zeros_entry}
+use Rattle.pg_layouts.proofs.Areas.{IsOfArea, of_area, slots_long, zeros_entry}
+use Rattle.pg_bound_laws.proofs.Counts.{entry_beyond}
 use Rattle.pg_member_laws.proofs.Members.{contains_among}
 use Rattle.pg_layouts.specs.Fit.{Fit}
 

@@ -24,7 +24,7 @@ use Rattle.pg_column_laws.proofs.Waiting.{placed_more, slot_below, slotted}
 use Rattle.pg_floats.specs.History.{ages_of}
 use Rattle.pg_move_laws.specs.Ages.{ages_left, float_cost, line_of, may_wait, waits_of}
 use Rattle.pg_areas.proofs.Ranges.{all_append_is}
-use Rattle.pg_layouts.proofs.Areas.{entry_beyond}
+use Rattle.pg_bound_laws.proofs.Counts.{entry_beyond}
 use Rattle.pg_move_laws.proofs.Callouts.{callouts_bound}
 use Rattle.pg_member_laws.proofs.Members.{below_in}
 

@@ -14,6 +14,7 @@ use Rattle.pg_floats.specs.AreFloats.{float_total}
 use Rattle.pg_lemmas.proofs.Bools.{both_of, by_bool, or_cases}
 use Rattle.pg_lemmas.proofs.Numbers.{less_true, not_less}
 use Rattle.pg_pages.specs.Printed.{FitTogether}
+use Rattle.pg_bound_laws.proofs.Counts.{entry_beyond}
 
 -- no class has placed more than a galley may have
 abbrev pub AreFewPlaced : List ℕ → Type 0
@@ -41,11 +42,6 @@ within most k (sizes ∷ lists) before counts few less all (suc slot) h =
     subst (λ (i : ℕ). entry before i + entry counts i ≤ most) z
     (within most (k + 1) lists before counts (omega (arith, e, few)) less t.1 slot (omega (arith, h)))
 
-none_beyond : (counts : List ℕ) (slot : ℕ) → length counts ≤ slot → entry counts slot ≡ 0
-none_beyond [] slot h = refl
-none_beyond (n ∷ counts) zero h = absurd (omega (arith, h))
-none_beyond (n ∷ counts) (suc slot) h = none_beyond counts slot (omega (arith, h))
-
 module _ (doc : Document) (few : float_total doc.blocks doc.style ≤ 2 ^ 12) (before counts : List ℕ)
     (long : length counts ≡ length (float_numbers doc.style)) (less : AreFewPlaced before)
     (all : has_all (floats doc.blocks doc.style) before counts ≡ true) where
@@ -60,7 +56,7 @@ module _ (doc : Document) (few : float_total doc.blocks doc.style ≤ 2 ^ 12) (b
       (within (2 ^ 12) 0 (floats doc.blocks doc.style) before counts few less all slot (omega (arith, h, n))))
       (λ f.
       let h = not_less slot _ f in
-      let n = none_beyond counts slot (omega (arith, h, long)) in
+      let n = entry_beyond counts slot (omega (arith, h, long)) in
       let b = less slot in
       omega (arith, n, b))
 
@@ -76,5 +72,5 @@ module _ (doc : Document) (few : float_total doc.blocks doc.style ≤ 2 ^ 12) (b
       (λ f.
       let h = not_less slot _ f in
       let l = plus_long doc.style before counts in
-      let n = none_beyond (plus_counts doc.style before counts) slot (omega (arith, h, l)) in
+      let n = entry_beyond (plus_counts doc.style before counts) slot (omega (arith, h, l)) in
       omega (arith, n))
