@@ -1,74 +1,15 @@
 //! Each pagination of each file judged, and what is written of it.
-ghost use Rattle.std.specs.Prelude.{◌≡◌, ◌<◌, ◌^◌, length, reverse, IfOk};
-ghost use Rattle.std.specs.Bool.{OnTrue};
-ghost use Rattle.pg_plan.specs.Order.{columns_of, columns};
-ghost use Rattle.pg_judge.specs.Given.{IsListOf};
+ghost use Rattle.pg_floats.specs.AreFloats.{AreFloats};
 
-use crate::plans::{Named, PlansFault, read_plans};
 use pg_bench_files::{fetch_file, open_galley, open_style};
 use pg_command::Ending;
-use pg_floats::{FloatFault, FloatList};
-use pg_judge::{JudgeFault, judge};
+use pg_floats::FloatList;
+use pg_judge::JudgeFault;
 use pg_list::Galley;
 use pg_outside::{Shelf, Sink};
-use pg_plan::{Page, Pagination};
+use pg_plan_files::{Named, Stop, floats_of, judged, plans_of};
 use pg_style::Style;
 use std::alloc::{AllocError, Global};
-
-/// The most columns of a pagination.
-const MOST_COLUMNS: usize = 2147483647;
-
-/// What ends a run.
-#[derive(Drop)]
-pub enum Stop<'a> {
-    /// What ends a run of `pg`.
-    Ends(Ending<'a>),
-    /// The line of this number of the file is none of a pagination.
-    NoPlan(&'a str, u32),
-}
-
-// The list of the floats of a galley, or what ends the run.
-fn floats_of<'a>(alloc: Global, galley: &Galley, style: &Style) -> Result<FloatList, Ending<'a>>
-    ensures { IfOk result (λ list. IsListOf galley.now.blocks style.now list) }
-{
-    match FloatList::of(alloc, galley, style) {
-        Ok(list) => Ok(list),
-        Err(FloatFault::Class { number }) => Err(Ending::UnknownClass(number)),
-        Err(FloatFault::Limit { count }) => Err(Ending::TooManyFloats(count)),
-        Err(FloatFault::Memory) => Err(Ending::Memory),
-    }
-}
-
-// Whether pages have as few columns as can be judged; a file has no room for more.
-fn are_few(pages: &[Page]) -> bool
-    ensures { OnTrue result (length (columns_of (reverse pages.now)) < 2 ^ 31) }
-{
-    let mut count = 0usize;
-    for page in pages {
-        let len = page.columns.as_slice().len();
-        if len > MOST_COLUMNS - count {
-            return false;
-        }
-        count += len;
-    }
-    true
-}
-
-fn judged(
-    alloc: Global,
-    galley: &Galley,
-    style: &Style,
-    floats: &FloatList,
-    plan: &Pagination,
-) -> Result<i128, JudgeFault>
-    requires { IsListOf galley.now.blocks style.now floats.now }
-{
-    if are_few(plan.pages.as_slice()) {
-        judge(alloc, galley, style, floats, plan)
-    } else {
-        Err(JudgeFault::Memory)
-    }
-}
 
 // Adds the line of a verdict.
 fn write_verdict(
@@ -95,7 +36,7 @@ fn verdicts(
     floats: &FloatList,
     plans: &[Named<'_>],
 ) -> Result<Vec<u8>, AllocError>
-    requires { IsListOf galley.now.blocks style.now floats.now }
+    requires { AreFloats galley.now.blocks style.now floats.now }
 {
     let mut out = Vec::new(alloc);
     for it in plans {
@@ -105,23 +46,19 @@ fn verdicts(
     Ok(out)
 }
 
-// Judges the paginations of a text, or answers what ends the run.
+// Judges the paginations that the bytes of a file tell, or answers what ends the run.
 fn verdicts_on<'a>(
     alloc: Global,
     galley: &Galley,
     style: &Style,
     name: &'a str,
-    text: &str,
+    bytes: &[u8],
 ) -> Result<Vec<u8>, Stop<'a>> {
     let floats = match floats_of(alloc, galley, style) {
         Ok(floats) => floats,
         Err(ending) => return Err(Stop::Ends(ending)),
     };
-    let plans = match read_plans(alloc, text) {
-        Ok(plans) => plans,
-        Err(PlansFault::Line(line)) => return Err(Stop::NoPlan(name, line)),
-        Err(PlansFault::Memory) => return Err(Stop::Ends(Ending::Memory)),
-    };
+    let plans = plans_of(alloc, name, bytes)?;
     match verdicts(alloc, galley, style, &floats, plans.as_slice()) {
         Ok(lines) => Ok(lines),
         Err(_) => Err(Stop::Ends(Ending::Memory)),
@@ -150,10 +87,7 @@ fn judge_files<'a, H: Shelf, O: Sink>(
         Ok(bytes) => bytes,
         Err(ending) => return Err(Stop::Ends(ending)),
     };
-    let Ok(text) = str::from_utf8(&bytes) else {
-        return Err(Stop::NoPlan(plans, 0));
-    };
-    let lines = verdicts_on(alloc, &galley, &style, plans, text)?;
+    let lines = verdicts_on(alloc, &galley, &style, plans, &bytes)?;
     match out.write(&lines) {
         Ok(()) => Ok(()),
         Err(_) => Err(Stop::Ends(Ending::WriteFault)),

@@ -1,7 +1,7 @@
 use Rattle.std.proofs.Common.{◌≡◌, ◌<◌, ◌^◌, length, take}
 use Rattle.std.specs.Prelude.{reverse}
 use Rattle.pg_plan.specs.Order.{columns_of}
-use Rattle.pg_judge_bench.proofs.judging.are_few.Given as goal
+use Rattle.pg_plan_files.proofs.judging.are_few.Given as goal
 
 abbrev pub invariant-loop-page : goal.invariant-loop-page
 invariant-loop-page l = record {
