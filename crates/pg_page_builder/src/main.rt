@@ -9,7 +9,7 @@
 //! Of the sample the last page is left out, which LaTeX added to those of the galley, and so are the breaks in front of
 //! a page's first box, at the glue that TeX puts above it. LaTeX gives the space above the footnote some stretch and
 //! shrink, which a style has not: behind the footnote shrink and badness are `-` here, and badness is held to TeX's in
-//! pg_tex_tests.
+//! pg_parts.
 #![tactic(auto)]
 
 mod builder;

@@ -8,8 +8,6 @@ mod cases;
 #[cfg(test)]
 mod frontier;
 #[cfg(test)]
-mod notation;
-#[cfg(test)]
 mod refusals;
 #[cfg(test)]
 mod rows;

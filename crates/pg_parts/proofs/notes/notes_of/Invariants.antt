@@ -1,7 +1,7 @@
 use Rattle.std.proofs.Common.{◌≤◌, ◌+◌, length}
 use Rattle.std.specs.List.{AllByRecursion}
 use Rattle.pg_list.specs.Shapes.{IsBlock}
-use Rattle.pg_tex_tests.proofs.notes.notes_of.Given as goal
+use Rattle.pg_parts.proofs.notes.notes_of.Given as goal
 
 abbrev pub invariant-each : goal.invariant-each
 invariant-each l = record {

@@ -1,18 +1,38 @@
-//! What the tests share: rows of tables, one text with a row on each line, and galleys in a few words.
-ghost use Rattle.std.specs.Prelude.{◌≤◌, ◌≡◌, length, IfSome};
+//! What all kinds of cases share: words, numbers, places, and galleys in a few words.
+ghost use Rattle.std.specs.Prelude.{◌≤◌, ◌≡◌, length, IfSome, IfOk};
 ghost use Rattle.pg_list.specs.Ranges.{IsItemInRange};
 ghost use Rattle.pg_scaled.specs.Ranges.{IsScaled};
 ghost use Rattle.pg_list.specs.Shapes.{IsBlock};
 
 use pg_list::{Block, Galley, Item, Place};
-use pg_scaled::{Front, read_scaled};
+use pg_scaled::{Front, print_scaled, read_scaled};
 use pg_showbox::read_galley;
 use pg_style::{Classes, Style, plain_style};
-use std::alloc::{AllocError, Global};
-use std::test::Fail;
+use std::alloc::{AllocError, AllocFailed, Global};
 
-// The most bytes of a galley's text.
+/// The most bytes of a galley's text.
 const ROOM: usize = 524288;
+
+/// Why a case is not taken.
+#[derive(Clone, Copy, Drop)]
+pub enum Wrong {
+    /// It is no case of its kind.
+    Row,
+    /// Memory ran out.
+    Memory,
+}
+
+impl From<AllocError> for Wrong {
+    fn from(_error: AllocError) -> Wrong {
+        Wrong::Memory
+    }
+}
+
+impl<T: Drop> From<AllocFailed<T>> for Wrong {
+    fn from(_error: AllocFailed<T>) -> Wrong {
+        Wrong::Memory
+    }
+}
 
 /// What stands in front of a mark and what stands behind it; the whole row and nothing where it has no such mark.
 pub fn cut<'a>(row: &'a str, mark: char) -> (&'a str, &'a str) {
@@ -22,33 +42,59 @@ pub fn cut<'a>(row: &'a str, mark: char) -> (&'a str, &'a str) {
     }
 }
 
-/// A number of points in scaled units. None where the word is no such number.
-pub fn points(word: &str) -> Option<i32>
-    ensures { IfSome result (λ value. IsScaled value) }
+/// A number of points in scaled units.
+pub fn points(word: &str) -> Result<i32, Wrong>
+    ensures { IfOk result (λ value. IsScaled value) }
 {
     match read_scaled(word.as_bytes()) {
-        Front::Value { value, len } if len == word.len() => Some(value),
-        _ => None,
+        Front::Value { value, len } if len == word.len() => Ok(value),
+        _ => Err(Wrong::Row),
     }
 }
 
-/// A place: its block, its variant and its index, with blanks between. None where these are no numbers.
-pub fn place_of(words: &str) -> Option<Place> {
+/// A whole number of 32 bits.
+pub fn number(word: &str) -> Result<u32, Wrong> {
+    match word.parse::<u32>() {
+        Ok(number) => Ok(number),
+        Err(_) => Err(Wrong::Row),
+    }
+}
+
+/// A whole number of 64 bits, with its sign.
+pub fn signed(word: &str) -> Result<i64, Wrong> {
+    match word.parse::<i64>() {
+        Ok(number) => Ok(number),
+        Err(_) => Err(Wrong::Row),
+    }
+}
+
+/// A place: its block, its variant and its index, with blanks between.
+pub fn place_of(words: &str) -> Result<Place, Wrong> {
     let (block, rest) = cut(words, ' ');
     let (variant, index) = cut(rest, ' ');
-    Some(Place {
-        block: block.parse().ok()?,
-        variant: variant.parse().ok()?,
-        index: index.parse().ok()?,
+    let block = number(block)?;
+    let variant = number(variant)?;
+    let index = number(index)?;
+    Ok(Place {
+        block,
+        variant,
+        index,
     })
 }
 
-/// The galley of a text. None where it is none, or very long.
-pub fn read_text(alloc: Global, text: &[u8]) -> Option<Galley> {
+/// Adds a length in points.
+pub fn say_points(units: i64, out: &mut Vec<u8>) -> Result<(), AllocError> {
+    print_scaled(i128::from(units), out)
+}
+
+fn read_text(alloc: Global, text: &[u8]) -> Result<Galley, Wrong> {
     if text.len() > ROOM {
-        return None;
+        return Err(Wrong::Row);
     }
-    read_galley(alloc, text, None).ok()
+    match read_galley(alloc, text, None) {
+        Ok(galley) => Ok(galley),
+        Err(_) => Err(Wrong::Row),
+    }
 }
 
 // Puts the line of a penalty, as `p:10`, or of an insert of a class, as `i:100:5.0`, at the end of a galley's text.
@@ -89,21 +135,21 @@ fn push_line(text: &mut Vec<u8>, word: &str) -> Result<(), AllocError> {
 /// A galley in words: `b` a box 7 points above and 2 below its baseline, `g` glue of 3 points, `f` the same with
 /// infinite stretch, `k` a kern of 3 points, `m` a mark, `p:10` a penalty, `i:100:5.0` an insert of class 100 and 5
 /// points, and `choice`, `variant` and `end` the markers of a choice, `loose` that of a variant one line longer.
-pub fn galley(alloc: Global, words: &str) -> Result<Galley, Fail> {
+pub fn galley(alloc: Global, words: &str) -> Result<Galley, Wrong> {
     let mut text = b"\\vbox(0.0+0.0)x345.0\n".to_vec(alloc)?;
     for word in words.split(' ') {
         push_line(&mut text, word)?;
     }
-    Ok(read_text(alloc, &text).ok_or("no galley")?)
+    read_text(alloc, &text)
 }
 
 /// A galley of one word, so many times.
-pub fn repeated(alloc: Global, word: &str, count: u32) -> Result<Galley, Fail> {
+pub fn repeated(alloc: Global, word: &str, count: u32) -> Result<Galley, Wrong> {
     let mut text = b"\\vbox(0.0+0.0)x345.0\n".to_vec(alloc)?;
     for _ in 0..count {
         push_line(&mut text, word)?;
     }
-    Ok(read_text(alloc, &text).ok_or("no galley")?)
+    read_text(alloc, &text)
 }
 
 /// The item of a block. None where it is a choice.
