@@ -1,7 +1,7 @@
 //! Each pagination of each file judged, and what is written of it.
-ghost use Rattle.std.specs.Prelude.{◌≡◌, ◌<◌, ◌^◌, length, reverse, IfOk};
+ghost use Rattle.std.specs.Prelude.{◌<◌, ◌^◌, length, reverse, IfOk};
 ghost use Rattle.std.specs.Bool.{OnTrue};
-ghost use Rattle.pg_plan.specs.Order.{columns_of, columns};
+ghost use Rattle.pg_plan.specs.Order.{columns_of};
 ghost use Rattle.pg_judge.specs.Given.{IsListOf};
 
 use crate::plans::{Named, PlansFault, read_plans};
