@@ -1,8 +1,8 @@
 //! The words, the files and the ends of the programs that tests and measures use.
 //!
 //! Proved: a galley or a style that is answered is that of the bytes of its file, where the shelf tells them
-//! (`specs/Opened`), and the exit code is that of what ended the run. Where a file is refused, what ends a run of `pg` is
-//! answered.
+//! (`specs/Opened`), and the exit code is that of what ended the run. Where a file is refused, what ends a run of `pg`
+//! is answered.
 #![tactic(auto)]
 
 mod open;

@@ -1,5 +1,5 @@
 //! TeX's page builder, put together from the parts (TeX: The Program, §1000 to §1007).
-ghost use Rattle.std.specs.Prelude.{◌≡◌, ◌≤◌, ◌<◌, ◌^◌, nat_abs, IfSome};
+ghost use Rattle.std.specs.Prelude.{◌<◌, ◌^◌, nat_abs, IfSome};
 ghost use Rattle.pg_list.specs.Ranges.{IsItemInRange};
 ghost use Rattle.pg_list.specs.Shapes.{IsBlock};
 

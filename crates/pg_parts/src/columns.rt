@@ -82,10 +82,11 @@ fn column_style(alloc: Global) -> Result<Style, Wrong> {
     Ok(style)
 }
 
-/// Of a room, a galley, where the text begins, where it ends, and its picks: goal, total, badness, penalty, demerits and
-/// fitness, or the rule that it breaks, or `-` where it does not fit.
+/// Of a room, a galley, where the text begins, where it ends, and its picks: goal, total, badness, penalty, demerits
+/// and fitness, or the rule that it breaks, or `-` where it does not fit.
 ///
-/// The tolerance is 200, the least room 20 points, the greatest looseness 0; a first baseline is 10 points below the top.
+/// The tolerance is 200, the least room 20 points, the greatest looseness 0; a first baseline is 10 points below the
+/// top.
 pub fn say(alloc: Global, row: &str, out: &mut Vec<u8>) -> Result<(), Wrong> {
     let style = column_style(alloc)?;
     let (room, rest) = cut(row, '|');

@@ -99,8 +99,8 @@ fn say_list(widths: &[i128], out: &mut Vec<u8>) -> Result<(), Wrong> {
     Ok(())
 }
 
-/// Of a sense and an excess, and of glue, each with its width, its amount and its order: the widths that are set. 0.00002
-/// points is one unit.
+/// Of a sense and an excess, and of glue, each with its width, its amount and its order: the widths that are set.
+/// 0.00002 points is one unit.
 pub fn say_widths(alloc: Global, row: &str, out: &mut Vec<u8>) -> Result<(), Wrong> {
     let (setting, glues) = cut(row, '|');
     let (sense, excess) = cut(setting, ' ');

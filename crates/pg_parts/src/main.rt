@@ -1,9 +1,9 @@
-//! Says of cases that are worked by hand what the parts of a column make of them: `pg_parts KIND TABLE [KIND TABLE]..`.
+//! Says what the parts of a column make of small cases: `pg_parts KIND TABLE [KIND TABLE]..`.
 //!
-//! A table has a case on each line; lines that begin with `#` are passed over. Each case is written with what was found
-//! behind it. The kinds are `breaks`, `columns`, `notes`, `called`, `areas`, `sizes`, `faults`, `many`, `queues`,
-//! `badness`, `pages` and `widths`; each is told where it is read. The stored run holds the parts to what their rules give,
-//! worked by hand, and for 31 badnesses to what TeX told.
+//! A table has a case on each line; lines that begin with `#` are passed over. Each case is written with what was
+//! found behind it. The kinds are `breaks`, `columns`, `notes`, `called`, `areas`, `sizes`, `faults`, `many`,
+//! `queues`, `badness`, `pages` and `widths`; each is told where it is read. The stored run holds the parts to what
+//! their rules give, worked by hand, and for 31 badnesses to what TeX told.
 #![tactic(auto)]
 
 mod breaks;

@@ -6,9 +6,9 @@ use pg_notes::NoteSums;
 use pg_style::{Area, Class, Classes, Distance, Kind, Style};
 use std::alloc::Global;
 
-/// The plain style of columns of 58 points with two classes of notes, and one of floats. Notes of class 200 have 4 points
-/// above the first and take 100 at most together; those of class 201 have 2 and take 5 at most. Inserts of class 100 are
-/// floats.
+/// The plain style of columns of 58 points with two classes of notes, and one of floats. Notes of class 200 have 4
+/// points above the first and take 100 at most together; those of class 201 have 2 and take 5 at most. Inserts of
+/// class 100 are floats.
 pub fn note_style(alloc: Global) -> Result<Style, Wrong> {
     let Ok(distance) = Distance::new(alloc, &[0]) else {
         return Err(Wrong::Memory);

@@ -161,10 +161,10 @@ fn courses(
     Ok(())
 }
 
-/// Of what floats of the two classes cost by the pages that they waited, and a queue's course: what is said of each event.
-/// `call:0` a float of the first class is called, `turn` a page ends, each with the ages of the floats that wait then, by
-/// class, or with the class and the age of one that waited too long; `place:0` a float of the class is placed, with what
-/// it costs.
+/// Of what floats of the two classes cost by the pages that they waited, and a queue's course: what is said of each
+/// event. `call:0` a float of the first class is called, `turn` a page ends, each with the ages of the floats that
+/// wait then, by class, or with the class and the age of one that waited too long; `place:0` a float of the class is
+/// placed, with what it costs.
 pub fn say(alloc: Global, row: &str, out: &mut Vec<u8>) -> Result<(), Wrong> {
     let (first, rest) = cut(row, '|');
     let (second, course) = cut(rest, '|');

@@ -1,12 +1,13 @@
 //! Reads logs of TeX, prints their galleys, and reads back what was printed: `pg_read_back WRAP LOG [WRAP LOG]..`.
 //!
-//! WRAP is the width at which lines are joined, or `-`. It writes one line for each log: how many items its galley has,
-//! and whether what is printed of it reads back to the same text. With `short` in place of WRAP the file is a table of
-//! short texts, of which each is written with the line and the kind of its fault, or with what is printed of its galley.
-//! The stored run holds the reader and the printer to what the rules of the notation give, worked by hand, and reads real
-//! logs, made by TeX Live 2022: a box that is so tall that TeX's own numbers wrapped around; a report of an overfull box, which is a listing too,
-//! and a listing behind it; a listing of one level, in which leaders, boxes and an insert end in the sign that something
-//! was cut; and listings with lines of exactly 79 bytes, behind which TeX wrote an empty line.
+//! WRAP is the width at which lines are joined, or `-`. It writes one line for each log: how many items its galley
+//! has, and whether what is printed of it reads back to the same text. With `short` in place of WRAP the file is a
+//! table of short texts, of which each is written with the line and the kind of its fault, or with what is printed of
+//! its galley. The stored run holds the reader and the printer to what the rules of the notation give, worked by hand,
+//! and reads real logs, made by TeX Live 2022: a box that is so tall that TeX's own numbers wrapped around; a report
+//! of an overfull box, which is a listing too, and a listing behind it; a listing of one level, in which leaders,
+//! boxes and an insert end in the sign that something was cut; and listings with lines of exactly 79 bytes, behind
+//! which TeX wrote an empty line.
 #![tactic(auto)]
 
 mod again;

@@ -89,9 +89,9 @@ fn say_case(alloc: Global, row: &str, out: &mut Vec<u8>) -> Result<(), AllocErro
 
 /// The lines of all cases of a table; lines that begin with `#` are passed over.
 ///
-/// In a text R stands for the line of a root, B of a box, G of glue, C, V and E of the markers of a choice, of a variant
-/// and of the choice's end, I of an insert; `~` stands for a line feed and `^` for a carriage return. All else stands for
-/// itself.
+/// In a text R stands for the line of a root, B of a box, G of glue, C, V and E of the markers of a choice, of a
+/// variant and of the choice's end, I of an insert; `~` stands for a line feed and `^` for a carriage return. All else
+/// stands for itself.
 pub fn say_table(alloc: Global, table: &str) -> Result<Vec<u8>, AllocError> {
     let mut out = Vec::new(alloc);
     for row in table.lines() {

@@ -1,9 +1,9 @@
 //! Says of style files, and of many changes of them, what is read: `pg_style_faults STYLE CHANGES [STYLE CHANGES]..`.
 //!
-//! A style is told in one line, with a line for each class; a text that is none by the number of its first fault and its
-//! key. Each line of the file CHANGES is one text more: the style with changes, parted by `|`, each of them what stands
-//! there first, `>`, and what comes in its place; `~` is a line feed. It is told with its line behind it. `-` in place of
-//! CHANGES is none. The stored run holds the reader to the faults that its rules give, worked out by hand.
+//! A style is told in one line, with a line for each class; a text that is none by the number of its first fault and
+//! its key. Each line of the file CHANGES is one text more: the style with changes, parted by `|`, each of them what
+//! stands there first, `>`, and what comes in its place; `~` is a line feed. It is told with its line behind it. `-`
+//! in place of CHANGES is none. The stored run holds the reader to the faults that its rules give, worked out by hand.
 #![tactic(auto)]
 
 mod changes;
