@@ -1,5 +1,5 @@
 //! How far the picks of the labels of a filled table go.
-ghost use Rattle.std.specs.Prelude.{◌≡◌, ◌≤◌, ◌^◌, IfOk, length};
+ghost use Rattle.std.specs.Prelude.{◌≡◌, ◌≤◌, ◌^◌, IfOk, length, max};
 ghost use Rattle.pg_rules.specs.Legal.{document};
 ghost use Rattle.pg_walk_laws.specs.Reached.{greatest_from};
 ghost use Rattle.pg_walk_laws.specs.Walk.{variants_at as variants_at_of};

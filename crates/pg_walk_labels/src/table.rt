@@ -1,7 +1,9 @@
 //! The ends of the labels of a filled table, one label after another.
-ghost use Rattle.std.specs.Prelude.{◌≤◌, ◌^◌, OnOk, length};
+ghost use Rattle.std.specs.Prelude.{◌≡◌, ◌<◌, ◌≤◌, ◌^◌, Contains, OnOk, length, nat_abs, ℕ};
 ghost use Rattle.pg_rules.specs.Legal.{document};
+ghost use Rattle.pg_stretch.specs.declared.passing.State.{State as AState};
 ghost use Rattle.pg_table.specs.Label.{Grounded};
+ghost use Rattle.pg_table.specs.declared.table.Entry.{Entry as AnEntry};
 ghost use Rattle.pg_walk_space.specs.Meaning.{IsOwn};
 ghost use Rattle.pg_walk_labels.specs.Collected.{AreSmall, Collects, HasEnds};
 
