@@ -1,2 +1,4 @@
 pub mod CalledFew
 pub mod Next
+pub mod LaidLemmas
+pub mod RoomLists

@@ -1,2 +1,4 @@
 pub mod OneProof
 pub mod Lines
+pub mod Laid
+pub mod Rooms

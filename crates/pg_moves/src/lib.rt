@@ -3,7 +3,10 @@
 
 mod ages;
 mod calls;
+mod laid;
 mod lines;
+mod rooms;
 mod sources;
 
+pub use laid::Laid;
 pub use sources::Sources;
