@@ -2,3 +2,4 @@ pub mod CalledFew
 pub mod Next
 pub mod LaidLemmas
 pub mod RoomLists
+pub mod Settled

@@ -2,3 +2,4 @@ pub mod OneProof
 pub mod Lines
 pub mod Laid
 pub mod Rooms
+pub mod Settling

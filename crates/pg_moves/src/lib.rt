@@ -6,6 +6,7 @@ mod calls;
 mod laid;
 mod lines;
 mod rooms;
+mod settling;
 mod sources;
 
 pub use laid::Laid;
