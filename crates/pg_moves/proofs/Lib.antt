@@ -3,3 +3,4 @@ pub mod Next
 pub mod LaidLemmas
 pub mod RoomLists
 pub mod Settled
+pub mod Stepped

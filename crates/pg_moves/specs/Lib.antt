@@ -3,3 +3,4 @@ pub mod Lines
 pub mod Laid
 pub mod Rooms
 pub mod Settling
+pub mod Stepping

@@ -51,7 +51,7 @@ impl Sources<'_> {
     }
 
     // Whether so many floats of each class are called before a place.
-    fn calls_all(&self, to: Place, after: &[u16]) -> bool
+    pub(crate) fn calls_all(&self, to: Place, after: &[u16]) -> bool
         ensures { result ≡ calls_all_of (doc_of self.now) to after.now }
     {
         let slots = self.slots();
@@ -69,11 +69,7 @@ impl Sources<'_> {
         ensures few { result ≤ 1 }
     {
         let style = self.style;
-        if state.column == style.columns {
-            1
-        } else {
-            0
-        }
+        if state.column == style.columns { 1 } else { 0 }
     }
 
     // The same from the ages of the floats that wait there, class by class.
