@@ -2,5 +2,5 @@ pub mod CalledFew
 pub mod Next
 pub mod LaidLemmas
 pub mod RoomLists
-pub mod Settled
+pub mod Settles
 pub mod Stepped

@@ -1,6 +1,6 @@
 use Rattle.std.proofs.Common.{◌∙◌}
 use Rattle.pg_moves.specs.Laid.{doc_of}
-use Rattle.pg_moves.proofs.Settled.{lines_are}
+use Rattle.pg_moves.proofs.Settles.{lines_are}
 use Rattle.pg_moves.proofs.sources.Sources.settle.Goals as goal
 
 pub settle_by-requires : goal.settle_by-requires

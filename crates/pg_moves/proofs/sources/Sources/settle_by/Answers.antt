@@ -1,5 +1,5 @@
 use Rattle.pg_moves.specs.Laid.{doc_of}
-use Rattle.pg_moves.proofs.Settled.{left_none, left_some}
+use Rattle.pg_moves.proofs.Settles.{left_none, left_some}
 use Rattle.pg_moves.proofs.sources.Sources.settle_by.Goals as goal
 
 pub returns-in-None : goal.returns-in-None
