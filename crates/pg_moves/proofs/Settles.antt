@@ -1,7 +1,7 @@
 -- What is told class by class from the lines of a state is what the rules say.
-use Rattle.std.proofs.Common.{◌≡◌, refl, sym, ap, subst, ◌∙◌, ℕ, zero, suc, ◌+◌, ◌-◌, ◌<◌, List, [], ◌∷◌, length, map, take, drop, ◌≤◌, ◌^◌, true, false, Option, Some, None, arith, pos, ℤ}
+use Rattle.std.proofs.Common.{◌≡◌, sym, ap, subst, ◌∙◌, ℕ, zero, suc, ◌+◌, ◌-◌, ◌<◌, List, [], length, map, take, drop, ◌≤◌, ◌^◌, true, false, Option, Some, None, arith, pos}
 use Rattle.std.specs.Prelude.{nat_lt, slice_get, slice_index, unwrap_or}
-use Rattle.std.specs.List.{flat_map, list_all, range_with_len}
+use Rattle.std.specs.List.{list_all, range_with_len}
 use Rattle.pg_list.specs.declared.galley.Place.{Place}
 use Rattle.pg_plan.specs.declared.states.State.{State}
 use Rattle.pg_flat.specs.Whole.{whole_sum_by}
@@ -15,7 +15,6 @@ use Rattle.pg_move_laws.proofs.Ages.{flat_same}
 use Rattle.pg_moves.specs.Lines.{Leaves, all_left, all_young, left_in, line_among, line_in, price_in, young_in}
 use Rattle.pg_moves.specs.Settling.{Settles, known_of}
 use Rattle.pg_moves.specs.declared.settling.Known.{Known}
-use Rattle.pg_moves.specs.declared.settling.Settled.{Settled}
 
 got_at : {X : Type 0} (f : ℕ → X) (from n i : ℕ) → i < n →
     slice_get (map f (range_with_len from n)) i ≡ Some (f (from + i))

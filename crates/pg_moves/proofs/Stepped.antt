@@ -1,7 +1,7 @@
 -- The steps of a layout with one end.
-use Rattle.std.proofs.Common.{◌≡◌, refl, sym, ap, subst, ◌∙◌, ℕ, ◌+◌, ◌<◌, List, [], ◌∷◌, ◌++◌, append_assoc, length, take, get_or, true, false, Bool, map}
+use Rattle.std.proofs.Common.{◌≡◌, refl, sym, ap, subst, ◌∙◌, ℕ, ◌+◌, ◌<◌, List, [], ◌∷◌, ◌++◌, append_assoc, length, take, get_or, true, false, Bool, map, ℤ}
 use Rattle.std.specs.Prelude.{◌&&◌, not, if◌then◌else◌}
-use Rattle.std.specs.List.{filter}
+use Rattle.std.specs.List.{filter, flat_map}
 use Rattle.std.proofs.lemmas.List.{append-nil, map-append}
 use Rattle.std.proofs.lemmas.List.Elements.{filter-append}
 use Rattle.pg_plan.specs.declared.pages.PageMove.{PageMove}
@@ -15,7 +15,10 @@ use Rattle.pg_rules.specs.Room.{Document}
 use Rattle.pg_table.specs.declared.step.Step.{Step}
 use Rattle.pg_move_laws.specs.Ages.{may_wait}
 use Rattle.pg_move_laws.specs.Listed.{calls_all, goes_on, listed_end, listed_with, placed_with}
+use Rattle.pg_move_laws.specs.Steps.{text_room}
 use Rattle.pg_moves.specs.Laid.{laid_of}
+use Rattle.pg_moves.specs.Rooms.{ends_in}
+use Rattle.pg_moves.specs.Stepping.{steps_in}
 use Rattle.pg_moves.specs.declared.laid.Laid.{Laid}
 
 module _ (doc : Document) (u : State) (laid : Laid) (end : End) (is : laid ≡ laid_of doc u laid.layout)
@@ -59,3 +62,13 @@ steps_more doc u layout ends i end old mid new less is h k =
     ∙ (ap (map (listed_end doc u layout)) (sym (filter-append (goes_on doc u layout) (take i ends) (end ∷ [])))
     ∙ ap (λ (xs : List End). map (listed_end doc u layout) (filter (goes_on doc u layout) xs))
     (sym (one_more ends i end less is))))))
+
+-- the steps of laid layouts are those of the layouts, by the ends in their rooms
+pub laid_steps : (doc : Document) (u : State) (rooms : List ℤ) (lists : List (List End)) (layouts : List Layout) →
+    flat_map (steps_in doc u rooms lists) (map (laid_of doc u) layouts)
+    ≡ flat_map (listed_with doc u (λ layout. ends_in rooms lists (text_room doc u layout))) layouts
+laid_steps doc u rooms lists [] = refl
+laid_steps doc u rooms lists (layout ∷ layouts) =
+    ap (λ (steps : List (Step State PageMove)).
+    listed_with doc u (λ it. ends_in rooms lists (text_room doc u it)) layout ++ steps)
+    (laid_steps doc u rooms lists layouts)

@@ -7,6 +7,11 @@ use Rattle.pg_ends.specs.declared.end.End.{End}
 use Rattle.pg_rules.specs.Cost.{run_demerits}
 use Rattle.pg_rules.specs.Follow.{fills_page, keeps_run, other_side}
 use Rattle.pg_move_laws.specs.Steps.{fitness_cost}
+use Rattle.pg_plan.specs.declared.pages.PageMove.{PageMove}
+use Rattle.pg_rules.specs.Room.{Document}
+use Rattle.pg_table.specs.declared.step.Step.{Step}
+use Rattle.pg_move_laws.specs.Listed.{listed_with}
+use Rattle.pg_moves.specs.Rooms.{ends_in}
 use Rattle.pg_moves.specs.declared.laid.Laid.{Laid}
 
 -- the state behind a column of a layout, up to a place, with a fitness and the ages of the floats that wait there
@@ -32,3 +37,7 @@ abbrev pub cost_at : StyleValue → State → Laid → End → ℕ → ℤ
 cost_at style u laid end price =
     (end.cost.demerits +ℤ end.pick_demerits)
     +ℤ (page_price style u laid price +ℤ fitness_cost style u.fitness end.cost.fitness)
+
+-- the steps to the ends in the room of a layout
+abbrev pub steps_in : Document → State → List ℤ → List (List End) → Laid → List (Step State PageMove)
+steps_in doc u rooms lists it = listed_with doc u (λ layout. ends_in rooms lists it.room) it.layout

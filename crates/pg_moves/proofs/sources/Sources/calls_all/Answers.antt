@@ -1,4 +1,4 @@
-use Rattle.std.proofs.Common.{rules, ◌≡◌, ◌∙◌, ◌<◌, ap, subst, sym, length, ℕ, true}
+use Rattle.std.proofs.Common.{rules, ◌≡◌, ◌∙◌, ◌<◌, ap, subst, sym, length, ℕ}
 use Rattle.std.specs.List.{list_all, range_with_len}
 use Rattle.pg_areas.proofs.Ranges.{next_all, not_all}
 use Rattle.pg_rules.specs.Floats.{float_numbers}

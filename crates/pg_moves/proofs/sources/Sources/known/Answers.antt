@@ -1,4 +1,3 @@
-use Rattle.std.proofs.Common.{rules, ◌≡◌}
 use Rattle.pg_moves.specs.Laid.{doc_of}
 use Rattle.pg_moves.proofs.Settles.{known_is}
 use Rattle.pg_moves.proofs.sources.Sources.known.Goals as goal
