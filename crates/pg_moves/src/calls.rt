@@ -17,7 +17,7 @@ impl Sources<'_> {
     }
 
     // The same in 16 bits.
-    fn called_at(&self, place: Place, slot: usize) -> u16
+    pub(crate) fn called_at(&self, place: Place, slot: usize) -> u16
         ensures { result ≡ entry (called self.now.galley.now.blocks self.now.style.now place) slot }
     {
         self.count_called(place, slot) as u16

@@ -28,12 +28,7 @@ fn count_left(a: &[u16], b: &[u16], slot: usize) -> u16
 }
 
 /// How many of each class the second counts leave of the first.
-pub fn minus_counts(
-    alloc: Global,
-    slots: usize,
-    a: &[u16],
-    b: &[u16],
-) -> Result<Counts, AllocError>
+pub fn minus_counts(alloc: Global, slots: usize, a: &[u16], b: &[u16]) -> Result<Counts, AllocError>
     ensures { IfOk result (λ counts. counts ≡ map (λ slot. entry_of a.now slot - entry_of b.now slot)
         (range_with_len 0 slots)) }
 {
@@ -126,13 +121,7 @@ pub fn left_of(
 }
 
 // What those of a class pay that are placed.
-fn price_in_slot(
-    style: &Style,
-    lines: &[Ages],
-    placed: &[u16],
-    after: &[u16],
-    slot: usize,
-) -> u128
+fn price_in_slot(style: &Style, lines: &[Ages], placed: &[u16], after: &[u16], slot: usize) -> u128
     ensures value { pos result ≡ price_in style.now lines.now placed.now after.now slot }
     ensures small { result ≤ 2 ^ 48 }
 {
@@ -141,13 +130,7 @@ fn price_in_slot(
 }
 
 /// What those pay together that are placed.
-pub fn price(
-    style: &Style,
-    slots: usize,
-    lines: &[Ages],
-    placed: &[u16],
-    after: &[u16],
-) -> u128
+pub fn price(style: &Style, slots: usize, lines: &[Ages], placed: &[u16], after: &[u16]) -> u128
     requires { slots ≤ 8 }
     ensures value { pos result ≡ whole_sum_by (price_in style.now lines.now placed.now after.now)
         (range_with_len 0 slots) }

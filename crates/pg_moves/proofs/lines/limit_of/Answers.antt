@@ -1,4 +1,4 @@
-use Rattle.std.proofs.Common.{rules, ◌≡◌, ◌≤◌, length, subst, sym, ℕ}
+use Rattle.std.proofs.Common.{rules, ◌≡◌, ◌≤◌, length, subst, sym}
 use Rattle.pg_column_laws.proofs.StyleFacts.{slot_table}
 use Rattle.pg_rules.specs.Floats.{distance_table}
 use Rattle.pg_moves.proofs.lines.limit_of.Goals as goal

@@ -1,4 +1,4 @@
-use Rattle.std.proofs.Common.{◌≡◌, ◌-◌, ◌∙◌, ap, take, List, ℕ, ℤ, pos}
+use Rattle.std.proofs.Common.{◌-◌, ◌∙◌, ap, take, List, ℕ, pos}
 use Rattle.std.specs.Prelude.{slice_index}
 use Rattle.pg_flat.specs.Whole.{whole_sum_by}
 use Rattle.pg_rules.specs.Floats.{distance_table, entry}

@@ -1,0 +1,43 @@
+-- The parts of a step to an end, from what is settled there.
+use Rattle.std.specs.Prelude.{ℕ, ◌+◌, ◌==◌, if◌then◌else◌, List, Option, Some, None, ℤ, pos, ◌+ℤ◌}
+use Rattle.pg_list.specs.declared.galley.Place.{Place}
+use Rattle.pg_plan.specs.declared.states.State.{State}
+use Rattle.pg_style.specs.Values.{StyleValue}
+use Rattle.pg_ends.specs.declared.end.End.{End}
+use Rattle.pg_rules.specs.Cost.{run_demerits}
+use Rattle.pg_rules.specs.Follow.{fills_page, keeps_run, other_side}
+use Rattle.pg_move_laws.specs.Steps.{fitness_cost}
+use Rattle.pg_plan.specs.declared.pages.PageMove.{PageMove}
+use Rattle.pg_rules.specs.Room.{Document}
+use Rattle.pg_table.specs.declared.step.Step.{Step}
+use Rattle.pg_move_laws.specs.Listed.{listed_with}
+use Rattle.pg_moves.specs.Rooms.{ends_in}
+use Rattle.pg_moves.specs.declared.laid.Laid.{Laid}
+
+-- the state behind a column of a layout, up to a place, with a fitness and the ages of the floats that wait there
+abbrev pub state_behind : StyleValue → State → Laid → Place → Option ℕ → List ℕ → State
+state_behind style u laid to fitness ages = record {
+  place = to;
+  column = if fills_page style u then 1 else u.column + 1;
+  side = if fills_page style u then other_side u.side else u.side;
+  run = if fills_page style u then keeps_run u.side laid.layout.run else Some laid.layout.run;
+  wide = if fills_page style u then None else laid.wide;
+  fitness = fitness;
+  placed = laid.after;
+  ages = ages;
+}
+
+-- what a column of a layout pays for its page's run, and this price for its floats
+abbrev pub page_price : StyleValue → State → Laid → ℕ → ℤ
+page_price style u laid price =
+    (if u.column == 1 then run_demerits style laid.layout.run else pos 0) +ℤ pos price
+
+-- what it pays with its text
+abbrev pub cost_at : StyleValue → State → Laid → End → ℕ → ℤ
+cost_at style u laid end price =
+    (end.cost.demerits +ℤ end.pick_demerits)
+    +ℤ (page_price style u laid price +ℤ fitness_cost style u.fitness end.cost.fitness)
+
+-- the steps to the ends in the room of a layout
+abbrev pub steps_in : Document → State → List ℤ → List (List End) → Laid → List (Step State PageMove)
+steps_in doc u rooms lists it = listed_with doc u (λ layout. ends_in rooms lists it.room) it.layout

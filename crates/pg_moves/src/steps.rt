@@ -1,0 +1,292 @@
+//! The steps to the ends of a layout.
+ghost use Rattle.std.specs.Prelude.{◌≡◌, ◌≤◌, ◌^◌, ◌++◌, ◌∷◌, [], ◌==◌, if◌then◌else◌, Some, true, false, nat_abs, pos, slice_get, ◌+ℤ◌, IfOk, OnOk};
+ghost use Rattle.std.specs.Option.{option_map_or};
+ghost use Rattle.pg_ends.specs.declared.end.End.{End as AnEnd};
+ghost use Rattle.pg_rules.specs.Cost.{run_demerits as run_demerits_of};
+ghost use Rattle.pg_rules.specs.Follow.{fills_page as fills_page_of, keeps_run, other_side as other_side_of};
+ghost use Rattle.pg_rules.specs.IsState.{IsState};
+ghost use Rattle.pg_layouts.specs.Layouts.{move_of};
+ghost use Rattle.pg_flat.specs.Flat.{is_same_place};
+ghost use Rattle.pg_move_laws.specs.Listed.{calls_all as calls_all_of, listed_end, listed_with};
+ghost use Rattle.pg_move_laws.specs.Steps.{fitness_cost as fitness_cost_of, kept_fitness as kept_fitness_of};
+ghost use Rattle.pg_moves.specs.Laid.{doc_of, laid_of};
+ghost use Rattle.pg_moves.specs.Settling.{Settles, known_of};
+ghost use Rattle.pg_moves.specs.Stepping.{cost_at, page_price as page_price_of, state_behind as state_behind_of};
+
+use crate::laid::Laid;
+use crate::settling::{Known, Settled};
+use crate::sources::Sources;
+use pg_ends::End;
+use pg_list::Place;
+use pg_plan::{Ages, Column, PageMove, Side, State};
+use pg_style::{Run, Style};
+use pg_table::{Step, StepList};
+use pg_whole::large_plus;
+use std::alloc::AllocError;
+
+// The fitness that the next column is compared with.
+fn kept_fitness(style: &Style, fitness: u8) -> Option<u8>
+    ensures { result ≡ kept_fitness_of style.now fitness }
+{
+    if style.version == 1 {
+        None
+    } else {
+        Some(fitness)
+    }
+}
+
+// What a column of this fitness pays behind one of another.
+fn fitness_cost(style: &Style, last: Option<u8>, fitness: u8) -> u32
+    ensures { pos result ≡ fitness_cost_of style.now last fitness }
+{
+    match last {
+        Some(last) if last.abs_diff(fitness) > 1 => style.fitness,
+        _ => 0,
+    }
+}
+
+// What a page pays for its run.
+fn demerits_of(runs: &[Run], run: u8) -> u32
+    ensures { pos result ≡ option_map_or (λ it. pos it.demerits) (slice_get runs.now run) (pos 0) }
+{
+    match runs.get(run as usize) {
+        Some(run) => run.demerits,
+        None => 0,
+    }
+}
+
+// What the page of the next column pays for its run, where it is that page's first.
+fn run_price(style: &Style, state: &State, run: u8) -> u32
+    ensures { pos result ≡ (if state.now.column == 1 then run_demerits_of style.now run else pos 0) }
+{
+    if state.column == 1 {
+        demerits_of(style.runs.as_slice(), run)
+    } else {
+        0
+    }
+}
+
+// Whether the next column is its page's last.
+fn fills_page(style: &Style, state: &State) -> bool
+    ensures { result ≡ fills_page_of style.now state.now }
+{
+    state.column == style.columns
+}
+
+// The side of the next page.
+fn other_side(side: Side) -> Side
+    ensures { result ≡ other_side_of side }
+{
+    match side {
+        Side::L => Side::R,
+        Side::R => Side::L,
+        Side::S => Side::S,
+    }
+}
+
+// The run that the next page must have.
+fn kept_run(side: Side, run: u8) -> Option<u8>
+    ensures { result ≡ keeps_run side run }
+{
+    match side {
+        Side::L => Some(run),
+        _ => None,
+    }
+}
+
+// The state behind a column.
+fn state_behind(
+    style: &Style,
+    state: &State,
+    laid: &Laid,
+    to: Place,
+    fitness: Option<u8>,
+    ages: Ages,
+) -> Result<State, AllocError>
+    requires { state.now.column ≤ 2 }
+    ensures { IfOk result (λ it. it ≡ state_behind_of style.now state.now laid.now to fitness ages) }
+{
+    let placed = laid.after.copy()?;
+    if fills_page(style, state) {
+        Ok(State {
+            place: to,
+            column: 1,
+            side: other_side(state.side),
+            run: kept_run(state.side, laid.layout.run),
+            wide: None,
+            fitness,
+            placed,
+            ages,
+        })
+    } else {
+        Ok(State {
+            place: to,
+            column: state.column + 1,
+            side: state.side,
+            run: Some(laid.layout.run),
+            wide: laid.wide,
+            fitness,
+            placed,
+            ages,
+        })
+    }
+}
+
+// The column of text to an end.
+fn move_to(state: &State, laid: &Laid, end: &End) -> Result<PageMove, AllocError>
+    ensures { IfOk result (λ it. it ≡ move_of state.now laid.now.layout end.now.to end.now.picks) }
+{
+    Ok(PageMove {
+        column: Column {
+            from: state.place,
+            to: end.to,
+            top: laid.layout.top.copy()?,
+            bottom: laid.layout.bottom.copy()?,
+            picks: end.picks.copy()?,
+        },
+        run: laid.layout.run,
+        wide: laid.layout.wide.copy()?,
+    })
+}
+
+// What a column pays for its page's run and for its floats.
+fn page_price(style: &Style, state: &State, laid: &Laid, price: u128) -> i128
+    requires { price ≤ 2 ^ 51 }
+    ensures value { result ≡ page_price_of style.now state.now laid.now price }
+    ensures size { nat_abs result ≤ 2 ^ 52 }
+{
+    i128::from(run_price(style, state, laid.layout.run)) + price as i128
+}
+
+// What the text of a column costs.
+fn text_price(end: &End) -> i128
+    ensures value { result ≡ end.now.cost.demerits +ℤ end.now.pick_demerits }
+    ensures size { nat_abs result ≤ 2 ^ 65 }
+{
+    i128::from(end.cost.demerits) + i128::from(end.pick_demerits)
+}
+
+// What a column of this fitness pays behind one of another.
+fn fitness_price(style: &Style, last: Option<u8>, fitness: u8) -> i128
+    ensures value { result ≡ fitness_cost_of style.now last fitness }
+    ensures size { nat_abs result ≤ 2 ^ 32 }
+{
+    i128::from(fitness_cost(style, last, fitness))
+}
+
+// What the column of text to an end costs.
+fn cost_to(style: &Style, state: &State, laid: &Laid, end: &End, price: u128) -> i128
+    requires { price ≤ 2 ^ 51 }
+    ensures { result ≡ cost_at style.now state.now laid.now end.now price }
+{
+    large_plus(
+        text_price(end),
+        large_plus(
+            page_price(style, state, laid, price),
+            fitness_price(style, state.fitness, end.cost.fitness),
+        ),
+    )
+}
+
+// Whether an end is where the state is.
+fn ends_here(state: &State, end: &End) -> bool
+    ensures { result ≡ is_same_place state.now.place end.now.to }
+{
+    let from = state.place;
+    let to = end.to;
+    from.block == to.block && from.variant == to.variant && from.index == to.index
+}
+
+impl Sources<'_> {
+    // The step to an end.
+    fn step_to(
+        &self,
+        state: &State,
+        laid: &Laid,
+        end: &End,
+        settled: Settled,
+    ) -> Result<Step<State, PageMove>, AllocError>
+        requires own { IsState (doc_of self.now) state.now }
+        requires laid { laid.now ≡ laid_of (doc_of self.now) state.now laid.now.layout }
+        requires settled { Settles (doc_of self.now) state.now end.now.to laid.now.after (Some settled) }
+        ensures { IfOk result (λ step. step ≡ listed_end (doc_of self.now) state.now laid.now.layout end.now) }
+    {
+        let style = self.style;
+        let cost = cost_to(style, state, laid, end, settled.price);
+        let fitness = kept_fitness(style, end.cost.fitness);
+        Ok(Step {
+            to: state_behind(style, state, laid, end.to, fitness, settled.ages)?,
+            by: move_to(state, laid, end)?,
+            cost,
+        })
+    }
+
+    // Adds the step to an end, where no float is left too old there.
+    fn add_settled(
+        &self,
+        state: &State,
+        laid: &Laid,
+        end: &End,
+        settled: Option<Settled>,
+        steps: &mut StepList<State, PageMove>,
+    ) -> Result<(), AllocError>
+        requires own { IsState (doc_of self.now) state.now }
+        requires laid { laid.now ≡ laid_of (doc_of self.now) state.now laid.now.layout }
+        requires away { is_same_place state.now.place end.now.to ≡ false }
+        requires called { calls_all_of (doc_of self.now) end.now.to laid.now.after ≡ true }
+        requires settled { Settles (doc_of self.now) state.now end.now.to laid.now.after settled }
+        ensures { OnOk result (steps.new ≡ steps.old
+            ++ listed_with (doc_of self.now) state.now (λ layout. end.now ∷ []) laid.now.layout) }
+    {
+        match settled {
+            None => Ok(()),
+            Some(settled) => {
+                steps.push(self.step_to(state, laid, end, settled)?)?;
+                Ok(())
+            }
+        }
+    }
+
+    /// Adds the step to an end, where the column may end there.
+    pub fn add_step(
+        &self,
+        state: &State,
+        known: &Known,
+        laid: &Laid,
+        end: &End,
+        steps: &mut StepList<State, PageMove>,
+    ) -> Result<(), AllocError>
+        requires own { IsState (doc_of self.now) state.now }
+        requires known { known.now ≡ known_of (doc_of self.now) state.now }
+        requires laid { laid.now ≡ laid_of (doc_of self.now) state.now laid.now.layout }
+        ensures { OnOk result (steps.new ≡ steps.old
+            ++ listed_with (doc_of self.now) state.now (λ layout. end.now ∷ []) laid.now.layout) }
+    {
+        if ends_here(state, end) || !self.calls_all(end.to, laid.after.as_slice()) {
+            return Ok(());
+        }
+        let settled = self.settle(state, known, end.to, &laid.after)?;
+        self.add_settled(state, laid, end, settled, steps)
+    }
+
+    /// Adds the steps to the ends of a layout at which the column may end.
+    pub fn add_steps(
+        &self,
+        state: &State,
+        known: &Known,
+        laid: &Laid,
+        ends: &[End],
+        steps: &mut StepList<State, PageMove>,
+    ) -> Result<(), AllocError>
+        requires own { IsState (doc_of self.now) state.now }
+        requires known { known.now ≡ known_of (doc_of self.now) state.now }
+        requires laid { laid.now ≡ laid_of (doc_of self.now) state.now laid.now.layout }
+        ensures { OnOk result (steps.new ≡ steps.old
+            ++ listed_with (doc_of self.now) state.now (λ layout. ends.now) laid.now.layout) }
+    {
+        for end in ends {
+            self.add_step(state, known, laid, end, steps)?;
+        }
+        Ok(())
+    }
+}
