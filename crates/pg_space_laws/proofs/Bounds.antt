@@ -1,46 +1,53 @@
 -- The space of pages keeps the laws of a space, for each galley and style in range.
-use Rattle.std.proofs.Common.{◌≡◌, refl, sym, ap, subst, ℕ, zero, suc, ◌+◌, ◌*◌, ◌^◌, ◌≤◌, ◌<◌, inl, inr, List, [], ◌∷◌, map, length, Bool, true, false, Option, Some, None, arith}
-use Rattle.std.specs.Prelude.{cond, drop, ◌&&◌, ◌==◌, if◌then◌else◌, nat_abs, nat_le, ℤ}
+use Rattle.std.proofs.Common.{◌≡◌, refl, sym, ap, subst, ℕ, zero, suc, ◌+◌, ◌*◌, ◌^◌, ◌≤◌, ◌<◌, ◌⊎◌, inl, inr, List, [], ◌∷◌, map, length, Bool, true, false, Option, Some, None, arith}
+use Rattle.std.specs.Prelude.{cond, drop, ◌&&◌, ◌==◌, if◌then◌else◌, is_some, nat_abs, nat_le, option_map, slice_get, unwrap_or, ℤ}
 use Rattle.std.specs.List.{AllByRecursion, sum_by, range_with_len, filter}
 use Rattle.std.specs.Option.{option_map_or}
 use Rattle.std.proofs.lemmas.List.Sums.{sum_by-cons}
 use Rattle.pg_list.specs.Counts.{block_size, item_count}
 use Rattle.pg_list.specs.GalleyValue.{GalleyValue}
-use Rattle.pg_list.specs.Places.{picked_items}
+use Rattle.pg_list.specs.Places.{items_around, picked_items}
 use Rattle.pg_list.specs.Shapes.{IsBlock}
 use Rattle.pg_list.specs.declared.blocks.Block.{Block}
 use Rattle.pg_list.specs.declared.blocks.Block.TheVariants.{One, Choice}
 use Rattle.pg_list.specs.declared.galley.Place.{Place}
+use Rattle.pg_list.specs.declared.variants.Variant.{Variant}
 use Rattle.pg_plan.specs.declared.pages.PageMove.{PageMove}
+use Rattle.pg_plan.specs.declared.states.Side.TheVariants.{R}
 use Rattle.pg_plan.specs.declared.states.State.{State}
+use Rattle.pg_style.specs.declared.style.Run.{Run}
 use Rattle.pg_style.specs.Values.{StyleValue}
-use Rattle.pg_flat.specs.Flat.{blocks_at, flat, fronts, items_before}
+use Rattle.pg_flat.specs.Flat.{blocks_at, end_of, flat, fronts, is_same_place, items_before}
 use Rattle.pg_rules.specs.ColumnRules.{column_variants}
 use Rattle.pg_style.specs.declared.style.Area.{Area}
 use Rattle.pg_rules.specs.Floats.{float_class, entry, called, sizes_of, float_numbers, slots, total_count}
 use Rattle.pg_rules.specs.Follow.{Follow, age_in, context_in, next_state}
 use Rattle.pg_rules.specs.History.{placed_after}
 use Rattle.pg_rules.specs.Legal.{added, document}
-use Rattle.pg_rules.specs.NoWorse.{is_same_key}
+use Rattle.pg_rules.specs.NoWorse.{is_same_key, is_same_side}
 use Rattle.pg_rules.specs.Room.{Document, flat_items_of, size_of}
 use Rattle.pg_table.specs.Space.{Lawful}
 use Rattle.pg_rules.specs.IsState.{IsPlace, IsState}
 use Rattle.pg_place_laws.specs.Past.{IsPast, Past, far}
 use Rattle.pg_place_laws.proofs.Among.{Among, all_at}
 use Rattle.pg_place_laws.proofs.Callouts.{called_total}
-use Rattle.pg_place_laws.proofs.Measures.{block_inserts, far_rises, inserted_flat, past_within, place_within}
-use Rattle.pg_place_laws.proofs.Places.{begins}
+use Rattle.pg_place_laws.proofs.Measures.{block_at, block_inserts, far_rises, inserted_flat, past_within, place_within}
+use Rattle.pg_place_laws.proofs.Places.{around_block, around_is, begins}
 use Rattle.pg_place_laws.proofs.Steps.{far_within, fronts_few, index_within, steps_far}
 use Rattle.pg_rules.specs.Ranges.{AreInRange}
 use Rattle.pg_column_laws.proofs.StyleFacts.{tables_of}
 use Rattle.pg_bound_laws.proofs.Counts.{added_long, counts_few}
 use Rattle.pg_bound_laws.proofs.Owned.{own_next, own_start}
 use Rattle.pg_bound_laws.proofs.Prices.{cost_few, picked_limits}
-use Rattle.pg_space_laws.specs.PageSpace.{rank, wide_meaning}
-use Rattle.pg_space_laws.proofs.Rank.{onward, ranked, rises}
+use Rattle.pg_reach_laws.proofs.Next.{next_low, own_low}
+use Rattle.pg_space_laws.specs.PageSpace.{place_rank, rank, side_run, wide_meaning}
+use Rattle.pg_space_laws.proofs.Rank.{climbs_with, onward, ranked, ranks, weighs}
 use Rattle.pg_space_laws.proofs.SpaceLaws.{Moves, lawful}
 use Rattle.pg_lemmas.proofs.Bools.{both_of}
+use Rattle.pg_lemmas.proofs.Lists.{some_is}
 use Rattle.std.proofs.lemmas.Bool.{eqb-true, leb-true}
+use Rattle.std.proofs.lemmas.Option.{slice_get_within}
+use Rattle.pg_lemmas.proofs.Numbers.{suc_not}
 use Rattle.pg_list.proofs.Sizes.{picked_le}
 use Rattle.pg_flat.proofs.Places.{same_place}
 use Rattle.pg_place_laws.proofs.Sizes.{sizes_few}
@@ -123,11 +130,7 @@ module _ (g : GalleyValue) (s : StyleValue) (range : AreInRange g s) where
               let d : item_count g.blocks ≤ 1048576 = range.limit in
               omega arith
 
-  -- by block, and by index within a block
-  abbrev near : Place → ℕ
-  near at = 2 ^ 20 * at.block + at.index
-
-  index_few : (at : Place) → IsPlace g.blocks at → at.index < 1048576
+  pub index_few : (at : Place) → IsPlace g.blocks at → at.index < 1048576
   index_few at p = by at.index refl
     where
       by : (i : ℕ) → i ≡ at.index → i < 1048576
@@ -137,19 +140,52 @@ module _ (g : GalleyValue) (s : StyleValue) (range : AreInRange g s) where
           let d : item_count g.blocks ≤ 1048576 = range.limit in
           omega arith
 
-  near_climbs : (from to : Place) → IsPlace g.blocks from → IsPast g.blocks from to → near from < near to
-  near_climbs from to p q = by q.past
+  -- a place inside a choice is in one of its variants, and any other in variant 0
+  pub variant_few : (at : Place) → IsPlace g.blocks at → at.variant < 8
+  variant_few at p = by p.within
     where
-      by : Past from to → near from < near to
-      by (inl l) = let h : from.index < 1048576 = index_few from p in omega arith
-      by (inr r) = let e : from.block ≡ to.block = r.block in let h : from.index < to.index = r.index in
+      inside : (b : Block) (v i : ℕ) → IsBlock b → i < length (picked_items b v) → v < 8
+      inside (One item) zero i h k = omega arith
+      inside (One item) (suc v) i h k =
+          let z : length (picked_items (One item) (suc v)) ≡ 0 =
+          ap (λ (b : Bool). length (if b then item ∷ [] else [])) (suc_not v) in
+          absurd (omega (arith, k, z))
+      inside (Choice variants) v i h k = named (slice_get variants v) refl k
+        where
+          named : (o : Option Variant) → o ≡ slice_get variants v →
+              i < length (unwrap_or (option_map (λ (x : Variant). x.items) o) []) → v < 8
+          named None e k = absurd (omega arith)
+          named (Some x) e k = let l : v < length variants = slice_get_within variants v x (sym e) in
+              let f : length variants ≤ 5 = h.shape.few in omega arith
+
+      by : (is_same_place at (end_of g.blocks) ≡ true) ⊎ (at.index < length (items_around g.blocks at)) →
+          at.variant < 8
+      by (inl t) = let z : at.variant ≡ 0 = ap (λ (x : Place). x.variant) (same_place at (end_of g.blocks) t) in
           omega arith
+      by (inr k) =
+          let b = around_block g.blocks at (omega (arith, k)) in
+          let a : length (items_around g.blocks at) ≡ length (picked_items b.0 at.variant) =
+          ap length (around_is g.blocks b.0 at.block at.variant at.index b.1) in
+          inside b.0 at.variant at.index (block_at 0 g.blocks at.block b.0 range.blocks b.1) (omega (arith, k, a))
+
+  place_climbs : (from to : Place) → IsPlace g.blocks from → IsPast g.blocks from to → place_rank from < place_rank to
+  place_climbs from to p q = by q.past
+    where
+      variants : (i : ℕ) → i ≡ from.index → (0 < from.index → from.variant ≡ to.variant) → from.variant ≤ to.variant
+      variants zero e h = let z : from.variant ≡ 0 = p.front (sym e) in omega arith
+      variants (suc i) e h = let z : from.variant ≡ to.variant = h (omega (arith, e)) in omega arith
+
+      by : Past from to → place_rank from < place_rank to
+      by (inl l) = let h : from.index < 1048576 = index_few from p in let v : from.variant < 8 = variant_few from p in
+          omega arith
+      by (inr r) = let e : from.block ≡ to.block = r.block in let h : from.index < to.index = r.index in
+          let v : from.variant ≤ to.variant = variants from.index refl r.variant in omega arith
 
   far_climbs : (from to : Place) → IsPlace g.blocks from → IsPast g.blocks from to →
       far g.blocks from < far g.blocks to
   far_climbs from to p q = far_rises g.blocks from to p q (past_within g.blocks from to q)
 
-  blocks_few : (blocks : List Block) → AllByRecursion IsBlock blocks → length blocks ≤ item_count blocks
+  pub blocks_few : (blocks : List Block) → AllByRecursion IsBlock blocks → length blocks ≤ item_count blocks
   blocks_few [] a = omega arith
   blocks_few (b ∷ blocks) a =
       let r : length blocks ≤ item_count blocks = blocks_few blocks a.1 in
@@ -165,18 +201,38 @@ module _ (g : GalleyValue) (s : StyleValue) (range : AreInRange g s) where
           picked_le (Choice variants) 0 in
           omega arith
 
-  rank_low : (u : State) → IsState (document g s) u → rank (document g s) u < 2 ^ 64
+  pub side_run_few : (u : State) → IsState (document g s) u → side_run u < 16
+  side_run_few u own = by u.run (is_same_side u.side R) own.run
+    where
+      by : (o : Option ℕ) (b : Bool) → option_map_or (λ (run : ℕ). is_some (slice_get s.runs run)) o true ≡ true →
+          2 * option_map_or (λ (run : ℕ). run + 1) o 0 + (if b then 1 else 0) < 16
+      by None true t = omega arith
+      by None false t = omega arith
+      by (Some run) b t = last b (few (some_is (slice_get s.runs run) t))
+        where
+          few : (r : Run) × (slice_get s.runs run ≡ Some r) → run < 5
+          few (r, e) = let l : run < length s.runs = slice_get_within s.runs run r e in
+              let f : length s.runs ≤ 5 = range.style_in.runs_in.few in omega arith
+
+          last : (b : Bool) → run < 5 → 2 * (run + 1) + (if b then 1 else 0) < 16
+          last true h = omega arith
+          last false h = omega arith
+
+  pub rank_low : (u : State) → IsState (document g s) u → rank (document g s) u < 2 ^ 64
   rank_low u own =
       let a : u.place.index < 1048576 = index_few u.place own.place in
+      let v : u.place.variant < 8 = variant_few u.place own.place in
       let b : u.place.block ≤ length g.blocks = place_within g.blocks u.place own.place in
       let c : length g.blocks ≤ item_count g.blocks = blocks_few g.blocks range.blocks in
       let d : item_count g.blocks ≤ 1048576 = range.limit in
       let e : total_count u.placed ≤ 1048576 * 255 = placed_few u own in
-      last (u.column == 1) (1048576 * u.place.block + u.place.index + total_count u.placed) (omega arith)
+      let f : side_run u < 16 = side_run_few u own in
+      last (u.column == 1) (place_rank u.place) (total_count u.placed) (side_run u) (omega arith) (omega arith) f
     where
-      last : (b : Bool) (n : ℕ) → n < 2 ^ 41 → 2 * n + (if b then 1 else 0) < 2 ^ 64
-      last true n h = omega arith
-      last false n h = omega arith
+      last : (b : Bool) (x p r : ℕ) → x < 2 ^ 44 → p < 2 ^ 28 → r < 16 →
+          2 ^ 18 * x + 32 * p + (if b then 16 else 0) + r < 2 ^ 64
+      last true x p r h i k = omega arith
+      last false x p r h i k = omega arith
 
   weight_low : (u : State) → IsState (document g s) u → ranked (far g.blocks) u < 2 ^ 30
   weight_low u own =
@@ -236,7 +292,8 @@ module _ (g : GalleyValue) (s : StyleValue) (range : AreInRange g s) where
 
   heavier : (u : State) (m : PageMove) (v : State) (c : ℤ) → IsState (document g s) u →
       Follow (document g s) u m v c → ranked (far g.blocks) u < ranked (far g.blocks) v
-  heavier = rises (document g s) range.blocks range.style_in.columns_to (far g.blocks) far_climbs
+  heavier u m v c own f = weighs (far g.blocks) u v
+      (climbs_with (document g s) range.blocks range.style_in.columns_to (far g.blocks) far_climbs u m v c own f)
 
   cheap : (u : State) (m : PageMove) (v : State) (c : ℤ) → IsState (document g s) u →
       Follow (document g s) u m v c →
@@ -272,9 +329,11 @@ module _ (g : GalleyValue) (s : StyleValue) (range : AreInRange g s) where
   moves = record {
     start = own_start (document g s) range.blocks range.style_in;
     own = own_next (document g s) range.blocks range.style_in;
-    rises = rises (document g s) range.blocks range.style_in.columns_to near near_climbs;
+    rises = λ u m v c own f. ranks (document g s) u v (climbs_with (document g s) range.blocks
+        range.style_in.columns_to place_rank place_climbs u m v c own f) (side_run_few u own);
     onward = onward (document g s) range.blocks;
-    within = λ u own. place_within g.blocks u.place own.place;
+    reach_own = own_low (document g s) range.blocks range.style_in;
+    reach_next = next_low (document g s) range.blocks range.style_in;
     low = rank_low;
     weight = ranked (far g.blocks);
     light = weight_low;

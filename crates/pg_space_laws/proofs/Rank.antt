@@ -1,6 +1,6 @@
 -- The rank rises with each column.
 use Rattle.std.proofs.Common.{◌≡◌, refl, sym, ap, subst, ◌∙◌, ℕ, ◌+◌, ◌*◌, ◌≤◌, ◌<◌, ◌⊎◌, inl, inr, length, Bool, true, false, Option, None, arith}
-use Rattle.std.specs.Prelude.{ℤ, ◌&&◌, ◌||◌, ◌==◌, not, nat_lt, if◌then◌else◌, is_some}
+use Rattle.std.specs.Prelude.{ℤ, ◌&&◌, ◌==◌, not, nat_lt, if◌then◌else◌, is_some}
 use Rattle.std.specs.List.{AllByRecursion}
 use Rattle.pg_list.specs.declared.galley.Place.{Place}
 use Rattle.pg_list.specs.Shapes.{IsBlock}
@@ -18,6 +18,7 @@ use Rattle.pg_place_laws.proofs.Tests.{place_refl}
 use Rattle.pg_beginning_laws.proofs.PagesLaws.{wide_long}
 use Rattle.pg_bound_laws.proofs.Counts.{after_total, float_total}
 use Rattle.pg_rules.specs.Room.{Document, is_text, is_top_allowed, is_bottom_allowed}
+use Rattle.pg_space_laws.specs.PageSpace.{place_rank, rank, side_run}
 use Rattle.pg_lemmas.proofs.Bools.{both_of, or_cases, by_bool, if_false, if_true}
 use Rattle.std.proofs.lemmas.Bool.{eqb-true}
 use Rattle.pg_lemmas.proofs.Numbers.{eq_refl, less_true}
@@ -38,9 +39,53 @@ last_step false true x y p q h = omega arith
 last_step true b' x y p q h = absurd cc
 last_step false false x y p q h = absurd cc
 
--- the rank by a measure of places
+-- a measure of the place, the floats that are placed, or else the column rises
+pub record Climbs (F : Place → ℕ) (u v : State) : Type 0 where
+  pub place : F u.place ≤ F v.place
+  pub placed : total_count u.placed ≤ total_count v.placed
+  pub more : (F u.place + total_count u.placed < F v.place + total_count v.placed)
+      ⊎ (((u.column == 1) ≡ false) × ((v.column == 1) ≡ true))
+
+-- a weight by a measure of places
 abbrev pub ranked : (Place → ℕ) → State → ℕ
 ranked F u = 2 * (F u.place + total_count u.placed) + (if u.column == 1 then 1 else 0)
+
+pub weighs : (F : Place → ℕ) (u v : State) → Climbs F u v → ranked F u < ranked F v
+weighs F u v c = by c.more
+  where
+    by : (F u.place + total_count u.placed < F v.place + total_count v.placed)
+        ⊎ (((u.column == 1) ≡ false) × ((v.column == 1) ≡ true)) → ranked F u < ranked F v
+    by (inl h) = rank_step (u.column == 1) (v.column == 1) (F u.place + total_count u.placed)
+        (F v.place + total_count v.placed) h
+    by (inr (p, q)) =
+        let k : F u.place ≤ F v.place = c.place in
+        let l : total_count u.placed ≤ total_count v.placed = c.placed in
+        last_step (u.column == 1) (v.column == 1) (F u.place + total_count u.placed)
+        (F v.place + total_count v.placed) p q (omega arith)
+
+-- what is below 16 is of no account where something above it rises
+digit_step : (b b' : Bool) (x y p q s t : ℕ) → x ≤ y → p ≤ q → x + p < y + q → s < 16 →
+    262144 * x + 32 * p + (if b then 16 else 0) + s < 262144 * y + 32 * q + (if b' then 16 else 0) + t
+digit_step true true x y p q s t h i j k = omega arith
+digit_step true false x y p q s t h i j k = omega arith
+digit_step false true x y p q s t h i j k = omega arith
+digit_step false false x y p q s t h i j k = omega arith
+
+digit_last : (b b' : Bool) (x y p q s t : ℕ) → b ≡ false → b' ≡ true → x ≤ y → p ≤ q → s < 16 →
+    262144 * x + 32 * p + (if b then 16 else 0) + s < 262144 * y + 32 * q + (if b' then 16 else 0) + t
+digit_last false true x y p q s t e f h i k = omega arith
+digit_last true b' x y p q s t e f h i k = absurd cc
+digit_last false false x y p q s t e f h i k = absurd cc
+
+pub ranks : (doc : Document) (u v : State) → Climbs place_rank u v → side_run u < 16 → rank doc u < rank doc v
+ranks doc u v c few = by c.more
+  where
+    by : (place_rank u.place + total_count u.placed < place_rank v.place + total_count v.placed)
+        ⊎ (((u.column == 1) ≡ false) × ((v.column == 1) ≡ true)) → rank doc u < rank doc v
+    by (inl h) = digit_step (u.column == 1) (v.column == 1) (place_rank u.place) (place_rank v.place)
+        (total_count u.placed) (total_count v.placed) (side_run u) (side_run v) c.place c.placed h few
+    by (inr (p, q)) = digit_last (u.column == 1) (v.column == 1) (place_rank u.place) (place_rank v.place)
+        (total_count u.placed) (total_count v.placed) (side_run u) (side_run v) p q c.place c.placed few
 
 module _ (doc : Document) (blocks : AllByRecursion IsBlock doc.blocks) (few : doc.style.columns ≤ 2)
     (F : Place → ℕ) (climbs : (from to : Place) → IsPlace doc.blocks from → IsPast doc.blocks from to →
@@ -66,9 +111,9 @@ module _ (doc : Document) (blocks : AllByRecursion IsBlock doc.blocks) (few : do
       not_text true t s = absurd cc
       not_text false t s = absurd cc
 
-  pub rises : (u : State) (m : PageMove) (v : State) (c : ℤ) → IsState doc u → Follow doc u m v c →
-      ranked F u < ranked F v
-  rises u m v c own f = subst (λ (x : State). ranked F u < ranked F x) (sym f.leads)
+  pub climbs_with : (u : State) (m : PageMove) (v : State) (c : ℤ) → IsState doc u → Follow doc u m v c →
+      Climbs F u v
+  climbs_with u m v c own f = subst (Climbs F u) (sym f.leads)
       (by_bool (is_text (context_in doc u m)) with_text without)
     where
       counts : (length m.column.top ≡ length (float_numbers doc.style))
@@ -98,14 +143,13 @@ module _ (doc : Document) (blocks : AllByRecursion IsBlock doc.blocks) (few : do
       le = moved.0
 
       up : F u.place + total_count u.placed < F m.column.to
-          + total_count (placed_after doc.style u.placed m) → ranked F u < ranked F (next_state doc u m)
-      up h = rank_step (u.column == 1) ((next_state doc u m).column == 1) (F u.place + total_count u.placed)
-          (F m.column.to + total_count (placed_after doc.style u.placed m)) h
+          + total_count (placed_after doc.style u.placed m) → Climbs F u (next_state doc u m)
+      up h = record { place = le; placed = omega (arith, sum); more = inl h }
 
-      with_text : is_text (context_in doc u m) ≡ true → ranked F u < ranked F (next_state doc u m)
+      with_text : is_text (context_in doc u m) ≡ true → Climbs F u (next_state doc u m)
       with_text t = let h : F u.place < F m.column.to = moved.1 t in up (omega (arith, sum))
 
-      idle : is_some (wide_in doc u m) ≡ true → ranked F u < ranked F (next_state doc u m)
+      idle : is_some (wide_in doc u m) ≡ true → Climbs F u (next_state doc u m)
       idle i = by_bool (u.column == 1)
           (λ t. (let made : is_some (made_wide doc u.placed m.wide) ≡ true =
           subst (λ (o : Option ℤ). is_some o ≡ true)
@@ -124,7 +168,7 @@ module _ (doc : Document) (blocks : AllByRecursion IsBlock doc.blocks) (few : do
               if_false (nat_lt 0 (float_count doc.style m.wide)) _ None (sym e) in
               let y : is_some (made_wide doc u.placed m.wide) ≡ false = ap is_some z in absurd cc
 
-          second : (u.column == 1) ≡ false → ranked F u < ranked F (next_state doc u m)
+          second : (u.column == 1) ≡ false → Climbs F u (next_state doc u m)
           second n =
               let not_one : u.column ≡ 1 → ⊥ =
               λ e. (let t : (u.column == 1) ≡ true = subst (λ (z : ℕ). (z == 1) ≡ true) (sym e) refl in
@@ -139,11 +183,9 @@ module _ (doc : Document) (blocks : AllByRecursion IsBlock doc.blocks) (few : do
               if_true (u.column == doc.style.columns) 1 (u.column + 1) t in
               let one : ((next_state doc u m).column == 1) ≡ true =
               subst (λ (z : ℕ). (z == 1) ≡ true) (sym first) refl in
-              last_step (u.column == 1) ((next_state doc u m).column == 1) (F u.place + total_count u.placed)
-              (F m.column.to + total_count (placed_after doc.style u.placed m)) n one
-              (omega (arith, sum, le))
+              record { place = le; placed = omega (arith, sum); more = inr (n, one) }
 
-      without : is_text (context_in doc u m) ≡ false → ranked F u < ranked F (next_state doc u m)
+      without : is_text (context_in doc u m) ≡ false → Climbs F u (next_state doc u m)
       without n =
           let form = both_of (length m.column.picks == 0) _
           (sym (if_false (is_text (context_in doc u m)) _ _ n) ∙ f.stands.rules.well_formed) in

@@ -14,6 +14,7 @@ use Rattle.pg_rules.specs.IsState.{IsState}
 use Rattle.pg_column_laws.specs.FollowsToo.{FollowsToo}
 use Rattle.pg_beginning_laws.proofs.Order.{columns_total}
 use Rattle.pg_column_laws.proofs.Simulation.{Tables, key_refl, key_same, no_older_chain, no_older_refl, simulates, with_ages}
+use Rattle.pg_reach_laws.specs.ReachAt.{reach_at}
 use Rattle.pg_space_laws.specs.PageSpace.{rank, wide_meaning}
 use Rattle.pg_lemmas.proofs.Bools.{both_of, both}
 use Rattle.pg_plan.proofs.OrderLaws.{column_equal}
@@ -26,7 +27,9 @@ pub record Moves (doc : Document) : Type 0 where
       rank doc u < rank doc v
   pub onward : (u : State) (m : PageMove) (v : State) (c : ℤ) → IsState doc u → Follow doc u m v c →
       u.place.block ≤ v.place.block
-  pub within : (u : State) → IsState doc u → u.place.block ≤ length doc.blocks
+  pub reach_own : (u : State) → IsState doc u → u.place.block + 1 ≤ reach_at doc u.place
+  pub reach_next : (u : State) (m : PageMove) (v : State) (c : ℤ) → IsState doc u → Follow doc u m v c →
+      v.place.block + 1 ≤ reach_at doc u.place
   pub low : (u : State) → IsState doc u → rank doc u < 2 ^ 64
   -- a measure that each move raises, by so much at least for what it costs
   pub weight : State → ℕ
@@ -103,9 +106,8 @@ module _ (doc : Document) (tables : Tables doc) (moves : Moves doc) where
     order_equal = column_equal;
     order_total = columns_total;
     onward = moves.onward;
-    reach_own = λ u o. (let h : u.place.block ≤ length doc.blocks = moves.within u o in omega arith);
-    reach_next = λ u m v c o f. (let h : v.place.block ≤ length doc.blocks =
-        moves.within v (moves.own u m v c o f) in omega arith);
+    reach_own = moves.reach_own;
+    reach_next = moves.reach_next;
     small_move = λ u m v c o f. (let h : nat_abs c + 1000000000 * moves.weight u ≤ 1000000000 * moves.weight
         v = moves.cheap u m v c o f in
         small_from c (moves.weight v) (omega arith) (moves.light v (moves.own u m v c o f)));

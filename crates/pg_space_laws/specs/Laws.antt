@@ -1,5 +1,5 @@
 -- What a table of pages says of all paginations, in the words of its contracts.
-use Rattle.std.specs.Prelude.{◌≡◌, true, ℕ, Some, List, ◌∷◌, map, slice_get, ℤ}
+use Rattle.std.specs.Prelude.{◌≡◌, ◌<◌, ◌^◌, true, ℕ, Some, List, ◌∷◌, map, slice_get, ℤ}
 use Rattle.std.specs.List.Sorted.{IsPermutation, IsSortedByKey}
 use Rattle.pg_list.specs.GalleyValue.{GalleyValue}
 use Rattle.pg_plan.specs.declared.pages.PageMove.{PageMove}
@@ -15,6 +15,7 @@ use Rattle.pg_rules.specs.History.{column_fitness}
 use Rattle.pg_rules.specs.Room.{is_text}
 use Rattle.pg_rules.specs.Frontier.{Better, Frontier, state_cmp}
 use Rattle.pg_rules.specs.Legal.{Legal, document}
+use Rattle.pg_rules.specs.IsState.{IsState}
 use Rattle.pg_rules.specs.States.{Prefix, state_of}
 use Rattle.pg_table.specs.Label.{RunOf, IsBestOf, NoneDone}
 use Rattle.pg_table.specs.Narrower.{BetteredBy, Instead}
@@ -22,7 +23,7 @@ use Rattle.pg_table.specs.Space.{IsRun, Reached, Run}
 use Rattle.pg_table.specs.declared.table.Entry.{Entry}
 use Rattle.pg_beginning_laws.specs.Pages.{plan_of}
 use Rattle.pg_rules.specs.BestPicks.{repicked}
-use Rattle.pg_space_laws.specs.PageSpace.{FollowBest, page_meaning, wide_meaning}
+use Rattle.pg_space_laws.specs.PageSpace.{FollowBest, page_meaning, rank, wide_meaning}
 
 -- the pagination that fills its pages with these columns is a beginning with this state and cost
 pub record IsBeginningOf (galley : GalleyValue) (style : StyleValue) (ms : List PageMove) (v : State)
@@ -31,6 +32,10 @@ pub record IsBeginningOf (galley : GalleyValue) (style : StyleValue) (ms : List 
   pub prefix : Prefix galley style (plan_of style ms)
   pub state : state_of galley style (plan_of style ms) ≡ v
   pub cost : cost galley style (plan_of style ms) ≡ c
+
+-- the rank of each state is below 2 ^ 64
+abbrev pub RanksFit : GalleyValue → StyleValue → Type 0
+RanksFit galley style = (u : State) → IsState (document galley style) u → rank (document galley style) u < 2 ^ 64
 
 -- each run of columns is a beginning
 abbrev pub RunsAreBeginnings : GalleyValue → StyleValue → Type 0

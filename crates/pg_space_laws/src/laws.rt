@@ -11,7 +11,7 @@ ghost use Rattle.pg_table.specs.Narrower.{Instead, BetteredBy, IsNarrower};
 ghost use Rattle.pg_table.specs.Space.{Lawful, Reached, IsRun};
 ghost use Rattle.pg_table.specs.declared.table.Entry.{Entry};
 ghost use Rattle.pg_rules.specs.Ranges.{AreInRange};
-ghost use Rattle.pg_space_laws.specs.Laws.{BestPicksAreOne, BestPicksBetter, BestPicksStandIn, RunsAreBeginnings, BeginningsAreRuns, BetterGoOn, TellsAll};
+ghost use Rattle.pg_space_laws.specs.Laws.{BestPicksAreOne, BestPicksBetter, BestPicksStandIn, RanksFit, RunsAreBeginnings, BeginningsAreRuns, BetterGoOn, TellsAll};
 ghost use Rattle.pg_space_laws.specs.PageSpace.{FollowBest, wide_meaning, page_meaning};
 
 use pg_list::Galley;
@@ -23,6 +23,12 @@ pub fn pages_are_a_space(galley: &Galley, style: &Style)
     requires { AreInRange galley.now style.now }
     ensures wide { Lawful is_same_key (wide_meaning (document galley.now style.now)) }
     ensures best { Lawful is_same_key (page_meaning (document galley.now style.now)) }
+{}
+
+/// The rank of a state is below 2^64, and so is each number that is added up in it.
+pub fn ranks_fit(galley: &Galley, style: &Style)
+    requires { AreInRange galley.now style.now }
+    ensures { RanksFit galley.now style.now }
 {}
 
 /// The runs of the space with every column are the beginnings of paginations, with their states

@@ -75,7 +75,7 @@ fn greatest_extra(runs: &[Run]) -> i32
 }
 
 // The room of the tallest run.
-fn tallest(style: &Style) -> i64
+pub(crate) fn tallest(style: &Style) -> i64
     ensures { result ≡ tallest_of style.now }
 {
     i64::from(style.height) + i64::from(greatest_extra(style.runs.as_slice()))
