@@ -123,7 +123,8 @@ opened galley style u ceiling mid new listed reach own e text is =
     (reach u own)) text.are)
 
 -- a walk that tells a reach tells the one
-pub on_reach : {E : Type 0} (doc : Document) (from : Place) (r : Result ℕ E) → IsTheReach doc →
-    IsPlace doc.blocks from → IfOk r (IsReach doc from) → IfOk r (λ reach. reach ≡ reach_at doc from)
-on_reach doc from (Err e) law place h = tt
-on_reach doc from (Ok n) law place h = (law from place).1 n h
+pub on_reach : {V E : Type 0} (reach : V → ℕ) (doc : Document) (from : Place) (r : Result V E) → IsTheReach doc →
+    IsPlace doc.blocks from → IfOk r (λ walk. IsReach doc from (reach walk)) →
+    IfOk r (λ walk. reach walk ≡ reach_at doc from)
+on_reach reach doc from (Err e) law place h = tt
+on_reach reach doc from (Ok walk) law place h = (law from place).1 (reach walk) h

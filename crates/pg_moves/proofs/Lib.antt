@@ -7,3 +7,4 @@ pub mod RoomLists
 pub mod Settles
 pub mod Standing
 pub mod Stepped
+pub mod Tallest
