@@ -24,7 +24,7 @@ no_height = record { from = omega (arith, ints); to = omega arith }
 
 module _ (blocks : List Block) (all : AllByRecursion IsBlock blocks) (style : StyleValue) (takes : Area → Bool)
     (limit : ℕ) (rule : AreaRuleValue) (placed counts : List ℕ) where
-  few_dealt : limit ≤ 4 → is_area_allowed style takes limit counts ≡ true →
+  pub few_dealt : limit ≤ 4 → is_area_allowed style takes limit counts ≡ true →
       length (dealt (floats blocks style) placed counts) ≤ 4
   few_dealt h e =
       let p = both_of ((length counts == length (float_numbers style)) && nat_le (total_count counts) limit) _ e in
