@@ -14,7 +14,7 @@ use std::alloc::AllocError;
 
 impl Sources<'_> {
     /// The layouts of the columns of text behind a state, with counts up to a ceiling.
-    pub fn lay_texts(&self, state: &State, ceiling: &[u16]) -> Result<Vec<Laid>, AllocError>
+    pub(crate) fn lay_texts(&self, state: &State, ceiling: &[u16]) -> Result<Vec<Laid>, AllocError>
         requires own { IsState (doc_of self.now) state.now }
         requires ceiling { HasSoMany (doc_of self.now) ceiling.now }
         ensures laid { IfOk result (λ laid. laid.items
@@ -26,7 +26,7 @@ impl Sources<'_> {
     }
 
     /// The layouts of the columns without text behind a state, with counts up to a ceiling.
-    pub fn lay_floats(&self, state: &State, ceiling: &[u16]) -> Result<Vec<Laid>, AllocError>
+    pub(crate) fn lay_floats(&self, state: &State, ceiling: &[u16]) -> Result<Vec<Laid>, AllocError>
         requires own { IsState (doc_of self.now) state.now }
         requires ceiling { HasSoMany (doc_of self.now) ceiling.now }
         ensures laid { IfOk result (λ laid. laid.items

@@ -165,7 +165,7 @@ impl Sources<'_> {
     }
 
     /// Adds the steps of columns without text in these layouts.
-    pub fn add_stays(
+    pub(crate) fn add_stays(
         &self,
         state: &State,
         known: &Known,
