@@ -10,8 +10,8 @@ returns-in-None c = not_stayed (doc_of c.args.self.now) c.args.state.now c.args.
     (subst (Settles (doc_of c.args.self.now) c.args.state.now c.args.state.now.place c.args.laid.now.after) c.in-None.is
     c.requires.settled)
 
-pub returns-in-Some : goal.returns-in-Some
-returns-in-Some c = stayed (doc_of c.args.self.now) c.args.state.now c.args.laid.now c.requires.laid c.args.steps.now
-    c.push.new.self c.in_ok-step_of.field-0 c.requires.stands
+pub returns-in_ok-push-in-Some : goal.returns-in_ok-push-in-Some
+returns-in_ok-push-in-Some c = stayed (doc_of c.args.self.now) c.args.state.now c.args.laid.now c.requires.laid
+    c.args.steps.now c.push.new.self c.in_ok-step_of-in-Some.field-0 c.requires.stands
     (subst (Settles (doc_of c.args.self.now) c.args.state.now c.args.state.now.place c.args.laid.now.after) c.in-Some.is
-    c.requires.settled).0 c.in_ok-step_of.ensures (search rules)
+    c.requires.settled).0 c.in_ok-step_of-in-Some.ensures (search rules)
