@@ -1,6 +1,6 @@
 -- The steps of all columns.
 use Rattle.std.proofs.Common.{◌≡◌, refl, sym, ap, subst, ◌∙◌, List, [], ◌∷◌, ◌++◌, map, Bool, true, false, ℤ, inl, inr, ◌<◌, ◌^◌, ℕ}
-use Rattle.std.specs.Prelude.{Contains, nat_abs, if◌then◌else◌, Result, Ok, Err, IfOk}
+use Rattle.std.specs.Prelude.{Contains, nat_abs, if◌then◌else◌, Result, Ok, Err, IfOk, IsErr, OnOk}
 use Rattle.std.specs.List.{AllByRecursion, filter, flat_map}
 use Rattle.pg_list.specs.GalleyValue.{GalleyValue}
 use Rattle.pg_list.specs.declared.galley.Place.{Place}
@@ -128,3 +128,8 @@ pub on_reach : {V E : Type 0} (reach : V → ℕ) (doc : Document) (from : Place
     IfOk r (λ walk. reach walk ≡ reach_at doc from)
 on_reach reach doc from (Err e) law place h = tt
 on_reach reach doc from (Ok walk) law place h = (law from place).1 (reach walk) h
+
+-- what holds at a success need not be shown at a failure
+pub at_err : {T E P Q : Type 0} (r : Result T E) → IsErr r × Q → OnOk r P
+at_err (Ok x) h = absurd h.0
+at_err (Err e) h = tt

@@ -9,6 +9,7 @@ ghost use Rattle.pg_space_laws.specs.PageSpace.{page_meaning};
 ghost use Rattle.pg_table.specs.Label.{IsBestOf, IsTable};
 ghost use Rattle.pg_space.specs.Solves.{HasFrontier, Solves, TakesSteps};
 
+use crate::kept::{Document, KeptPages};
 use crate::runs::moves_of;
 use crate::space::PageSpace;
 use pg_floats::FloatList;
@@ -18,6 +19,7 @@ use pg_steps::Steps;
 use pg_style::Style;
 use pg_table::{Entry, Table};
 use std::alloc::{AllocError, Global};
+use std::marker::Brand;
 use std::sync::ledger::Ledger;
 
 /// The best pagination of a galley with its cost, or that none is legal.
@@ -63,10 +65,28 @@ pub fn solve_counted<L: Ledger>(
     ensures labels { IfOk result (λ it. HasFrontier galley.now style.now it.labels) }
     ensures steps { IfOk result (λ it. TakesSteps galley.now style.now steps.old steps.new) }
 {
-    let space = PageSpace::new(alloc, galley, style, floats);
+    solve_kept::<Brand, L>(alloc, galley, style, floats, steps)
+}
+
+// The same of one document, where states of one place share a walk.
+fn solve_kept<D: Document, L: Ledger>(
+    alloc: Global,
+    galley: &Galley,
+    style: &Style,
+    floats: &FloatList,
+    steps: &mut Steps<L>,
+) -> Result<Counted, AllocError>
+    requires floats { AreFloats galley.now.blocks style.now floats.now }
+    requires galley { galley.now ≡ D.galley }
+    requires style { style.now ≡ D.style }
+    ensures solves { IfOk result (λ it. Solves galley.now style.now it.outcome) }
+    ensures labels { IfOk result (λ it. HasFrontier galley.now style.now it.labels) }
+    ensures steps { IfOk result (λ it. TakesSteps galley.now style.now steps.old steps.new) }
+{
+    let space = KeptPages::<D>::new(alloc, galley, style, floats);
     let mut table = Table::new(alloc);
     table.fill(&space, steps)?;
-    read_table(alloc, &space, &table)
+    read_table(alloc, &space.pages, &table)
 }
 
 // What a filled table tells.

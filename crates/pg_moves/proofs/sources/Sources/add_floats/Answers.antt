@@ -6,7 +6,7 @@ use Rattle.pg_table.specs.declared.step.Step.{Step}
 use Rattle.pg_moves.specs.Laid.{HasSoMany, doc_of}
 use Rattle.pg_moves.specs.declared.laid.Laid.{Laid}
 use Rattle.pg_moves.specs.declared.settling.Known.{Known}
-use Rattle.pg_moves.proofs.AllSteps.{floats_are}
+use Rattle.pg_moves.proofs.AllSteps.{at_err, floats_are}
 use Rattle.pg_moves.proofs.Dealt.{called_has}
 use Rattle.pg_moves.proofs.sources.Sources.add_floats.Goals as goal
 
@@ -26,3 +26,6 @@ returns c = subst (λ (more : List (Step State PageMove)). OnOk c.add_stays.resu
     (c.as_slice-laid.ensures.value ∙ c.in_ok-layouts.ensures.laid)
     (c.as_slice.ensures ∙ ap (λ (it : Known). it.called) c.requires.known))
     c.add_stays.ensures
+
+pub returns-in_err-layouts : goal.returns-in_err-layouts
+returns-in_err-layouts c = at_err c.from_residual.result c.from_residual.ensures

@@ -1,5 +1,6 @@
 use Rattle.std.proofs.Common.{◌≡◌, subst, sym, List, ℕ}
 use Rattle.pg_moves.specs.Laid.{HasSoMany, doc_of}
+use Rattle.pg_move_laws.specs.Listed.{beyond}
 use Rattle.pg_moves.proofs.AllSteps.{opened}
 use Rattle.pg_moves.proofs.Dealt.{called_has}
 use Rattle.pg_moves.proofs.sources.Sources.open_by.Goals as goal
@@ -9,7 +10,8 @@ listed_steps_are_moves-requires c = c.args.self.now.in_range
 
 pub text_steps-requires-clause-ceiling : goal.text_steps-requires-clause-ceiling
 text_steps-requires-clause-ceiling c = subst (HasSoMany (doc_of c.args.self.now)) (sym c.in_ok-ceiling.ensures)
-    (called_has (doc_of c.args.self.now) c.args.self.now.in_range.blocks _)
+    (called_has (doc_of c.args.self.now) c.args.self.now.in_range.blocks
+    (beyond (doc_of c.args.self.now) c.args.state.now.place))
 
 pub returns-clause-moves : goal.returns-clause-moves
 returns-clause-moves c = λ found. opened c.args.self.now.galley.now c.args.self.now.style.now c.args.state.now
