@@ -1,1 +1,2 @@
 pub mod FirstState
+pub mod Sums
