@@ -9,8 +9,8 @@ use Rattle.pg_states.proofs.ages.count_all_waiting.Goals as goal
 pub loop-slot-preserved : goal.loop-slot-preserved
 loop-slot-preserved c = (
   total_next (waits_in (doc_of c.args.sources.now) c.args.state.now) c.loop-slot.slot c.loop-slot.count
-      c.count_waiting.result c.loop-slot.invariant.0 c.count_waiting.ensures.value,
-  omega (arith, c.loop-slot.invariant.1, c.count_waiting.ensures.few),
+      c.count_waiting-count.result c.loop-slot.invariant.0 c.count_waiting-count.ensures.value,
+  omega (arith, c.loop-slot.invariant.1, c.count_waiting-count.ensures.few),
 )
 
 pub returns : goal.returns
