@@ -53,7 +53,7 @@ few_called items (x ∷ xs) zero few = few.0
 few_called items (x ∷ xs) (suc slot) few = few_called items xs slot few.1
 
 module _ (doc : Document) where
-  total : List ℕ
+  abbrev total : List ℕ
   total = called doc.blocks doc.style (end_of doc.blocks)
 
   whole : total ≡ map (λ (number : ℕ). length (sizes_of number (flat doc.blocks []))) (float_numbers doc.style)
