@@ -18,6 +18,7 @@ use pg_areas::slots_of;
 use pg_floats::FloatList;
 use pg_list::{Galley, Place};
 use pg_plan::{Counts, Pagination};
+use pg_remains::{has_dealt_all, is_spent_at};
 use pg_style::Style;
 use std::alloc::Global;
 
