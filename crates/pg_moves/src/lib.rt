@@ -22,6 +22,7 @@ mod stays;
 mod steps;
 mod texts;
 
+pub use ages::{behind, front};
 pub use laid::Laid;
 pub use rooms::{ends_at, rooms_of};
 pub use settling::{Known, Settled};

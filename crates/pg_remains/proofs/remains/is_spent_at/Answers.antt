@@ -1,7 +1,7 @@
 use Rattle.std.proofs.Common.{[]}
 use Rattle.pg_flat.specs.Flat.{blocks_at}
-use Rattle.pg_judge.proofs.Spents.{named_none, steps_none}
-use Rattle.pg_judge.proofs.ending.is_spent_at.Goals as goal
+use Rattle.pg_remains.proofs.Spents.{named_none, steps_none}
+use Rattle.pg_remains.proofs.remains.is_spent_at.Goals as goal
 
 pub returns : goal.returns
 returns c = λ style is.

@@ -3,7 +3,7 @@ use Rattle.std.specs.Prelude.{◌==◌}
 use Rattle.std.specs.List.{list_all, range_with_len}
 use Rattle.pg_flat.specs.Flat.{end_of}
 use Rattle.pg_rules.specs.Floats.{called, entry}
-use Rattle.pg_judge.proofs.ending.has_dealt_all.Given as goal
+use Rattle.pg_remains.proofs.remains.has_dealt_all.Given as goal
 
 abbrev pub invariant-loop-slot : goal.invariant-loop-slot
 invariant-loop-slot l = list_all (λ (slot : ℕ). entry l.placed slot

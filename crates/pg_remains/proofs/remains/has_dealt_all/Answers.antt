@@ -4,7 +4,7 @@ use Rattle.std.specs.List.{list_all, range_with_len}
 use Rattle.pg_flat.specs.Flat.{end_of}
 use Rattle.pg_rules.specs.Floats.{called, entry}
 use Rattle.pg_areas.proofs.Ranges.{next_all, not_all}
-use Rattle.pg_judge.proofs.ending.has_dealt_all.Goals as goal
+use Rattle.pg_remains.proofs.remains.has_dealt_all.Goals as goal
 
 pub returns-then-not-is_slot_dealt : goal.returns-then-not-is_slot_dealt
 returns-then-not-is_slot_dealt c =
