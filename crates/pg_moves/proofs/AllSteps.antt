@@ -130,6 +130,6 @@ on_reach reach doc from (Err e) law place h = tt
 on_reach reach doc from (Ok walk) law place h = (law from place).1 (reach walk) h
 
 -- what holds at a success need not be shown at a failure
-pub at_err : {T E P Q : Type 0} (r : Result T E) → IsErr r × Q → OnOk r P
-at_err (Ok x) h = absurd h.0
-at_err (Err e) h = tt
+pub at_err : {T E : Type 0} (P : Type 0) (r : Result T E) → IsErr r → OnOk r P
+at_err P (Ok x) h = absurd cc
+at_err P (Err e) h = tt

@@ -28,4 +28,4 @@ returns c = subst (λ (more : List (Step State PageMove)). OnOk c.add_stays.resu
     c.add_stays.ensures
 
 pub returns-in_err-layouts : goal.returns-in_err-layouts
-returns-in_err-layouts c = at_err c.from_residual.result c.from_residual.ensures
+returns-in_err-layouts c = at_err _ c.from_residual.result c.from_residual.ensures.0
