@@ -1,2 +1,2 @@
-pub mod BuiltLemmas
+pub mod MadeFloats
 pub mod Runs
