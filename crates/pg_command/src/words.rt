@@ -217,10 +217,10 @@ fn make_job<'a>(options: &Options, names: &'a [String]) -> Option<Job<'a>>
 
 /// What the words after the program's name ask for, or None where they are no command.
 ///
-/// A command is `run [--wrap W] STYLE GALLEY`, `run --height H [--wrap W] GALLEY`, `show [--wrap W] GALLEY` or `make N`.
-/// Options stand between the command and the names, in any order, each at most once and with its value as the next
-/// word. H is wholly a scaled number above 0 and below 16384, W is 1 to 65535 and N is 0 to 2000, both in 1 to 10
-/// digits, and a name is not empty and does not begin with a minus. No memory is taken.
+/// A command is `run [--wrap W] STYLE GALLEY`, `run --height H [--wrap W] GALLEY`, `show [--wrap W] GALLEY` or
+/// `make N`. Options stand between the command and the names, in any order, each at most once and with its value as
+/// the next word. H is wholly a scaled number above 0 and below 16384, W is 1 to 65535 and N is 0 to 2000, both in 1 to
+/// 10 digits, and a name is not empty and does not begin with a minus. No memory is taken.
 pub fn command(words: &Vec<String>) -> Option<Job<'_>>
     ensures command { option_map command_in result ≡ command_of (texts_of words.now) }
     ensures in_range { IfSome result IsInRange }

@@ -1,6 +1,6 @@
 -- The inserts of a galley that is made are of two classes, and few.
-use Rattle.std.proofs.Common.{◌≡◌, refl, sym, subst, ap, ◌∙◌, ℕ, zero, suc, ◌+◌, ◌*◌, ◌<◌, ◌≤◌, ◌^◌, List, [], ◌∷◌, ◌++◌, length}
-use Rattle.std.proofs.Common.{length-append, map, arith, Bool, true, false, Some, None, ℤ}
+use Rattle.std.proofs.Common.{◌≡◌, refl, subst, ap, ◌∙◌, ℕ, zero, suc, ◌+◌, ◌*◌, ◌≤◌, ◌^◌, List, [], ◌∷◌, ◌++◌}
+use Rattle.std.proofs.Common.{length, length-append, map, arith, Bool, true, false, Some, None, ℤ}
 use Rattle.std.specs.Prelude.{◌==◌, ◌%◌, if◌then◌else◌, is_none, Option, Err}
 use Rattle.std.specs.List.{cons_option, filter, filter_map, find, flat_map, range_with_len, sum_by}
 use Rattle.std.proofs.lemmas.List.Elements.{filter-append}
@@ -8,14 +8,14 @@ use Rattle.std.proofs.lemmas.List.Sums.{sum_by-cons}
 use Rattle.pg_list.specs.declared.item.Item.{Item}
 use Rattle.pg_list.specs.declared.item.Item.TheVariants.{BoxItem, Rule, Glue, Kern, Penalty, Insert, Carry}
 use Rattle.pg_list.specs.declared.blocks.Block.{Block}
-use Rattle.pg_list.specs.declared.blocks.Block.TheVariants.{One, Choice}
+use Rattle.pg_list.specs.declared.blocks.Block.TheVariants.{Choice}
 use Rattle.pg_list.specs.GalleyValue.{GalleyValue}
 use Rattle.pg_list.specs.Places.{picked_items}
 use Rattle.pg_list.specs.Shapes.{is_insert}
 use Rattle.pg_style.specs.Classes.{class_in}
 use Rattle.pg_style.specs.Values.{StyleValue}
 use Rattle.pg_flat.specs.Flat.{flat}
-use Rattle.pg_rules.specs.Floats.{float_numbers, insert_size, sizes_of}
+use Rattle.pg_rules.specs.Floats.{float_numbers, sizes_of}
 use Rattle.pg_floats.specs.AreFloats.{MakesList, float_total, unknown_class}
 use Rattle.pg_floats.specs.declared.fault.FloatFault.{FloatFault}
 use Rattle.pg_floats.specs.declared.fault.FloatFault.TheVariants.{Class, Limit, Memory}
