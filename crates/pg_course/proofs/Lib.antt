@@ -1,2 +1,3 @@
 pub mod MadeFloats
 pub mod Runs
+pub mod WorkedLines
