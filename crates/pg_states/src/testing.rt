@@ -1,5 +1,5 @@
 //! The test of a state, field by field.
-ghost use Rattle.std.specs.Prelude.{◌≡◌, ◌↔◌, IsTrue, ◌&&◌, ◌||◌, ◌==◌, if◌then◌else◌, true, nat_le, nat_lt, int_le, int_lt, is_some, length, pos, ◌^◌};
+ghost use Rattle.std.specs.Prelude.{◌≡◌, ◌↔◌, IsTrue, ◌&&◌, ◌||◌, ◌==◌, if◌then◌else◌, true, not, nat_le, nat_lt, int_le, int_lt, is_some, length, pos, ◌^◌};
 ghost use Rattle.std.specs.Option.{option_map_or};
 ghost use Rattle.pg_flat.specs.Flat.{end_of, is_same_place};
 ghost use Rattle.pg_plan.specs.declared.states.Side.TheVariants.{R};
@@ -25,13 +25,19 @@ fn is_at_end(galley: &Galley, place: Place) -> bool
     place.block as usize == galley.blocks().len() && place.variant == 0 && place.index == 0
 }
 
+// Whether a front of a choice is written with variant 0.
+fn has_front(place: Place) -> bool
+    ensures { result ≡ (not (place.index == 0) || (place.variant == 0)) }
+{
+    place.index != 0 || place.variant == 0
+}
+
 // Whether an item stands there, or it is the end.
 fn has_place(galley: &Galley, place: Place) -> bool
     ensures { result ≡ has_place_of galley.now.blocks place }
 {
     let within = (place.index as usize) < items_around(galley.blocks().as_slice(), place).len();
-    let front = place.index != 0 || place.variant == 0;
-    (is_at_end(galley, place) || within) && front
+    (is_at_end(galley, place) || within) && has_front(place)
 }
 
 // Whether a page may have the next column.
