@@ -1,3 +1,4 @@
 pub mod Fronts
 pub mod WordLemmas
 pub mod Pieces
+pub mod WorkedWords

@@ -1,10 +1,14 @@
--- Options in front of the names.
+-- Options in front of the names, and numbers in range.
 use Rattle.std.proofs.Common.{◌≡◌, ◌≤◌, ◌<◌, ◌-◌, ℕ, arith, List, [], ◌∷◌, refl, length, get_or, take, drop, true}
-use Rattle.std.proofs.Common.{false}
-use Rattle.std.specs.Prelude.{Some, None, map}
+use Rattle.std.proofs.Common.{false, Bool}
+use Rattle.std.specs.Prelude.{Some, None, map, IfSome, if◌then◌else◌, nat_le, ◌&&◌, ◌==◌}
+use Rattle.std.proofs.lemmas.Bool.Decides.{nat_tests}
 use Rattle.std.proofs.lemmas.List.{take_rest}
+use Rattle.std.specs.Str.Parse.{digits_value}
+use Rattle.pg_scaled.specs.Digits.{digit_count}
+use Rattle.pg_scan.specs.Parts.{is_word_length, word_number}
 use Rattle.pg_command.specs.declared.words.Options.{Options}
-use Rattle.pg_command.specs.Words.{is_option, with_option, options_in}
+use Rattle.pg_command.specs.Words.{is_option, with_option, options_in, paragraphs_of}
 
 -- the first two words, and those behind them
 pub two_words : {X : Type 0} (f : X → List ℕ) (xs : List X) (x y : X) → 2 ≤ length xs → x ≡ get_or xs 0 x
@@ -37,3 +41,19 @@ pub bad_option : (options : Options) (word value : List ℕ) (words : List (List
     → with_option options word value ≡ None → options_in options (word ∷ value ∷ words) ≡ None
 unfolding options_in
 bad_option options word value words test with = rw (test, with) refl
+
+-- a number that is taken is in range
+pub few_paragraphs : (word : List ℕ) → IfSome (paragraphs_of word) (λ (count : ℕ). count ≤ 2000)
+unfolding word_number
+few_paragraphs word = by (digit_count word == length word && is_word_length (length word)) (digits_value 10 word)
+  where
+    taken : (b : Bool) (n : ℕ) → (b ≡ true → n ≤ 2000) →
+        IfSome (if b then Some n else None) (λ (count : ℕ). count ≤ 2000)
+    taken true n h = h refl
+    taken false n h = tt
+
+    by : (b : Bool) (n : ℕ) →
+        IfSome (if b then (if nat_le 0 n && nat_le n 2000 then Some n else None) else None)
+        (λ (count : ℕ). count ≤ 2000)
+    by true n = taken (nat_le 0 n && nat_le n 2000) n (λ e. grind (arith, nat_tests, e))
+    by false n = tt

@@ -19,7 +19,6 @@ status_of ending.Done = status.Done
 status_of ending.NoLegal = status.NoLegal
 status_of ending.Usage = status.Usage
 status_of (ending.TooLong name) = status.Refused
-status_of (ending.NotBuilt name) = status.Refused
 status_of (ending.BadList name fault) = status.Refused
 status_of (ending.BadStyle name fault) = status.Refused
 status_of (ending.UnknownClass class) = status.Refused
@@ -50,10 +49,6 @@ usage_line = codes "usage: pg run|edit|check|show|make" ++ 10 ∷ []
 -- a file has more bytes than it may have
 unfoldable pub long_line : List ℕ → List ℕ
 long_line name = file_line name (codes ": longer than 67108864 bytes")
-
--- what a file asks for is not built
-unfoldable pub not_built_line : List ℕ → List ℕ
-not_built_line name = file_line name (codes ": not yet built")
 
 -- a galley's text has a fault in this line, of the kind of this number
 unfoldable pub list_line : List ℕ → ListFault → List ℕ
@@ -98,7 +93,6 @@ line_of ending.Done = []
 line_of ending.NoLegal = []
 line_of ending.Usage = usage_line
 line_of (ending.TooLong name) = long_line name.now
-line_of (ending.NotBuilt name) = not_built_line name.now
 line_of (ending.BadList name fault) = list_line name.now fault
 line_of (ending.BadStyle name fault) = style_line name.now fault
 line_of (ending.UnknownClass class) = class_line class

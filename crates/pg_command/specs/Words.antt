@@ -1,5 +1,5 @@
 -- The words of a command.
-use Rattle.std.specs.Prelude.{ℕ, ◌^◌, List, [], ◌∷◌, length, ◌&&◌, ◌==◌, ◌||◌, Bool, false, not, nat_lt, is_some}
+use Rattle.std.specs.Prelude.{ℕ, ◌^◌, ◌≤◌, List, [], ◌∷◌, length, ◌&&◌, ◌==◌, ◌||◌, Bool, false, not, nat_lt, is_some}
 use Rattle.std.specs.Prelude.{if◌then◌else◌, Option, Some, None, codes, ℤ, pos, negsuc, ◌≤ℤ◌, ◌<ℤ◌, String, Vec, map}
 use Rattle.std.specs.String.{string_bytes}
 use Rattle.std.specs.Option.{option_map, option_and_then}
@@ -12,7 +12,7 @@ use Rattle.pg_scan.specs.Parts.{word_number}
 use Rattle.pg_command.specs.declared.words.StyleWord.{StyleWord}
 use Rattle.pg_command.specs.declared.words.StyleWord.TheVariants.{Named, Plain}
 use Rattle.pg_command.specs.declared.words.Job.{Job}
-use Rattle.pg_command.specs.declared.words.Job.TheVariants.{Run, Show}
+use Rattle.pg_command.specs.declared.words.Job.TheVariants.{Run, Show, Make}
 use Rattle.pg_command.specs.declared.words.Options.{Options}
 
 -- which style a run takes: that of the file of this name, or the plain one of this page height
@@ -20,10 +20,12 @@ pub data StyleName : Type 0 where
   named : List ℕ → StyleName
   plain : ℤ → StyleName
 
--- a command: to paginate the galley of this name, or to print it; with the width at which lines are joined
+-- a command: to paginate the galley of this name, or to print it, with the width at which lines are joined; or to make
+-- a galley of so many paragraphs
 pub data Command : Type 0 where
   run : StyleName → List ℕ → Option ℕ → Command
   show : List ℕ → Option ℕ → Command
+  make : ℕ → Command
 
 -- what a word for a style says, without where it lies in memory
 abbrev pub style_name : StyleWord → StyleName
@@ -34,6 +36,7 @@ style_name (Plain height) = plain height
 abbrev pub command_in : Job → Command
 command_in (Run style galley wrap) = run (style_name style) galley.now wrap
 command_in (Show galley wrap) = show galley.now wrap
+command_in (Make count) = make count
 
 -- a page height is above 0 and below 2^30
 abbrev pub IsHeight : ℤ → Type 0
@@ -44,10 +47,11 @@ abbrev pub IsStyle : StyleWord → Type 0
 IsStyle (Named name) = Unit {0}
 IsStyle (Plain height) = IsHeight height
 
--- a job whose height, if it has one, is one of a page
-abbrev pub HasHeight : Job → Type 0
-HasHeight (Run style galley wrap) = IsStyle style
-HasHeight (Show galley wrap) = Unit {0}
+-- a job whose height, if it has one, is one of a page, and whose paragraphs are at most 2000
+abbrev pub IsInRange : Job → Type 0
+IsInRange (Run style galley wrap) = IsStyle style
+IsInRange (Show galley wrap) = Unit {0}
+IsInRange (Make count) = count ≤ 2000
 
 -- ---- the words of options and names
 
@@ -68,6 +72,10 @@ height_of word = height_from (scaled_value word) (length word)
 -- a width at which lines are joined is 1 to 65535, in 1 to 10 digits
 abbrev pub wrap_of : List ℕ → Option ℕ
 wrap_of word = word_number 1 65535 word
+
+-- how many paragraphs are made is 0 to 2000, in 1 to 10 digits
+abbrev pub paragraphs_of : List ℕ → Option ℕ
+paragraphs_of word = word_number 0 2000 word
 
 -- a name is not empty and does not begin with a minus
 abbrev pub is_name : List ℕ → Bool
@@ -119,11 +127,18 @@ show_named options (galley ∷ []) =
     if not (is_name galley) || is_some options.height then None else Some (show galley options.wrap)
 show_named options names = None
 
+-- `make N`, which takes no option
+abbrev pub make_named : Options → List (List ℕ) → Option Command
+make_named options (word ∷ []) =
+    if is_some options.height || is_some options.wrap then None else option_map make (paragraphs_of word)
+make_named options names = None
+
 -- the command of the first word, with the options and names behind it
 abbrev pub job_of : List ℕ → (Options × List (List ℕ)) → Option Command
 job_of word (options, names) =
     if bytes_eq word (codes "run") then run_named options names
-    else (if bytes_eq word (codes "show") then show_named options names else None)
+    else (if bytes_eq word (codes "show") then show_named options names
+    else (if bytes_eq word (codes "make") then make_named options names else None))
 
 -- the command of these words: a command's name, options, names
 abbrev pub command_of : List (List ℕ) → Option Command

@@ -17,8 +17,6 @@ pub enum Ending<'a> {
     Usage,
     /// The file has more bytes than it may have.
     TooLong(&'a str),
-    /// What the file asks for is not built yet.
-    NotBuilt(&'a str),
     /// The file is no galley.
     BadList(&'a str, ListFault),
     /// The file is no style.
@@ -45,7 +43,6 @@ impl<'a> Ending<'a> {
             Ending::NoLegal => Status::NoLegal,
             Ending::Usage => Status::Usage,
             Ending::TooLong(_)
-            | Ending::NotBuilt(_)
             | Ending::BadList(..)
             | Ending::BadStyle(..)
             | Ending::UnknownClass(_)

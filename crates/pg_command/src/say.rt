@@ -122,7 +122,6 @@ pub fn say_line<E: Sink>(ending: &Ending<'_>, say: &mut E)
         Ending::Done | Ending::NoLegal => {}
         Ending::Usage => say_text(say, "usage: pg run|edit|check|show|make\n"),
         Ending::TooLong(name) => say_file(say, "pg: ", name, ": longer than 67108864 bytes\n"),
-        Ending::NotBuilt(name) => say_file(say, "pg: ", name, ": not yet built\n"),
         Ending::BadList(name, fault) => say_list_fault(say, name, fault),
         Ending::BadStyle(name, fault) => say_style_fault(say, name, fault),
         Ending::UnknownClass(class) => say_class(say, *class),

@@ -7,7 +7,7 @@ ghost use Rattle.pg_command.specs.Lines.{exit_number};
 pub enum Status {
     /// All that was asked for is written.
     Done,
-    /// Some galley that was shown has no legal pagination.
+    /// Some galley that was shown, or made, has no legal pagination.
     NoLegal,
     /// The words are no command.
     Usage,

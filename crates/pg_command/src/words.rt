@@ -1,10 +1,11 @@
 //! The words of a command.
-ghost use Rattle.std.specs.Prelude.{◌≡◌, IfSome, IsTrue, map, ◌∷◌, []};
+ghost use Rattle.std.specs.Prelude.{◌≡◌, ◌≤◌, IfSome, IsTrue, map, ◌∷◌, []};
 ghost use Rattle.std.specs.Option.{option_map};
 ghost use Rattle.std.specs.String.{string_bytes};
 ghost use Rattle.pg_command.specs.Words.{command_in, command_of, texts_of, height_of, wrap_of, is_name};
 ghost use Rattle.pg_command.specs.Words.{is_option as is_option_word, with_option as one_more, no_options};
-ghost use Rattle.pg_command.specs.Words.{options_in, run_named, show_named, IsHeight, HasHeight};
+ghost use Rattle.pg_command.specs.Words.{options_in, run_named, show_named, make_named, paragraphs_of};
+ghost use Rattle.pg_command.specs.Words.{IsHeight, IsInRange};
 
 use pg_scaled::{Front, read_scaled};
 use pg_scan::whole_word;
@@ -19,7 +20,7 @@ pub enum StyleWord<'a> {
 }
 
 /// What the words ask for, with the names as they stand in the words, and the width at which lines
-/// of the galley are joined.
+/// of a galley that is read are joined.
 #[derive(Clone, Copy)]
 pub enum Job<'a> {
     /// To paginate a galley.
@@ -32,6 +33,10 @@ pub enum Job<'a> {
     Show {
         galley: &'a str,
         wrap: Option<u32>,
+    },
+    /// To make a galley of so many paragraphs, at most 2000, and to tell of its pages.
+    Make {
+        count: u32,
     },
 }
 
@@ -58,6 +63,14 @@ fn wrap_width(word: &str) -> Option<u32>
     ensures { result ≡ wrap_of word.now }
 {
     whole_word(1, 65535, word.as_bytes())
+}
+
+// How many paragraphs are made.
+fn paragraph_count(word: &str) -> Option<u32>
+    ensures value { result ≡ paragraphs_of word.now }
+    ensures few { IfSome result (λ count. count ≤ 2000) }
+{
+    whole_word(0, 2000, word.as_bytes())
 }
 
 fn is_file_name(word: &str) -> bool
@@ -127,7 +140,7 @@ fn split_options(words: &[String]) -> Option<(Options, &[String])>
 fn run_job<'a>(options: &Options, names: &'a [String]) -> Option<Job<'a>>
     requires { IfSome options.now.height IsHeight }
     ensures job { option_map command_in result ≡ run_named options.now (map string_bytes names.now) }
-    ensures in_range { IfSome result HasHeight }
+    ensures in_range { IfSome result IsInRange }
 {
     match names {
         [galley] => plain_job(options, galley.as_str()),
@@ -140,7 +153,7 @@ fn run_job<'a>(options: &Options, names: &'a [String]) -> Option<Job<'a>>
 fn plain_job<'a>(options: &Options, galley: &'a str) -> Option<Job<'a>>
     requires { IfSome options.now.height IsHeight }
     ensures job { option_map command_in result ≡ run_named options.now (galley.now ∷ []) }
-    ensures in_range { IfSome result HasHeight }
+    ensures in_range { IfSome result IsInRange }
 {
     if !is_file_name(galley) {
         return None;
@@ -156,7 +169,7 @@ fn plain_job<'a>(options: &Options, galley: &'a str) -> Option<Job<'a>>
 // A run with the style of a file.
 fn styled_job<'a>(options: &Options, style: &'a str, galley: &'a str) -> Option<Job<'a>>
     ensures job { option_map command_in result ≡ run_named options.now (style.now ∷ galley.now ∷ []) }
-    ensures in_range { IfSome result HasHeight }
+    ensures in_range { IfSome result IsInRange }
 {
     if is_file_name(style) && (is_file_name(galley) && !options.height.is_some()) {
         Some(Job::Run {
@@ -172,7 +185,7 @@ fn styled_job<'a>(options: &Options, style: &'a str, galley: &'a str) -> Option<
 // A show with these options and names.
 fn show_job<'a>(options: &Options, names: &'a [String]) -> Option<Job<'a>>
     ensures job { option_map command_in result ≡ show_named options.now (map string_bytes names.now) }
-    ensures in_range { IfSome result HasHeight }
+    ensures in_range { IfSome result IsInRange }
 {
     let [galley] = names else {
         return None;
@@ -187,15 +200,30 @@ fn show_job<'a>(options: &Options, names: &'a [String]) -> Option<Job<'a>>
     })
 }
 
+// A make with these options and names.
+fn make_job<'a>(options: &Options, names: &'a [String]) -> Option<Job<'a>>
+    ensures job { option_map command_in result ≡ make_named options.now (map string_bytes names.now) }
+    ensures in_range { IfSome result IsInRange }
+{
+    let [word] = names else {
+        return None;
+    };
+    if options.height.is_some() || options.wrap.is_some() {
+        return None;
+    }
+    let count = paragraph_count(word.as_str())?;
+    Some(Job::Make { count })
+}
+
 /// What the words after the program's name ask for, or None where they are no command.
 ///
-/// A command is `run [--wrap N] STYLE GALLEY`, `run --height H [--wrap N] GALLEY` or `show [--wrap N] GALLEY`.
-/// Options stand between the command and the names, in any order, each at most once and with its value as the next
-/// word. H is wholly a scaled number above 0 and below 16384, N is 1 to 65535 in 1 to 10 digits, and a name is not
-/// empty and does not begin with a minus. No memory is taken.
+/// A command is `run [--wrap W] STYLE GALLEY`, `run --height H [--wrap W] GALLEY`, `show [--wrap W] GALLEY` or
+/// `make N`. Options stand between the command and the names, in any order, each at most once and with its value as
+/// the next word. H is wholly a scaled number above 0 and below 16384, W is 1 to 65535 and N is 0 to 2000, both in 1 to
+/// 10 digits, and a name is not empty and does not begin with a minus. No memory is taken.
 pub fn command(words: &Vec<String>) -> Option<Job<'_>>
     ensures command { option_map command_in result ≡ command_of (texts_of words.now) }
-    ensures in_range { IfSome result HasHeight }
+    ensures in_range { IfSome result IsInRange }
 {
     let [name, rest @ ..] = words.as_slice() else {
         return None;
@@ -204,6 +232,7 @@ pub fn command(words: &Vec<String>) -> Option<Job<'_>>
     match name.as_str() {
         "run" => run_job(&options, names),
         "show" => show_job(&options, names),
+        "make" => make_job(&options, names),
         _ => None,
     }
 }

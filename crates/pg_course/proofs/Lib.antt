@@ -1,2 +1,3 @@
-pub mod BuiltLemmas
+pub mod MadeFloats
 pub mod Runs
+pub mod WorkedLines

@@ -1,8 +1,7 @@
--- What a run promises, by what was found for its galley.
+-- What a command promises, by what was found for its galley.
 use Rattle.std.proofs.Common.{◌≡◌, ◌≤◌, ◌<◌, ◌^◌, ℕ, sym, ap, List, [], ◌∷◌, refl, subst, true, false, arith}
 use Rattle.std.proofs.Common.{append-nil}
 use Rattle.std.specs.Prelude.{Option, Some, None, Result, Ok, Err, IfSome, nat_le}
-use Rattle.std.specs.List.{list_all}
 use Rattle.std.specs.Io.KnownBytes.{Appends, Keeps}
 use Rattle.std.proofs.lemmas.Bool.Decides.{nat_tests}
 use Rattle.pg_list.specs.GalleyValue.{GalleyValue}
@@ -20,11 +19,10 @@ use Rattle.pg_command.specs.Words.{StyleName, run}
 use Rattle.pg_command.specs.Lines.{line_of, many_line, status_of}
 use Rattle.pg_command.proofs.Fronts.{appends_nothing, front_of_more}
 use Rattle.pg_course.specs.Calls.{OverSink, Writes, ending_of, over_sink}
-use Rattle.pg_course.specs.Course.{Stop, opened, opened_style, PaginateGalley, BuiltGalley, RunGalley, RunCourse}
+use Rattle.pg_course.specs.Course.{Stop, opened, opened_style, OneText, PaginateGalley, RunGalley, RunCourse}
 use Rattle.pg_course.specs.Course.{StyledCourse, EndsBy, BeginsBy, EndedBefore, OnSettled, OnWriteFault}
-use Rattle.pg_course.specs.Galleys.{is_built_block}
 
-on_settled : {P Q : Type 0} → (status : Status) → (P → Q) → OnSettled status P → OnSettled status Q
+pub on_settled : {P Q : Type 0} → (status : Status) → (P → Q) → OnSettled status P → OnSettled status Q
 on_settled ReadFault f p = tt
 on_settled WriteFault f p = tt
 on_settled Memory f p = tt
@@ -68,6 +66,12 @@ writes_as C D out end f w = record {
   no_read = w.no_read;
   no_usage = w.no_usage;
 }
+
+-- what writes one text and ends so does a course that has this text and ends so
+pub one_text : (C : List (List ℕ) → Status → List ℕ → Type 0) (text : List ℕ) (how : Status) (out : OverSink)
+    (end : Ending) → C (text ∷ []) how [] → Writes (OneText text how) out end → Writes C out end
+one_text C text how out end course w =
+    writes_as (OneText text how) C out end (λ texts status line (one, ends, quiet). rw (one, ends, quiet) course) w
 
 -- one text was written
 pub wrote_pages : (C : List (List ℕ) → Status → List ℕ → Type 0) (old new : Option (List ℕ)) (before after : ℕ)
@@ -129,10 +133,10 @@ many_test : (a b : ℕ) → b < a → nat_le a b ≡ false
 many_test a b many = grind (arith, nat_tests)
 
 -- a galley without a list of floats is refused, or memory ran out
-pub no_floats : (style : StyleValue) (name : List ℕ) (galley : GalleyValue) (old : Option (List ℕ)) (before : ℕ)
+pub no_floats : (style : StyleValue) (galley : GalleyValue) (old : Option (List ℕ)) (before : ℕ)
     (fault : FloatFault) → MakesList (Err fault) galley.blocks style →
-    Writes (RunGalley style name galley) (over_sink old old before before) (ending_of fault)
-no_floats style name galley old before (float_fault.Class number) unknown = record {
+    Writes (RunGalley style galley) (over_sink old old before before) (ending_of fault)
+no_floats style galley old before (float_fault.Class number) unknown = record {
   settled = record { texts = []; course = rw unknown (refl, refl, refl); written = appends_none old };
   write = tt;
   front = tt;
@@ -140,7 +144,7 @@ no_floats style name galley old before (float_fault.Class number) unknown = reco
   no_read = tt;
   no_usage = λ e. absurd (cc);
 }
-no_floats style name galley old before (float_fault.Limit count) many = record {
+no_floats style galley old before (float_fault.Limit count) many = record {
   settled =
       record {
         texts = [];
@@ -158,7 +162,7 @@ no_floats style name galley old before (float_fault.Limit count) many = record {
   no_read = tt;
   no_usage = λ e. absurd (cc);
 }
-no_floats style name galley old before float_fault.Memory known = record {
+no_floats style galley old before float_fault.Memory known = record {
   settled = tt;
   write = tt;
   front = tt;
@@ -167,40 +171,39 @@ no_floats style name galley old before float_fault.Memory known = record {
   no_usage = λ e. absurd (cc);
 }
 
--- a galley that is built is paginated
-pub built_writes : (style : StyleValue) (name : List ℕ) (galley : GalleyValue) (out : OverSink) (end : Ending) →
-    list_all is_built_block galley.blocks ≡ true → Writes (PaginateGalley style galley) out end →
-    Writes (BuiltGalley style name galley) out end
-built_writes style name galley out end built w =
-    writes_as (PaginateGalley style galley) (BuiltGalley style name galley) out end
-    (λ texts status line course. rw built course) w
-
--- a galley whose classes the style has and whose floats are few is paginated where it is built
-pub taken_writes : (style : StyleValue) (name : List ℕ) (galley : GalleyValue) (out : OverSink) (end : Ending) →
+-- a galley whose classes the style has and whose floats are few is paginated
+pub taken_writes : (style : StyleValue) (galley : GalleyValue) (out : OverSink) (end : Ending) →
     unknown_class galley.blocks style ≡ None → float_total galley.blocks style ≤ 2 ^ 12 →
-    Writes (BuiltGalley style name galley) out end → Writes (RunGalley style name galley) out end
-taken_writes style name galley out end known few w =
+    Writes (PaginateGalley style galley) out end → Writes (RunGalley style galley) out end
+taken_writes style galley out end known few w =
     let test : nat_le (float_total galley.blocks style) (2 ^ 12) ≡ true =
     few_test (float_total galley.blocks style) (2 ^ 12) few in
-    writes_as (BuiltGalley style name galley) (RunGalley style name galley) out end
+    writes_as (PaginateGalley style galley) (RunGalley style galley) out end
     (λ texts status line course. rw (known, test) course) w
+
+-- a fact of a galley, where it was opened, is one of what the shelf tells
+pub when_opened : (F : Result GalleyValue Stop → Type 0) (told : Option Held) (name : List ℕ) (wrap : Option ℕ)
+    (galley : GalleyValue) → IfSome told (λ held. opened name wrap (held name) ≡ Ok galley) → F (Ok galley) →
+    IfSome told (λ held. F (opened name wrap (held name)))
+when_opened F None name wrap galley says h = tt
+when_opened F (Some held) name wrap galley says h = subst F (sym says) h
 
 styled : (told : Option Held) (chosen : StyleName) (style : StyleValue) (name : List ℕ) (wrap : Option ℕ)
     (old new : Option (List ℕ)) → IfSome told (λ held. opened_style chosen held ≡ Ok style) →
-    IfSome told (λ held. BeginsBy (RunCourse style name (opened name wrap (held name))) old new) →
+    IfSome told (λ held. BeginsBy (RunCourse style (opened name wrap (held name))) old new) →
     IfSome told (λ held. EndedBefore (Some (run chosen name wrap)) held old new)
 styled None chosen style name wrap old new says h = tt
 styled (Some held) chosen style name wrap old new says h =
-    subst (λ (said : Result StyleValue Stop). BeginsBy (StyledCourse said name (opened name wrap (held name))) old new)
+    subst (λ (said : Result StyleValue Stop). BeginsBy (StyledCourse said (opened name wrap (held name))) old new)
     (sym says) h
 
 -- the style of a file, and a galley of whose text a front was written
 pub styled_begins : (told mid : Option Held) (chosen : StyleName) (style : StyleValue) (name : List ℕ)
     (wrap : Option ℕ) (old new : Option (List ℕ)) (status : Status) →
     IfSome told (λ held. opened_style chosen held ≡ Ok style) → mid ≡ told →
-    OnWriteFault status (IfSome mid (λ held. BeginsBy (RunCourse style name (opened name wrap (held name))) old new)) →
+    OnWriteFault status (IfSome mid (λ held. BeginsBy (RunCourse style (opened name wrap (held name))) old new)) →
     OnWriteFault status (IfSome told (λ held. EndedBefore (Some (run chosen name wrap)) held old new))
 styled_begins told mid chosen style name wrap old new status says same h =
     on_write_fault status (λ front. styled told chosen style name wrap old new says
-    (subst (λ (t : Option Held). IfSome t (λ held. BeginsBy (RunCourse style name (opened name wrap (held name))) old
+    (subst (λ (t : Option Held). IfSome t (λ held. BeginsBy (RunCourse style (opened name wrap (held name))) old
     new)) same front)) h

@@ -8,7 +8,7 @@ use Rattle.pg_command.specs.declared.ending.Ending.{Ending}
 use Rattle.pg_command.specs.declared.ending.Ending.TheVariants as ending
 use Rattle.pg_command.specs.declared.status.Status.{Status}
 use Rattle.pg_command.specs.declared.status.Status.TheVariants.{Usage}
-use Rattle.pg_command.specs.Words.{Command, StyleName, run, show}
+use Rattle.pg_command.specs.Words.{Command, StyleName, run, show, make}
 use Rattle.pg_command.specs.Lines.{status_of, line_of}
 use Rattle.pg_course.specs.Course.{Ended, EndedBefore, EndsBy, BeginsBy, OnSettled, OnReadFault, OnWriteFault}
 use Rattle.pg_course.specs.Course.{OnMemory, ReadLine, Stop, UnreadFile, UnreadStyle, stop}
@@ -41,6 +41,14 @@ abbrev pub WroteWhole : Option Command → OverSink → Type 0
 WroteWhole None out = Keeps out.old out.new
 WroteWhole (Some (run style galley wrap)) out = Keeps out.old out.new
 WroteWhole (Some (show galley wrap)) out = Keeps out.old out.new
+WroteWhole (Some (make count)) out = Keeps out.old out.new
+
+-- words that name no file: they are no command, or one that makes its galley
+abbrev pub NamesNoFile : Option Command → Type 0
+NamesNoFile None = Unit {0}
+NamesNoFile (Some (run style galley wrap)) = ⊥
+NamesNoFile (Some (show galley wrap)) = ⊥
+NamesNoFile (Some (make count)) = Unit {0}
 
 -- why the file of a name was not read, and the line that tells it
 abbrev pub NoFile : List ℕ → OverShelf → List ℕ → Type 0

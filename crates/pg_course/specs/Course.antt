@@ -2,7 +2,7 @@
 -- line for the user.
 use Rattle.std.specs.Prelude.{◌≡◌, ◌^◌, ℕ, List, [], ◌∷◌, length, ◌⊎◌, nat_lt, nat_le, ⊤, Option, Some, None, Result}
 use Rattle.std.specs.Prelude.{Ok, Err, MatchBool, MatchOption, IsSomeAnd, if◌then◌else◌}
-use Rattle.std.specs.List.{concat, list_all}
+use Rattle.std.specs.List.{concat}
 use Rattle.std.specs.Io.KnownBytes.{Appends}
 use Rattle.pg_list.specs.GalleyValue.{GalleyValue}
 use Rattle.pg_style.specs.Values.{StyleValue}
@@ -15,13 +15,11 @@ use Rattle.pg_showbox.specs.Text.{galley_text}
 use Rattle.pg_outside.specs.Outside.{Held, Rose, AppendsFront}
 use Rattle.pg_command.specs.declared.status.Status.{Status}
 use Rattle.pg_command.specs.declared.status.Status.TheVariants.{Done, Usage, Refused, ReadFault, WriteFault, Memory}
-use Rattle.pg_command.specs.Words.{Command, StyleName, named, plain, run, show}
+use Rattle.pg_command.specs.Words.{Command, StyleName, named, plain, run, show, make}
 use Rattle.pg_floats.specs.AreFloats.{unknown_class, float_total}
-use Rattle.pg_course.specs.Galleys.{is_built_block}
-use Rattle.pg_course.specs.Styles.{is_built_style}
-use Rattle.pg_command.specs.Lines.{usage_line, long_line, not_built_line, list_line, style_line, class_line}
-use Rattle.pg_command.specs.Lines.{many_line, unread_line}
+use Rattle.pg_command.specs.Lines.{usage_line, long_line, list_line, style_line, class_line, many_line, unread_line}
 use Rattle.pg_course.specs.Out.{Out}
+use Rattle.pg_course.specs.Made.{MadeOut}
 
 -- ---- the course of a command
 
@@ -43,9 +41,9 @@ abbrev pub said_galley : List ℕ → Result GalleyValue ListFault → Result Ga
 said_galley name (Ok galley) = Ok galley
 said_galley name (Err fault) = Err (stop Refused (list_line name fault))
 
--- the style that a text says; a fault is named by its kind and key, and other styles are not built yet
+-- the style that a text says; a fault is named by its kind and key
 abbrev pub said_style : List ℕ → Result StyleValue StyleFault → Result StyleValue Stop
-said_style name (Ok style) = if is_built_style style then Ok style else Err (stop Refused (not_built_line name))
+said_style name (Ok style) = Ok style
 said_style name (Err fault) = Err (stop Refused (style_line name fault))
 
 -- the bytes of a file: one that is not there cannot be read, and one of more than 2^26 bytes is too long
@@ -67,50 +65,53 @@ abbrev pub opened_style : StyleName → Held → Result StyleValue Stop
 opened_style (named name) held = read_by (λ bytes. said_style name (style_of_text bytes)) (fetched name (held name))
 opened_style (plain height) held = Ok (plain_values.plain height)
 
+-- this text alone is written, and it ends so
+abbrev pub OneText : List ℕ → Status → List (List ℕ) → Status → List ℕ → Type 0
+OneText text status texts end line = (texts ≡ text ∷ []) × (end ≡ status) × (line ≡ [])
+
 -- one text is written for a galley
 abbrev pub PaginateGalley : StyleValue → GalleyValue → List (List ℕ) → Status → List ℕ → Type 0
 PaginateGalley style galley texts end line =
     (text : List ℕ) × Out galley style text end × (texts ≡ text ∷ []) × (line ≡ [])
 
--- galleys that are not built are not paginated yet
-abbrev pub BuiltGalley : StyleValue → List ℕ → GalleyValue → List (List ℕ) → Status → List ℕ → Type 0
-BuiltGalley style name galley texts end line = MatchBool (list_all is_built_block galley.blocks)
-    (PaginateGalley style galley texts end line) (Stops texts end line (stop Refused (not_built_line name)))
-
 -- a galley is refused for the class of its first insert of a class that the style does not have, and then for more
 -- than 2^12 floats
-abbrev pub RunGalley : StyleValue → List ℕ → GalleyValue → List (List ℕ) → Status → List ℕ → Type 0
-RunGalley style name galley texts end line = MatchOption (unknown_class galley.blocks style)
-    (MatchBool (nat_le (float_total galley.blocks style) (2 ^ 12)) (BuiltGalley style name galley texts end line)
+abbrev pub RunGalley : StyleValue → GalleyValue → List (List ℕ) → Status → List ℕ → Type 0
+RunGalley style galley texts end line = MatchOption (unknown_class galley.blocks style)
+    (MatchBool (nat_le (float_total galley.blocks style) (2 ^ 12)) (PaginateGalley style galley texts end line)
     (Stops texts end line (stop Refused (many_line (float_total galley.blocks style)))))
     (λ class. Stops texts end line (stop Refused (class_line class)))
 
 -- the galley is read behind the style
-abbrev pub RunCourse : StyleValue → List ℕ → Result GalleyValue Stop → List (List ℕ) → Status → List ℕ → Type 0
-RunCourse style name (Err stop) texts end line = Stops texts end line stop
-RunCourse style name (Ok galley) texts end line = RunGalley style name galley texts end line
+abbrev pub RunCourse : StyleValue → Result GalleyValue Stop → List (List ℕ) → Status → List ℕ → Type 0
+RunCourse style (Err stop) texts end line = Stops texts end line stop
+RunCourse style (Ok galley) texts end line = RunGalley style galley texts end line
 
 -- the style is read first
-abbrev pub StyledCourse : Result StyleValue Stop → List ℕ → Result GalleyValue Stop → List (List ℕ) → Status →
-    List ℕ → Type 0
-StyledCourse (Err stop) name galley texts end line = Stops texts end line stop
-StyledCourse (Ok style) name galley texts end line = RunCourse style name galley texts end line
+abbrev pub StyledCourse : Result StyleValue Stop → Result GalleyValue Stop → List (List ℕ) → Status → List ℕ → Type 0
+StyledCourse (Err stop) galley texts end line = Stops texts end line stop
+StyledCourse (Ok style) galley texts end line = RunCourse style galley texts end line
 
 -- the galley is printed
 abbrev pub ShowGalley : GalleyValue → List (List ℕ) → Status → List ℕ → Type 0
-ShowGalley galley texts end line = (texts ≡ galley_text galley ∷ []) × (end ≡ Done) × (line ≡ [])
+ShowGalley galley texts end line = OneText (galley_text galley) Done texts end line
 
 -- the galley is read
 abbrev pub ShowCourse : Result GalleyValue Stop → List (List ℕ) → Status → List ℕ → Type 0
 ShowCourse (Err stop) texts end line = Stops texts end line stop
 ShowCourse (Ok galley) texts end line = ShowGalley galley texts end line
 
+-- one line is written of the galley that is made
+abbrev pub MakeCourse : ℕ → List (List ℕ) → Status → List ℕ → Type 0
+MakeCourse count texts end line = (text : List ℕ) × MadeOut count text end × (texts ≡ text ∷ []) × (line ≡ [])
+
 -- the course of a command, over the files that are held
 abbrev pub Course : Option Command → Held → List (List ℕ) → Status → List ℕ → Type 0
 Course None held texts end line = Stops texts end line (stop Usage usage_line)
 Course (Some (run style galley wrap)) held texts end line =
-    StyledCourse (opened_style style held) galley (opened galley wrap (held galley)) texts end line
+    StyledCourse (opened_style style held) (opened galley wrap (held galley)) texts end line
 Course (Some (show galley wrap)) held texts end line = ShowCourse (opened galley wrap (held galley)) texts end line
+Course (Some (make count)) held texts end line = MakeCourse count texts end line
 
 -- ---- facts for some ends
 
@@ -171,6 +172,7 @@ abbrev pub IsFileOf : Option Command → List ℕ → Type 0
 IsFileOf None name = ⊥
 IsFileOf (Some (run style galley wrap)) name = IsStyleFile style name ⊎ (name ≡ galley)
 IsFileOf (Some (show galley wrap)) name = name ≡ galley
+IsFileOf (Some (make count)) name = ⊥
 
 -- the shelf failed in this call, at a file of the command, and the line says so
 abbrev pub FailedAt : Option Command → ℕ → ℕ → Option (List ℕ) → List ℕ → Type 0

@@ -1,5 +1,4 @@
 pub mod Out
-pub mod Galleys
-pub mod Styles
+pub mod Made
 pub mod Course
 pub mod Calls

@@ -1,6 +1,5 @@
 //! The files of a command.
 ghost use Rattle.std.specs.Prelude.{◌≡◌, ◌≢◌, ◌≤◌, ◌^◌, Ok, Err, IfOk, IfErr, IfSome, length};
-ghost use Rattle.pg_plain.specs.Plain.{IsPlainStyle};
 ghost use Rattle.pg_command.specs.declared.status.Status.TheVariants.{Usage};
 ghost use Rattle.pg_command.specs.Words.{style_name, IsStyle};
 ghost use Rattle.pg_command.specs.Lines.{status_of, line_of};
@@ -9,7 +8,6 @@ ghost use Rattle.pg_course.specs.Course.{OnSettled, OnReadFault, OnWriteFault, f
 ghost use Rattle.pg_course.specs.Course.{said_style, read_by, stop};
 ghost use Rattle.pg_stylefile.specs.Style.{style_of_text};
 
-use crate::built::is_built_style;
 use pg_command::{Ending, StyleWord};
 use pg_list::Galley;
 use pg_outside::{Fetch, Shelf};
@@ -69,10 +67,9 @@ pub fn open_galley<'a, H: Shelf>(
     }
 }
 
-// The style of a text, where it is built, or what ends the run.
+// The style of a text, or what ends the run.
 fn style_of_bytes<'a>(alloc: Global, name: &'a str, bytes: &[u8]) -> Result<Style, Ending<'a>>
     ensures style { IfOk result (λ style. said_style name.now (style_of_text bytes.now) ≡ Ok style) }
-    ensures plain { IfOk result (λ style. IsPlainStyle style) }
     ensures settled { IfErr result (λ ending. OnSettled (status_of ending)
         (said_style name.now (style_of_text bytes.now) ≡ Err (stop (status_of ending) (line_of ending)))) }
     ensures no_read { IfErr result (λ ending. OnReadFault (status_of ending) ⊥) }
@@ -80,13 +77,7 @@ fn style_of_bytes<'a>(alloc: Global, name: &'a str, bytes: &[u8]) -> Result<Styl
     ensures no_usage { IfErr result (λ ending. status_of ending ≢ Usage) }
 {
     match read_style(alloc, bytes) {
-        Ok(style) => {
-            if is_built_style(&style) {
-                Ok(style)
-            } else {
-                Err(Ending::NotBuilt(name))
-            }
-        }
+        Ok(style) => Ok(style),
         Err(fault) => match fault.kind {
             StyleKind::Memory => Err(Ending::Memory),
             _ => Err(Ending::BadStyle(name, fault)),
@@ -102,7 +93,6 @@ fn open_style_file<'a, H: Shelf>(
 ) -> Result<Style, Ending<'a>>
     ensures style { IfOk result (λ style. IfSome (H.held shelf.old) (λ held.
         read_by (λ bytes. said_style name.now (style_of_text bytes)) (fetched name.now (held name.now)) ≡ Ok style)) }
-    ensures plain { IfOk result (λ style. IsPlainStyle style) }
     ensures stopped { IfErr result (Stopped (λ held.
         read_by (λ bytes. said_style name.now (style_of_text bytes)) (fetched name.now (held name.now)))
         (NoFile name.now)
@@ -123,7 +113,6 @@ pub fn open_style<'a, H: Shelf>(
     requires { IsStyle word }
     ensures style { IfOk result (λ style. IfSome (H.held shelf.old) (λ held.
         opened_style (style_name word.entry) held ≡ Ok style)) }
-    ensures plain { IfOk result (λ style. IsPlainStyle style) }
     ensures stopped { IfErr result (Stopped (opened_style (style_name word.entry)) (NoStyle (style_name word.entry))
         (over_shelf (H.held shelf.old) (H.faults shelf.old) (H.faults shelf.new) (H.last_failed shelf.new))) }
     ensures same { H.held shelf.new ≡ H.held shelf.old }

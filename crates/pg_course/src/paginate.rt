@@ -1,8 +1,6 @@
 //! What is written for a galley.
 ghost use Rattle.std.specs.Prelude.{IfOk};
 ghost use Rattle.pg_rules.specs.Ranges.{AreInRange};
-ghost use Rattle.pg_flat.specs.Rigid.{AreRigid};
-ghost use Rattle.pg_plain.specs.Plain.{IsPlainStyle};
 ghost use Rattle.pg_floats.specs.AreFloats.{AreFloats};
 ghost use Rattle.pg_text_laws.specs.Texts.{LegalHaveEachOnce};
 ghost use Rattle.pg_course.specs.Out.{Out, bytes_of, end_of};
@@ -17,7 +15,7 @@ use pg_text_laws::legal_plans_have_each_once;
 use std::alloc::{AllocError, Global};
 use std::sync::ledger::Ledger;
 
-/// The text for a galley: that of its best pagination, or the line for none.
+/// The text that is written for a galley: of its best pagination, or for none.
 #[derive(Drop)]
 pub enum PageText {
     Best(Vec<u8>),
@@ -42,14 +40,12 @@ pub fn page_text_of<L: Ledger>(
     floats: &FloatList,
     steps: &mut Steps<L>,
 ) -> Result<PageText, AllocError>
-    requires floats { AreFloats galley.now.blocks style.now floats.now }
-    requires rigid { AreRigid galley.now.blocks }
-    requires plain { IsPlainStyle style.now }
+    requires { AreFloats galley.now.blocks style.now floats.now }
     ensures { IfOk result (λ page. Out galley.now style.now (bytes_of page) (end_of page)) }
 {
     each_once(galley, style);
     let mut text = Vec::new(alloc);
-    match solve(alloc, galley, style, steps)? {
+    match solve(alloc, galley, style, floats, steps)? {
         Outcome::Best(plan, cost) => {
             print_pages(galley, style, floats, &plan, cost, &mut text)?;
             Ok(PageText::Best(text))

@@ -1,15 +1,13 @@
 //! The command `run`.
 ghost use Rattle.std.specs.Prelude.{◌≡◌, Some};
-ghost use Rattle.pg_flat.specs.Rigid.{AreRigid};
-ghost use Rattle.pg_plain.specs.Plain.{IsPlainStyle};
 ghost use Rattle.pg_floats.specs.AreFloats.{AreFloats};
 ghost use Rattle.pg_command.specs.Words.{run as run_command, style_name, IsStyle};
-ghost use Rattle.pg_course.specs.Course.{PaginateGalley, BuiltGalley, RunGalley, RunCourse, opened};
+ghost use Rattle.pg_course.specs.Course.{PaginateGalley, RunGalley, RunCourse, opened};
 ghost use Rattle.pg_course.specs.Calls.{Goes, GoesOn, Writes, ending_of, over_shelf, over_sink};
 
-use crate::built::are_built;
 use crate::open::{open_galley, open_style};
-use crate::paginate::{PageText, page_text_of};
+use crate::paginate::page_text_of;
+use crate::write::write_text;
 use pg_command::{Ending, StyleWord};
 use pg_floats::{FloatFault, FloatList};
 use pg_list::Galley;
@@ -20,7 +18,7 @@ use std::alloc::Global;
 use std::sync::ledger::Ledger;
 
 // Writes the text for a galley in one piece, and answers how that ends the run.
-fn write_page_text<'a, O: Sink, L: Ledger>(
+fn write_pages<'a, O: Sink, L: Ledger>(
     alloc: Global,
     galley: &Galley,
     style: &Style,
@@ -28,44 +26,14 @@ fn write_page_text<'a, O: Sink, L: Ledger>(
     out: &mut O,
     steps: &mut Steps<L>,
 ) -> Ending<'a>
-    requires floats { AreFloats galley.now.blocks style.now floats.now }
-    requires rigid { AreRigid galley.now.blocks }
-    requires plain { IsPlainStyle style.now }
+    requires { AreFloats galley.now.blocks style.now floats.now }
     ensures writes { Writes (PaginateGalley style.now galley.now)
         (over_sink (O.written out.old) (O.written out.new) (O.faults out.old) (O.faults out.new)) result }
 {
     match page_text_of(alloc, galley, style, floats, steps) {
         Err(_) => Ending::Memory,
-        Ok(PageText::Best(text)) => match out.write(&text) {
-            Err(_) => Ending::WriteFault,
-            Ok(()) => Ending::Done,
-        },
-        Ok(PageText::NoLegal(text)) => match out.write(&text) {
-            Err(_) => Ending::WriteFault,
-            Ok(()) => Ending::NoLegal,
-        },
+        Ok(text) => write_text(&text, out),
     }
-}
-
-// Paginates a galley that is built.
-fn run_built<'a, O: Sink, L: Ledger>(
-    alloc: Global,
-    galley: &Galley,
-    style: &Style,
-    floats: &FloatList,
-    name: &'a str,
-    out: &mut O,
-    steps: &mut Steps<L>,
-) -> Ending<'a>
-    requires plain { IsPlainStyle style.now }
-    requires floats { AreFloats galley.now.blocks style.now floats.now }
-    ensures writes { Writes (BuiltGalley style.now name.now galley.now)
-        (over_sink (O.written out.old) (O.written out.new) (O.faults out.old) (O.faults out.new)) result }
-{
-    if !are_built(galley.blocks().as_slice()) {
-        return Ending::NotBuilt(name);
-    }
-    write_page_text(alloc, galley, style, floats, out, steps)
 }
 
 // How a run ends where a galley has no list of floats.
@@ -84,17 +52,15 @@ fn run_galley<'a, O: Sink, L: Ledger>(
     alloc: Global,
     galley: &Galley,
     style: &Style,
-    name: &'a str,
     out: &mut O,
     steps: &mut Steps<L>,
 ) -> Ending<'a>
-    requires { IsPlainStyle style.now }
-    ensures writes { Writes (RunGalley style.now name.now galley.now)
+    ensures writes { Writes (RunGalley style.now galley.now)
         (over_sink (O.written out.old) (O.written out.new) (O.faults out.old) (O.faults out.new)) result }
 {
     match FloatList::of(alloc, galley, style) {
         Err(fault) => float_ending(fault),
-        Ok(floats) => run_built(alloc, galley, style, &floats, name, out, steps),
+        Ok(floats) => write_pages(alloc, galley, style, &floats, out, steps),
     }
 }
 
@@ -108,14 +74,13 @@ fn run_file<'a, H: Shelf, O: Sink, L: Ledger>(
     out: &mut O,
     steps: &mut Steps<L>,
 ) -> Ending<'a>
-    requires { IsPlainStyle style.now }
-    ensures goes { GoesOn (λ held. RunCourse style.now name.now (opened name.now wrap (held name.now))) name.now
+    ensures goes { GoesOn (λ held. RunCourse style.now (opened name.now wrap (held name.now))) name.now
         (over_shelf (H.held shelf.old) (H.faults shelf.old) (H.faults shelf.new) (H.last_failed shelf.new))
         (over_sink (O.written out.old) (O.written out.new) (O.faults out.old) (O.faults out.new)) result }
 {
     match open_galley(alloc, name, wrap, shelf) {
         Err(ending) => ending,
-        Ok(galley) => run_galley(alloc, &galley, style, name, out, steps),
+        Ok(galley) => run_galley(alloc, &galley, style, out, steps),
     }
 }
 

@@ -1,7 +1,6 @@
 pub mod Columns
 pub mod Deals
 pub mod Distances
-pub mod Ends
 pub mod LeastRules
 pub mod MoveVerdict
 pub mod PageCounts
@@ -10,7 +9,6 @@ pub mod Priced
 pub mod Prices
 pub mod Seating
 pub mod Settling
-pub mod Spents
 pub mod Step
 pub mod Verdict
 pub mod Waiting

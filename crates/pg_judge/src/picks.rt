@@ -60,8 +60,8 @@ fn cost_along(blocks: &[Block], picks: &[u32]) -> u64
     sum
 }
 
-/// The blocks of a galley, which keep their shape and are few.
-pub fn all_blocks(galley: &Galley) -> &[Block]
+// The blocks of a galley, which keep their shape and are few.
+fn all_blocks(galley: &Galley) -> &[Block]
     ensures blocks { result.now ≡ galley.now.blocks }
     ensures shape { AllByRecursion IsBlock galley.now.blocks }
     ensures few { length galley.now.blocks ≤ 2 ^ 20 }

@@ -9,7 +9,7 @@ ghost use Rattle.pg_areas.specs.Given.{IsListOf};
 ghost use Rattle.pg_judge.specs.Progress.{IsKept, IsProgress, broken_pair};
 ghost use Rattle.pg_judge.specs.Settled.{JudgesPlan, Settles, answered};
 
-use crate::ending::{end_rule, has_dealt_all, is_spent_at};
+use crate::ending::end_rule;
 use crate::pages::misfilled;
 use crate::progress::{Broken, Progress, is_lost, lesser_of};
 use crate::rule::JudgeFault;
@@ -18,6 +18,7 @@ use pg_areas::slots_of;
 use pg_floats::FloatList;
 use pg_list::{Galley, Place};
 use pg_plan::{Counts, Pagination};
+use pg_remains::{has_dealt_all, is_spent_at};
 use pg_style::Style;
 use std::alloc::Global;
 

@@ -52,7 +52,7 @@ skip_later (suc i) h = refl
 
 -- ---- lengths
 
-inserts_few : (i : ℕ) → length (made_inserts i) ≤ 2
+pub inserts_few : (i : ℕ) → length (made_inserts i) ≤ 2
 inserts_few i = by (i % 5 == 4) (i % 7 == 3)
   where
     by : (a b : Bool) → length ((if a then made_note ∷ [] else []) ++ (if b then made_float (i % 3) ∷ [] else [])) ≤ 2

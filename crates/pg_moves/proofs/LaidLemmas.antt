@@ -1,5 +1,5 @@
 -- Heights of areas whose floats are there.
-use Rattle.std.proofs.Common.{◌≡◌, refl, sym, ap, ◌∙◌, subst, ℕ, ◌<◌, List, true, Option, Some, None, ℤ, pos, arith}
+use Rattle.std.proofs.Common.{◌≡◌, refl, sym, ap, ◌∙◌, subst, ℕ, ◌<◌, List, true, Option, Some, None, ℤ, pos, arith, ◌++◌, map, take, get_or, length, ◌+◌, [], ◌∷◌}
 use Rattle.std.specs.Prelude.{nat_abs, ◌^◌, ◌≤ℤ◌, ◌<ℤ◌, ◌&&◌, int_le, int_lt, ◌-ℤ◌, ◌+ℤ◌, unwrap_or, IfSome}
 use Rattle.std.specs.Option.{option_map_or}
 use Rattle.std.proofs.lemmas.Int.{ints}
@@ -13,6 +13,8 @@ use Rattle.std.specs.List.{AllByRecursion}
 use Rattle.pg_list.specs.Shapes.{IsBlock}
 use Rattle.pg_bound_laws.proofs.Areas.{area_range, dealt_range, floats_range}
 use Rattle.pg_layouts.specs.declared.layout.Layout.{Layout}
+use Rattle.std.proofs.lemmas.List.{map-append}
+use Rattle.pg_lemmas.proofs.Lists.{all_append, one_more}
 use Rattle.pg_lemmas.proofs.Bools.{both_of}
 use Rattle.pg_move_laws.proofs.Moves.{checked_is}
 use Rattle.pg_move_laws.specs.Steps.{area_of, text_room}
@@ -78,3 +80,18 @@ laid_is doc u layout wide before below after room by a r =
         ◌≡◌ {A = Laid} (record { layout = layout; wide = w; after = a; room = r })
         (record { layout = layout; wide = w'; after = a'; room = r' })
     same w w' a a' r r' p q s = cc
+
+-- one more layout behind those before it
+pub laid_more : (doc : Document) (u : State) (layouts : List Layout) (i : ℕ) (layout copy : Layout) (it : Laid)
+    (mid new : List Laid) → i < length layouts → layout ≡ get_or layouts i layout → copy ≡ layout →
+    it ≡ laid_of doc u copy → nat_abs it.room < 2 ^ 40 → mid ≡ map (laid_of doc u) (take i layouts) →
+    AllByRecursion (λ (x : Laid). nat_abs x.room < 2 ^ 40) mid → new ≡ mid ++ it ∷ [] →
+    (new ≡ map (laid_of doc u) (take (i + 1) layouts)) × AllByRecursion (λ (x : Laid). nat_abs x.room < 2 ^ 40) new
+laid_more doc u layouts i layout copy it mid new less is c e small h all n = (
+  n ∙ (ap (λ (xs : List Laid). xs ++ it ∷ []) h
+      ∙ (ap (λ (x : Laid). map (laid_of doc u) (take i layouts) ++ x ∷ []) (e ∙ ap (laid_of doc u) c)
+      ∙ (sym (map-append (laid_of doc u) (take i layouts) (layout ∷ []))
+      ∙ ap (map (laid_of doc u)) (sym (one_more layouts i layout less is))))),
+  subst (AllByRecursion (λ (x : Laid). nat_abs x.room < 2 ^ 40)) (sym n)
+      (all_append (λ (x : Laid). nat_abs x.room < 2 ^ 40) mid (it ∷ []) all (small, tt)),
+)

@@ -1,6 +1,10 @@
+pub mod AllSteps
 pub mod CalledFew
+pub mod Dealt
 pub mod Next
 pub mod LaidLemmas
 pub mod RoomLists
 pub mod Settles
+pub mod Standing
 pub mod Stepped
+pub mod Tallest

@@ -12,6 +12,7 @@ use Rattle.pg_list.specs.declared.galley.Place.{Place}
 use Rattle.pg_rules.specs.Room.{Document}
 use Rattle.pg_walk_laws.specs.Laws.{AreEndsInEach}
 use Rattle.pg_moves.specs.Rooms.{AreRooms, ends_in, has_room, with_room, with_rooms}
+use Rattle.pg_moves.proofs.Tallest.{rooms_up}
 use Rattle.pg_moves.specs.declared.laid.Laid.{Laid}
 
 has_last : (rooms : List ℤ) (room : ℤ) → has_room (rooms ++ room ∷ []) room ≡ true
@@ -83,6 +84,7 @@ pub rooms_are : (laid : List Laid) (rooms : List ℤ) →
 rooms_are laid rooms small e = subst (AreRooms laid) (sym e) (record {
   has = all_have [] laid;
   small = all_small [] laid tt small;
+  up_to = λ top low. rooms_up top [] laid tt low;
 })
 
 -- the ends in a room that is among the rooms

@@ -1,19 +1,25 @@
 -- A layout with what it makes of its page.
-use Rattle.std.specs.Prelude.{◌≡◌, ℕ, ◌≤◌, true, List, length, Option, ℤ}
+use Rattle.std.specs.Prelude.{◌≡◌, ℕ, ◌≤◌, ◌<◌, ◌^◌, true, List, length, nat_abs, Option, ℤ}
 use Rattle.pg_plan.specs.declared.states.State.{State}
-use Rattle.pg_rules.specs.Floats.{dealt, float_numbers, floats, has_all, plus_counts}
+use Rattle.pg_rules.specs.Floats.{dealt, entry, float_numbers, floats, has_all, plus_counts}
 use Rattle.pg_rules.specs.Legal.{document}
 use Rattle.pg_rules.specs.Room.{Document}
 use Rattle.pg_layouts.specs.Fit.{Fit}
+use Rattle.pg_layouts.specs.Layouts.{zeros}
 use Rattle.pg_layouts.specs.declared.layout.Layout.{Layout}
 use Rattle.pg_move_laws.specs.Listed.{placed_with}
-use Rattle.pg_move_laws.specs.Steps.{text_room, wide_of}
+use Rattle.pg_move_laws.specs.Steps.{float_counts, text_room, wide_of}
 use Rattle.pg_moves.specs.declared.laid.Laid.{Laid}
 use Rattle.pg_moves.specs.declared.sources.Sources.{Sources}
 
 -- the galley's blocks and the style
 abbrev pub doc_of : Sources → Document
 doc_of sources = document sources.galley.now sources.style.now
+
+-- the galley has so many floats of each class
+abbrev pub HasSoMany : Document → List ℕ → Type 0
+HasSoMany doc counts = (slot : ℕ) → slot < length (float_numbers doc.style) →
+    entry counts slot ≤ entry (float_counts doc) slot
 
 -- an area deals out floats that are there, and four at most
 pub record IsThere (doc : Document) (before counts : List ℕ) : Type 0 where
@@ -43,3 +49,10 @@ laid_of doc u layout = record {
   after = placed_with doc.style u.placed layout;
   room = text_room doc u layout;
 }
+
+-- such a layout of a column without text: a count of each class at the top, and none at the bottom
+pub record IsFloatLaid (doc : Document) (u : State) (it : Laid) : Type 0 where
+  pub is : it ≡ laid_of doc u it.layout
+  pub small : nat_abs it.room < 2 ^ 40
+  pub long : length it.layout.top ≡ length (float_numbers doc.style)
+  pub bottom : it.layout.bottom ≡ zeros doc.style

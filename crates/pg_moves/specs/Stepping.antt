@@ -1,16 +1,19 @@
 -- The parts of a step to an end, from what is settled there.
-use Rattle.std.specs.Prelude.{ℕ, ◌+◌, ◌==◌, if◌then◌else◌, List, Option, Some, None, ℤ, pos, ◌+ℤ◌}
+use Rattle.std.specs.Prelude.{◌≡◌, ℕ, ◌+◌, Bool, ◌==◌, ◌&&◌, ◌||◌, nat_lt, if◌then◌else◌, is_some, List, [], ◌∷◌, Option, Some, None, ℤ, pos, ◌+ℤ◌}
 use Rattle.pg_list.specs.declared.galley.Place.{Place}
 use Rattle.pg_plan.specs.declared.states.State.{State}
 use Rattle.pg_style.specs.Values.{StyleValue}
 use Rattle.pg_ends.specs.declared.end.End.{End}
 use Rattle.pg_rules.specs.Cost.{run_demerits}
+use Rattle.pg_rules.specs.Floats.{total_count}
 use Rattle.pg_rules.specs.Follow.{fills_page, keeps_run, other_side}
-use Rattle.pg_move_laws.specs.Steps.{fitness_cost}
+use Rattle.pg_move_laws.specs.Steps.{fitness_cost, wide_of}
 use Rattle.pg_plan.specs.declared.pages.PageMove.{PageMove}
 use Rattle.pg_rules.specs.Room.{Document}
 use Rattle.pg_table.specs.declared.step.Step.{Step}
-use Rattle.pg_move_laws.specs.Listed.{listed_with}
+use Rattle.pg_layouts.specs.declared.layout.Layout.{Layout}
+use Rattle.pg_move_laws.specs.Laws.{AreEndsOf}
+use Rattle.pg_move_laws.specs.Listed.{column_fits, listed_stay, listed_text, listed_with, stays_on}
 use Rattle.pg_moves.specs.Rooms.{ends_in}
 use Rattle.pg_moves.specs.declared.laid.Laid.{Laid}
 
@@ -41,3 +44,29 @@ cost_at style u laid end price =
 -- the steps to the ends in the room of a layout
 abbrev pub steps_in : Document → State → List ℤ → List (List End) → Laid → List (Step State PageMove)
 steps_in doc u rooms lists it = listed_with doc u (λ layout. ends_in rooms lists it.room) it.layout
+
+-- the steps of the columns of text with counts up to a ceiling, by the ends of each layout
+pub record AreTextSteps (doc : Document) (u : State) (ceiling : List ℕ) (steps : List (Step State PageMove)) :
+    Type 0 where
+  pub ends : Layout → List End
+  pub are : AreEndsOf doc u ceiling ends
+  pub is : steps ≡ listed_text doc u ceiling ends
+
+-- ---- columns without text
+
+-- it has a float or a wide area, and is no higher than its page
+abbrev pub can_stand : Document → State → Layout → Bool
+can_stand doc u layout =
+    (nat_lt 0 (total_count layout.top) || is_some (wide_of doc u layout.wide)) && column_fits doc u layout
+
+-- what it pays, with this price for its floats
+abbrev pub stay_price : StyleValue → State → Laid → ℕ → ℤ
+stay_price style u laid price = pos style.float_column.demerits +ℤ page_price style u laid price
+
+-- the fitness that the next column is compared with: version 1 compares none, and a column without text has none
+abbrev pub fitness_behind : StyleValue → State → Option ℕ
+fitness_behind style u = if style.version == 1 then None else u.fitness
+
+-- its step, where it may stay
+abbrev pub stay_in : Document → State → Laid → List (Step State PageMove)
+stay_in doc u it = if stays_on doc u it.layout then listed_stay doc u it.layout ∷ [] else []

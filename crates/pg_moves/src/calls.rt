@@ -16,8 +16,8 @@ impl Sources<'_> {
         self.floats.called(self.galley, place, slot)
     }
 
-    // The same in 16 bits.
-    pub(crate) fn called_at(&self, place: Place, slot: usize) -> u16
+    /// How many floats of a slot are called before a place.
+    pub fn called_at(&self, place: Place, slot: usize) -> u16
         ensures { result ≡ entry (called self.now.galley.now.blocks self.now.style.now place) slot }
     {
         self.count_called(place, slot) as u16

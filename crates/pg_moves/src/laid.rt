@@ -1,10 +1,12 @@
 //! Layouts with what they make of their pages.
-ghost use Rattle.std.specs.Prelude.{◌≡◌, ◌<◌, ◌^◌, ◌-ℤ◌, length, nat_abs, nat_lt, map, pos, unwrap_or, IfOk, IfSome};
+ghost use Rattle.std.specs.Prelude.{◌≡◌, ◌<◌, ◌^◌, ◌-ℤ◌, Contains, length, map, nat_abs, nat_lt, pos, unwrap_or, IfOk, IfSome};
 ghost use Rattle.pg_rules.specs.Floats.{float_numbers, plus_counts as the_plus_counts, total_count};
 ghost use Rattle.pg_rules.specs.IsState.{IsState};
 ghost use Rattle.pg_layouts.specs.declared.layout.Layout.{Layout as ALayout};
 ghost use Rattle.pg_move_laws.specs.Steps.{area_of, text_room, wide_of};
 ghost use Rattle.pg_plan.specs.declared.states.State.{State as AState};
+ghost use Rattle.std.specs.List.{AllByRecursion};
+ghost use Rattle.pg_moves.specs.declared.laid.Laid.{Laid as ALaid};
 ghost use Rattle.pg_moves.specs.Laid.{IsLaid, IsLaidBy, IsThere, doc_of, laid_of};
 
 use crate::sources::Sources;
@@ -79,7 +81,7 @@ impl Sources<'_> {
     }
 
     // Whether counts deal out a float.
-    fn has_floats(&self, counts: &Counts) -> bool
+    pub(crate) fn has_floats(&self, counts: &Counts) -> bool
         requires { length counts.now ≡ length (float_numbers self.now.style.now) }
         ensures { result ≡ nat_lt 0 (total_count counts.now) }
     {
@@ -152,5 +154,19 @@ impl Sources<'_> {
             after,
             room,
         })
+    }
+
+    /// Layouts with what they make of their pages behind a state.
+    pub fn lay_all(&self, state: &State, layouts: &[Layout]) -> Result<Vec<Laid>, AllocError>
+        requires own { IsState (doc_of self.now) state.now }
+        requires laid { (layout : ALayout) → Contains layouts.now layout → IsLaid (doc_of self.now) state.now layout }
+        ensures laid { IfOk result (λ laid. laid.items ≡ map (laid_of (doc_of self.now) state.now) layouts.now) }
+        ensures small { IfOk result (λ laid. AllByRecursion (λ (it : ALaid). nat_abs it.room < 2 ^ 40) laid.items) }
+    {
+        let mut laid = Vec::new(self.alloc);
+        for layout in layouts {
+            laid.push(self.lay(state, layout.copy()?)?)?;
+        }
+        Ok(laid)
     }
 }

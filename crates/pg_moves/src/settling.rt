@@ -50,8 +50,8 @@ impl Sources<'_> {
         entry(after, slot) <= self.called_at(to, slot)
     }
 
-    // Whether so many floats of each class are called before a place.
-    pub(crate) fn calls_all(&self, to: Place, after: &[u16]) -> bool
+    /// Whether so many floats of each class are called before a place.
+    pub fn calls_all(&self, to: Place, after: &[u16]) -> bool
         ensures { result ≡ calls_all_of (doc_of self.now) to after.now }
     {
         let slots = self.slots();

@@ -94,8 +94,8 @@ fn kept_run(side: Side, run: u8) -> Option<u8>
     }
 }
 
-// The state behind a column.
-fn state_behind(
+/// The state behind a column.
+pub fn state_behind(
     style: &Style,
     state: &State,
     laid: &Laid,
@@ -149,8 +149,8 @@ fn move_to(state: &State, laid: &Laid, end: &End) -> Result<PageMove, AllocError
     })
 }
 
-// What a column pays for its page's run and for its floats.
-fn page_price(style: &Style, state: &State, laid: &Laid, price: u128) -> i128
+/// What a column pays for its page's run and for its floats.
+pub fn page_price(style: &Style, state: &State, laid: &Laid, price: u128) -> i128
     requires { price ≤ 2 ^ 51 }
     ensures value { result ≡ page_price_of style.now state.now laid.now price }
     ensures size { nat_abs result ≤ 2 ^ 52 }

@@ -41,7 +41,7 @@ int_le_trans : (x y z : ℤ) → x ≤ℤ y → y ≤ℤ z → x ≤ℤ z
 int_le_trans x y z p q = omega (arith, ints)
 
 -- a run that exists has no more extra than the greatest
-extra_low : (runs : List Run) (run : ℕ) → is_some (slice_get runs run) ≡ true →
+pub extra_low : (runs : List Run) (run : ℕ) → is_some (slice_get runs run) ≡ true →
     option_map_or (λ (it : Run). it.extra) (slice_get runs run) (pos 0) ≤ℤ greatest_extra runs
 extra_low [] run h = absurd cc
 extra_low (x ∷ []) zero h = omega (arith, ints)

@@ -3,10 +3,12 @@ use Rattle.std.specs.Prelude.{◌≡◌, ℕ, ◌+◌, List, length}
 use Rattle.pg_list.specs.GalleyValue.{GalleyValue}
 use Rattle.pg_plan.specs.declared.pages.PageMove.{PageMove}
 use Rattle.pg_plan.specs.declared.pages.Pagination.{Pagination}
+use Rattle.pg_plan.specs.declared.states.Label.{Label}
 use Rattle.pg_plan.specs.declared.states.State.{State}
 use Rattle.pg_style.specs.Values.{StyleValue}
 use Rattle.pg_rules.specs.Best.{Best}
 use Rattle.pg_rules.specs.Cost.{cost}
+use Rattle.pg_rules.specs.Frontier.{Frontier}
 use Rattle.pg_rules.specs.Legal.{Legal, document}
 use Rattle.pg_table.specs.declared.table.Entry.{Entry}
 use Rattle.pg_table.specs.Label.{IsTable}
@@ -18,6 +20,12 @@ use Rattle.pg_space.specs.declared.solving.Outcome.TheVariants.{Best as BestIs, 
 abbrev pub Solves : GalleyValue → StyleValue → Outcome → Type 0
 Solves galley style (BestIs plan total) = Best galley style plan × (cost galley style plan ≡ total)
 Solves galley style NoLegal = (plan : Pagination) → Legal galley style plan → ⊥
+
+-- the frontier of the galley has so many labels
+pub record HasFrontier (galley : GalleyValue) (style : StyleValue) (count : ℕ) : Type 0 where
+  pub labels : List Label
+  pub frontier : Frontier galley style labels
+  pub counted : length labels ≡ count
 
 -- the steps rose by exactly the number of labels of a table that is filled for the galley's pages
 pub record TakesSteps (galley : GalleyValue) (style : StyleValue) (before after : ℕ) : Type 0 where

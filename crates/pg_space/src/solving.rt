@@ -3,21 +3,23 @@ ghost use Rattle.std.specs.Prelude.{◌≡◌, ◌<◌, length, slice_get, Some,
 ghost use Rattle.pg_plan.specs.declared.pages.PageMove.{PageMove as AMove};
 ghost use Rattle.pg_plan.specs.declared.states.State.{State as AState};
 ghost use Rattle.pg_table.specs.declared.table.Entry.{Entry as AnEntry};
-ghost use Rattle.pg_flat.specs.Rigid.{AreRigid};
-ghost use Rattle.pg_plain.specs.Plain.{IsPlainStyle};
-ghost use Rattle.pg_rules.specs.Legal.{document};
+ghost use Rattle.pg_floats.specs.AreFloats.{AreFloats};
+ghost use Rattle.pg_moves.specs.Laid.{doc_of};
 ghost use Rattle.pg_space_laws.specs.PageSpace.{page_meaning};
 ghost use Rattle.pg_table.specs.Label.{IsBestOf, IsTable};
-ghost use Rattle.pg_space.specs.Solves.{Solves, TakesSteps};
+ghost use Rattle.pg_space.specs.Solves.{HasFrontier, Solves, TakesSteps};
 
+use crate::kept::{Document, KeptPages};
 use crate::runs::moves_of;
 use crate::space::PageSpace;
+use pg_floats::FloatList;
 use pg_list::Galley;
-use pg_plan::{PageMove, Pagination, State};
+use pg_plan::{PageKey, PageMove, Pagination, State};
 use pg_steps::Steps;
 use pg_style::Style;
 use pg_table::{Entry, Table};
 use std::alloc::{AllocError, Global};
+use std::marker::Brand;
 use std::sync::ledger::Ledger;
 
 /// The best pagination of a galley with its cost, or that none is legal.
@@ -27,26 +29,97 @@ pub enum Outcome {
     NoLegal,
 }
 
-/// The best pagination of the galley with its cost, or `NoLegal` where none is legal. The galley is of boxes and glue
-/// that neither stretches nor shrinks, the style is plain. It takes one step for each label of a filled table.
+/// An outcome, and how many labels the frontier has.
+#[derive(Drop)]
+pub struct Counted {
+    pub outcome: Outcome,
+    pub labels: usize,
+}
+
+/// The best pagination of the galley with its cost, or `NoLegal` where none is legal. It takes one step for each label
+/// of a filled table.
 pub fn solve<L: Ledger>(
     alloc: Global,
     galley: &Galley,
     style: &Style,
+    floats: &FloatList,
     steps: &mut Steps<L>,
 ) -> Result<Outcome, AllocError>
-    requires rigid { AreRigid galley.now.blocks }
-    requires plain { IsPlainStyle style.now }
+    requires { AreFloats galley.now.blocks style.now floats.now }
     ensures solves { IfOk result (Solves galley.now style.now) }
     ensures steps { IfOk result (λ outcome. TakesSteps galley.now style.now steps.old steps.new) }
 {
-    let space = PageSpace::new(alloc, galley, style);
+    Ok(solve_counted(alloc, galley, style, floats, steps)?.outcome)
+}
+
+/// The same, with the number of labels in the frontier: of states that stay in the race.
+pub fn solve_counted<L: Ledger>(
+    alloc: Global,
+    galley: &Galley,
+    style: &Style,
+    floats: &FloatList,
+    steps: &mut Steps<L>,
+) -> Result<Counted, AllocError>
+    requires { AreFloats galley.now.blocks style.now floats.now }
+    ensures solves { IfOk result (λ it. Solves galley.now style.now it.outcome) }
+    ensures labels { IfOk result (λ it. HasFrontier galley.now style.now it.labels) }
+    ensures steps { IfOk result (λ it. TakesSteps galley.now style.now steps.old steps.new) }
+{
+    solve_kept::<Brand, L>(alloc, galley, style, floats, steps)
+}
+
+// The same of one document, where states of one place share a walk.
+fn solve_kept<D: Document, L: Ledger>(
+    alloc: Global,
+    galley: &Galley,
+    style: &Style,
+    floats: &FloatList,
+    steps: &mut Steps<L>,
+) -> Result<Counted, AllocError>
+    requires floats { AreFloats galley.now.blocks style.now floats.now }
+    requires galley { galley.now ≡ D.galley }
+    requires style { style.now ≡ D.style }
+    ensures solves { IfOk result (λ it. Solves galley.now style.now it.outcome) }
+    ensures labels { IfOk result (λ it. HasFrontier galley.now style.now it.labels) }
+    ensures steps { IfOk result (λ it. TakesSteps galley.now style.now steps.old steps.new) }
+{
+    let space = KeptPages::<D>::new(alloc, galley, style, floats);
     let mut table = Table::new(alloc);
     table.fill(&space, steps)?;
+    read_table(alloc, &space.pages, &table)
+}
+
+// What a filled table tells.
+fn read_table(
+    alloc: Global,
+    space: &PageSpace<'_>,
+    table: &Table<State, PageMove, PageKey>,
+) -> Result<Counted, AllocError>
+    requires { IsTable (page_meaning (doc_of space.now.sources)) table.now }
+    ensures solves { IfOk result (λ it. Solves space.now.sources.galley.now space.now.sources.style.now it.outcome) }
+    ensures labels { IfOk result (λ it. HasFrontier space.now.sources.galley.now space.now.sources.style.now
+        it.labels) }
+{
     space.table_tells_all();
-    match table.best(&space) {
+    Ok(Counted {
+        outcome: outcome_of(alloc, space, table)?,
+        labels: table.labels().len(),
+    })
+}
+
+// The best pagination, or that none is legal.
+fn outcome_of(
+    alloc: Global,
+    space: &PageSpace<'_>,
+    table: &Table<State, PageMove, PageKey>,
+) -> Result<Outcome, AllocError>
+    requires { IsTable (page_meaning (doc_of space.now.sources)) table.now }
+    ensures { IfOk result (Solves space.now.sources.galley.now space.now.sources.style.now) }
+{
+    space.table_tells_all();
+    match table.best(space) {
         None => Ok(Outcome::NoLegal),
-        Some(index) => best_at(alloc, &space, table.labels(), index),
+        Some(index) => best_at(alloc, space, table.labels(), index),
     }
 }
 
@@ -64,10 +137,9 @@ fn best_at(
     labels: &[Entry<State, PageMove>],
     index: usize,
 ) -> Result<Outcome, AllocError>
-    requires table { IsTable (page_meaning (document space.now.galley.now space.now.style.now)) labels.now }
-    requires best { IsBestOf (page_meaning (document space.now.galley.now space.now.style.now)) labels.now labels.now
-        index }
-    ensures { IfOk result (Solves space.now.galley.now space.now.style.now) }
+    requires table { IsTable (page_meaning (doc_of space.now.sources)) labels.now }
+    requires best { IsBestOf (page_meaning (doc_of space.now.sources)) labels.now labels.now index }
+    ensures { IfOk result (Solves space.now.sources.galley.now space.now.sources.style.now) }
 {
     space.table_tells_all();
     let moves = moves_of(alloc, labels, index)?;

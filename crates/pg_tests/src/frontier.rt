@@ -1,10 +1,8 @@
 //! The labels and the best pagination of a galley, worked out by hand.
 ghost use Rattle.std.specs.Prelude.{◌≡◌};
-ghost use Rattle.std.specs.Bool.{OnTrue};
-ghost use Rattle.pg_flat.specs.Rigid.{AreRigid};
 
 use crate::rows::equal_lines;
-use pg_list::{Block, Item};
+use pg_floats::FloatList;
 use pg_showbox::read_galley;
 use pg_space::{Outcome, PageSpace, solve};
 use pg_steps::Steps;
@@ -26,27 +24,7 @@ struct Solved {
     cost: i128,
 }
 
-fn are_rigid(blocks: &[Block]) -> bool
-    ensures { OnTrue result (AreRigid blocks.now) }
-{
-    match blocks {
-        [] => true,
-        [Block::One(Item::BoxItem { .. }), rest @ ..] => are_rigid(rest),
-        [
-            Block::One(
-                Item::Glue {
-                    stretch,
-                    shrink,
-                    ..
-                },
-            ),
-            rest @ ..,
-        ] => { *stretch == 0 && *shrink == 0 && are_rigid(rest) }
-        _ => false,
-    }
-}
-
-// On pages of 58 points; None where the text is no galley, or no pagination is legal.
+// On pages of 58 points; None where the text is no galley or has inserts, or no pagination is legal.
 fn solve_text<L: Ledger>(
     alloc: Global,
     text: &[u8],
@@ -64,19 +42,19 @@ fn solve_text<L: Ledger>(
     let Ok(galley) = read_galley(alloc, text, None) else {
         return Ok(None);
     };
-    if !are_rigid(galley.blocks().as_slice()) {
+    let Ok(floats) = FloatList::of(alloc, &galley, &style) else {
         return Ok(None);
-    }
+    };
     let mut blocks = Vec::new(alloc);
     {
-        let space = PageSpace::new(alloc, &galley, &style);
+        let space = PageSpace::new(alloc, &galley, &style, &floats);
         let mut table = Table::new(alloc);
         table.fill(&space, &mut steps)?;
         for label in table.labels() {
             blocks.push(label.state.place.block)?;
         }
     }
-    match solve(alloc, &galley, &style, &mut steps)? {
+    match solve(alloc, &galley, &style, &floats, &mut steps)? {
         Outcome::Best(plan, cost) => Ok(Some(Solved {
             blocks,
             pages: plan.pages.as_slice().len(),

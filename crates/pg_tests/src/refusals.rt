@@ -32,7 +32,16 @@ run -style g
 run style -g
 edit style g script
 check style g output
-make 1
+make
+make x
+make 2001
+make 00000000001
+make -1
+make 1.0
+make 1 2
+make --wrap 79 1
+make --height 58.0 1
+make 1 --wrap 79
 run --width 58.0 g
 run --height x g
 run --height 58 g
@@ -43,18 +52,7 @@ run --height 16384.0 g
 run --height 58.0 
 run --height 58.0 -g";
 
-// Galleys in short that are not built yet.
-const NOT_BUILT: &str = r"RB.\penalty 150~
-R.\rule(1.0+0.0)x*~
-R.\kern 1.0~B
-RB.\mark{x}
-RCVBE
-RB.\glue 3.0 plus 1.0~
-RB.\glue 3.0 minus 1.0~
-RB.\glue 3.0 plus 1.0fil~
-R.\leaders 2.0 plus -1.0~";
-
-// Galleys in short whose first insert has the class 200: it counts, and it comes before what is not yet built.
+// Galleys in short whose first insert has the class 200.
 const STRANGE: &str = r"RBI
 R.\penalty 150~BI.\insert100, natural size 9.0~
 RCVBI.\insert100, natural size 9.0~E";
@@ -73,25 +71,6 @@ fn words_that_are_no_command(rt: HostRuntime) -> Result<(), Fail> {
             b"usage: pg run|edit|check|show|make\n".as_slice(),
             "of {line}"
         );
-    }
-    Ok(())
-}
-
-#[test]
-fn galleys_that_are_not_built(rt: HostRuntime) -> Result<(), Fail> {
-    let alloc = rt.alloc();
-    for text in NOT_BUILT.lines() {
-        let words = "run --wrap 79 --height 58.0 g";
-        let end = call(alloc, words, World::of(alloc, galley(alloc, text)?)?)?;
-        assert_eq!(rt; end.status, Status::Refused, "of {text}");
-        assert_eq!(rt; end.out.as_slice(), b"".as_slice(), "of {text}");
-        assert_eq!(rt;
-            end.say.as_slice(),
-            b"pg: g: not yet built\n".as_slice(),
-            "of {text}"
-        );
-        let end = call(alloc, "show g", World::of(alloc, galley(alloc, text)?)?)?;
-        assert_eq!(rt; end.status, Status::Done, "of {text}");
     }
     Ok(())
 }
@@ -167,6 +146,18 @@ fn an_output_that_fails(rt: HostRuntime) -> Result<(), Fail> {
     let end = call(alloc, "run --height 550.0 g", failing)?;
     assert_eq!(rt; end.status, Status::WriteFault);
     assert_eq!(rt; end.out.as_slice(), b"no legal".as_slice());
+    assert_eq!(rt; end.say.as_slice(), b"pg: output failed\n".as_slice());
+    Ok(())
+}
+
+#[test]
+fn an_output_that_fails_while_a_galley_is_made(rt: HostRuntime) -> Result<(), Fail> {
+    let alloc = rt.alloc();
+    let mut failing = World::of(alloc, TWO_LINES.to_vec(alloc)?)?;
+    failing.failing_writes.push((1, 6))?;
+    let end = call(alloc, "make 0", failing)?;
+    assert_eq!(rt; end.status, Status::WriteFault);
+    assert_eq!(rt; end.out.as_slice(), b"make 0".as_slice());
     assert_eq!(rt; end.say.as_slice(), b"pg: output failed\n".as_slice());
     Ok(())
 }

@@ -1,9 +1,19 @@
 //! Galleys and their page texts, worked out by hand from the rules.
-use crate::cases::{World, call};
+use crate::cases::{World, call, galley};
 use pg_scaled::{Front, print_scaled, read_scaled};
 use pg_top::Status;
 use std::alloc::{AllocError, Global};
 use std::test::Fail;
+
+// Galleys in short that hold one item of each kind beside a box, on a page of their own.
+const ONE_PAGE: &str = r"RB.\penalty 150~
+R.\rule(1.0+0.0)x*~
+R.\kern 1.0~B
+RB.\mark{x}
+RCVBE
+RB.\glue 3.0 plus 1.0~
+RB.\glue 3.0 minus 1.0~
+RB.\glue 3.0 plus 1.0fil~";
 
 // Lines of 7 points above and 2 below the baseline, with glue of 3 points between.
 pub fn equal_lines(alloc: Global, count: u32) -> Result<Vec<u8>, AllocError> {
@@ -96,6 +106,45 @@ fn a_page_looks_ahead(rt: HostRuntime) -> Result<(), Fail> {
     want.extend_from_slice(&page(alloc, b"3", b"5 0 0 to 7 0 0", last, three)?)?;
     assert_eq!(rt; end.status, Status::Done);
     assert_eq!(rt; end.out.as_slice(), want.as_slice());
+    Ok(())
+}
+
+#[test]
+fn an_item_of_each_kind_beside_a_box(rt: HostRuntime) -> Result<(), Fail> {
+    let alloc = rt.alloc();
+    let head = b"pages 1 cost 100 width 345.0\n".as_slice();
+    for text in ONE_PAGE.lines() {
+        let words = "run --wrap 79 --height 58.0 g";
+        let end = call(alloc, words, World::of(alloc, galley(alloc, text)?)?)?;
+        assert_eq!(rt; end.status, Status::Done, "of {text}");
+        assert!(rt; end.out.as_slice().starts_with(head), "of {text}");
+        assert_eq!(rt; end.say.as_slice(), b"".as_slice(), "of {text}");
+        let end = call(alloc, "show g", World::of(alloc, galley(alloc, text)?)?)?;
+        assert_eq!(rt; end.status, Status::Done, "of {text}");
+    }
+    Ok(())
+}
+
+// Of one paragraph there are three lengths of 10, 7 and 13 items on one page. Of its labels one is the start. Nine
+// inner penalties and the end come behind page 1 in one of three runs, which are 30. Six inner penalties, which a
+// second column can reach, and the end come before a left page, which are 7.
+#[test]
+fn galleys_that_are_made(rt: HostRuntime) -> Result<(), Fail> {
+    let alloc = rt.alloc();
+    for (words, line) in [
+        ("make 0", "make 0 items 0 pages 0 cost 0 labels 1\n"),
+        (
+            "make 0000000001",
+            "make 1 items 30 pages 1 cost 100 labels 38\n",
+        ),
+    ] {
+        let mut world = World::of(alloc, equal_lines(alloc, 0)?)?;
+        world.failing_fetches.push(1)?;
+        let end = call(alloc, words, world)?;
+        assert_eq!(rt; end.status, Status::Done, "of {words}");
+        assert_eq!(rt; end.out.as_slice(), line.as_bytes(), "of {words}");
+        assert_eq!(rt; end.say.as_slice(), b"".as_slice(), "of {words}");
+    }
     Ok(())
 }
 

@@ -1,4 +1,4 @@
-//! Galleys paginated with the style of a file, and what is said where that is at fault or not built.
+//! Galleys paginated with the style of a file, and what is said where that is at fault.
 use crate::cases::{World, call, galley};
 use crate::rows::{equal_lines, two_full_pages};
 use pg_top::Status;
@@ -49,12 +49,16 @@ version = 1|version = 2|style fault 2 at fitness
 max_looseness = 0|max_looseness = 0~fitness = 0|style fault 3 at fitness
 version = 1|version|style fault 1 at -
 demerits = 1000|demerits = 1000~[[classes]]~number = 100~kind = "float"~area = "top"~distance = [5, 3]|style fault 6 at classes[0].distance
-gap = "0.0"|gap = "-1.0"|style fault 5 at top.gap
-columns = 1|columns = 2|not yet built
-first = "single"|first = "left"|not yet built
-[top]|[[runs]]~extra = "12.0"~demerits = 300~[top]|not yet built
-demerits = 1000|demerits = 1000~[[classes]]~number = 200~kind = "note"~skip = "4.0"~limit = "100.0"|not yet built
-version = 1|version = 2~fitness = 1|not yet built"#;
+gap = "0.0"|gap = "-1.0"|style fault 5 at top.gap"#;
+
+// A line of that file and what stands in its place: two columns, spreads, a run that costs more, notes, floats, a price
+// of fitness.
+const TAKEN: &str = r#"columns = 1|columns = 2
+first = "single"|first = "left"
+[top]|[[runs]]~extra = "12.0"~demerits = 300~[top]
+demerits = 1000|demerits = 1000~[[classes]]~number = 200~kind = "note"~skip = "4.0"~limit = "100.0"
+demerits = 1000|demerits = 1000~[[classes]]~number = 100~kind = "float"~area = "top"~distance = [0, 5]
+version = 1|version = 2~fitness = 1"#;
 
 // The file with a text in place of a line.
 fn changed(alloc: Global, line: &str, by: &str) -> Result<Vec<u8>, AllocError> {
@@ -88,6 +92,28 @@ fn the_style_of_a_file_is_taken(rt: HostRuntime) -> Result<(), Fail> {
             "of {by}"
         );
         assert_eq!(rt; end.say.as_slice(), b"".as_slice(), "of {by}");
+    }
+    Ok(())
+}
+
+// One line stands on one page at the same cost, whatever else pages may hold.
+#[test]
+fn styles_of_every_kind_are_taken(rt: HostRuntime) -> Result<(), Fail> {
+    let alloc = rt.alloc();
+    let head = b"pages 1 cost 100 width 345.0\n".as_slice();
+    for row in TAKEN.lines() {
+        let Some((line, by)) = row.split_once('|') else {
+            continue;
+        };
+        let style = changed(alloc, line, by)?;
+        let end = call(
+            alloc,
+            "run s g",
+            World::with_style(alloc, style, galley(alloc, "RB")?)?,
+        )?;
+        assert_eq!(rt; end.status, Status::Done, "of {row}");
+        assert!(rt; end.out.as_slice().starts_with(head), "of {row}");
+        assert_eq!(rt; end.say.as_slice(), b"".as_slice(), "of {row}");
     }
     Ok(())
 }
@@ -158,12 +184,6 @@ fn what_comes_after_the_style(rt: HostRuntime) -> Result<(), Fail> {
             "RC",
             Status::Refused,
             "pg: g: line 3: list fault 10\n",
-        ),
-        (
-            "run s g",
-            "RCVBE",
-            Status::Refused,
-            "pg: g: not yet built\n",
         ),
         (
             "run s h",

@@ -1,4 +1,4 @@
-use Rattle.pg_command.specs.Lines.{usage_line, long_line, not_built_line, unread_line, output_line, memory_line}
+use Rattle.pg_command.specs.Lines.{usage_line, long_line, unread_line, output_line, memory_line}
 use Rattle.pg_command.proofs.say.say_line.Goals as goal
 
 pub returns-in-Usage-clause-line : goal.returns-in-Usage-clause-line
@@ -8,10 +8,6 @@ returns-in-Usage-clause-line g c = rw c.in-Usage.is c.say_text.ensures.line
 pub returns-in-TooLong-clause-line : goal.returns-in-TooLong-clause-line
 unfolding long_line
 returns-in-TooLong-clause-line g c = rw c.in-TooLong.is c.say_file.ensures.line
-
-pub returns-in-NotBuilt-clause-line : goal.returns-in-NotBuilt-clause-line
-unfolding not_built_line
-returns-in-NotBuilt-clause-line g c = rw c.in-NotBuilt.is c.say_file-in-NotBuilt.ensures.line
 
 pub returns-in-Unread-clause-line : goal.returns-in-Unread-clause-line
 unfolding unread_line

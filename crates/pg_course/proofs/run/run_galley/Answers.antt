@@ -8,18 +8,18 @@ use Rattle.pg_course.proofs.run.run_galley.Goals as goal
 pub returns-in-Err : goal.returns-in-Err
 returns-in-Err g c = record {
   writes =
-      subst (λ (end : Ending). Writes (RunGalley c.args.style.now c.args.name.now c.args.galley.now)
+      subst (λ (end : Ending). Writes (RunGalley c.args.style.now c.args.galley.now)
       (over_sink (g.O.Sink.written c.args.out.now) (g.O.Sink.written c.args.out.now)
       (g.O.Sink.faults c.args.out.now) (g.O.Sink.faults c.args.out.now)) end) (sym c.float_ending.ensures)
-      (no_floats c.args.style.now c.args.name.now c.args.galley.now (g.O.Sink.written c.args.out.now)
+      (no_floats c.args.style.now c.args.galley.now (g.O.Sink.written c.args.out.now)
       (g.O.Sink.faults c.args.out.now) c.in-Err.fault c.in-Err.ensures);
 }
 
 pub returns-in-Ok : goal.returns-in-Ok
 returns-in-Ok g c = record {
   writes =
-      taken_writes c.args.style.now c.args.name.now c.args.galley.now
-      (over_sink (g.O.Sink.written c.args.out.now) (g.O.Sink.written c.run_built.new.out)
-      (g.O.Sink.faults c.args.out.now) (g.O.Sink.faults c.run_built.new.out)) c.run_built.result
-      c.in-Ok.ensures.1 c.in-Ok.ensures.2 c.run_built.ensures.writes;
+      taken_writes c.args.style.now c.args.galley.now
+      (over_sink (g.O.Sink.written c.args.out.now) (g.O.Sink.written c.write_pages.new.out)
+      (g.O.Sink.faults c.args.out.now) (g.O.Sink.faults c.write_pages.new.out)) c.write_pages.result
+      c.in-Ok.ensures.1 c.in-Ok.ensures.2 c.write_pages.ensures.writes;
 }

@@ -15,7 +15,7 @@ use Rattle.pg_judge.specs.Progress.{broken_pair}
 use Rattle.pg_judge.specs.Settled.{Settles}
 use Rattle.pg_areas.proofs.Capped.{are_few}
 use Rattle.pg_judge.proofs.Distances.{chained_place}
-use Rattle.pg_judge.proofs.Ends.{dealt_is}
+use Rattle.pg_remains.proofs.Dealt.{dealt_is}
 use Rattle.pg_judge.proofs.Settling.{settles_going, settles_lost}
 use Rattle.pg_judge.proofs.whole.settle.Goals as goal
 

@@ -16,8 +16,8 @@ cost_at-requires c = slice_get_within c.args.labels.now c.args.index c.requires.
 
 pub returns : goal.returns
 returns c =
-    let g = c.args.space.now.galley.now in
-    let s = c.args.space.now.style.now in
+    let g = c.args.space.now.sources.galley.now in
+    let s = c.args.space.now.sources.style.now in
     let best =
     (c.table_tells_all.ensures c.args.labels.now c.requires.table).best c.args.index c.requires.best.entry _
     c.requires.best c.requires.best.is (c.in_ok-moves.ensures c.requires.best.entry c.requires.best.is) in

@@ -4,5 +4,5 @@ use Rattle.pg_paging.proofs.Paged.{plan_is}
 use Rattle.pg_space.proofs.space.PageSpace.pagination_of.Goals as goal
 
 pub returns : goal.returns
-returns c = plan_is c.args.self.now.style.now c.columns_are_paged.ensures c.args.moves.now c.in_ok-pages_of.field-0
-    (let e : c.in_ok-pages_of.field-0 ≡ paged c.args.self.now.style.now.columns c.args.moves.now = search rules in e)
+returns c = plan_is c.args.self.now.sources.style.now c.columns_are_paged.ensures c.args.moves.now c.in_ok-pages_of.field-0
+    (let e : c.in_ok-pages_of.field-0 ≡ paged c.args.self.now.sources.style.now.columns c.args.moves.now = search rules in e)

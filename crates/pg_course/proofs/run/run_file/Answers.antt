@@ -1,0 +1,33 @@
+use Rattle.std.proofs.Common.{rules}
+use Rattle.std.specs.Prelude.{Result}
+use Rattle.pg_list.specs.GalleyValue.{GalleyValue}
+use Rattle.pg_command.specs.Lines.{line_of, status_of}
+use Rattle.pg_course.specs.Course.{BeginsBy, EndsBy, RunCourse, Stop}
+use Rattle.pg_course.proofs.Runs.{on_settled, on_write_fault, when_opened}
+use Rattle.pg_course.proofs.run.run_file.Goals as goal
+
+pub returns-in-Ok : goal.returns-in-Ok
+returns-in-Ok g c =
+    let old = g.O.Sink.written c.args.out.now in
+    let new = g.O.Sink.written c.run_galley.new.out in
+    let end = c.run_galley.result in
+    record {
+      goes =
+          record {
+            settled =
+                on_settled (status_of end) (when_opened (λ (said : Result GalleyValue Stop).
+                EndsBy (RunCourse c.args.style.now said) old new (status_of end) (line_of end))
+                (g.H.Shelf.held c.args.shelf.now) c.args.name.now c.args.wrap c.in-Ok.galley c.in-Ok.ensures.galley)
+                c.run_galley.ensures.writes.settled;
+            read = search rules;
+            read_keeps = search rules;
+            write = search rules;
+            front =
+                on_write_fault (status_of end) (when_opened (λ (said : Result GalleyValue Stop).
+                BeginsBy (RunCourse c.args.style.now said) old new)
+                (g.H.Shelf.held c.args.shelf.now) c.args.name.now c.args.wrap c.in-Ok.galley c.in-Ok.ensures.galley)
+                c.run_galley.ensures.writes.front;
+            memory = search rules;
+            no_usage = search rules;
+          };
+    }

@@ -1,0 +1,185 @@
+//! The steps of columns without text.
+ghost use Rattle.std.specs.Prelude.{◌≡◌, ◌≤◌, ◌<◌, ◌^◌, ◌++◌, ◌+ℤ◌, [], if◌then◌else◌, ◌&&◌, ◌||◌, is_some, int_le, nat_abs, pos, true, Contains, Some, length, IfOk, OnOk};
+ghost use Rattle.std.specs.List.{flat_map};
+ghost use Rattle.pg_rules.specs.Floats.{float_numbers};
+ghost use Rattle.pg_rules.specs.IsState.{IsState};
+ghost use Rattle.pg_layouts.specs.Layouts.{move_of};
+ghost use Rattle.pg_move_laws.specs.Listed.{listed_stay};
+ghost use Rattle.pg_moves.specs.Laid.{IsFloatLaid, doc_of, laid_of};
+ghost use Rattle.pg_moves.specs.Settling.{Settles, known_of};
+ghost use Rattle.pg_moves.specs.Stepping.{can_stand, fitness_behind as fitness_behind_of, stay_in, stay_price as stay_price_of};
+ghost use Rattle.pg_moves.specs.declared.laid.Laid.{Laid as ALaid};
+ghost use Rattle.pg_plan.specs.declared.states.State.{State as AState};
+
+use crate::laid::Laid;
+use crate::settling::{Known, Settled};
+use crate::sources::Sources;
+use crate::steps::{page_price, state_behind};
+use pg_plan::{Column, PageMove, Picks, State};
+use pg_style::Style;
+use pg_table::{Step, StepList};
+use pg_whole::{large_plus, plus};
+use std::alloc::{AllocError, Global};
+
+// The column without text.
+fn stay(alloc: Global, state: &State, laid: &Laid) -> Result<PageMove, AllocError>
+    ensures { IfOk result (λ it. it ≡ move_of state.now laid.now.layout state.now.place []) }
+{
+    Ok(PageMove {
+        column: Column {
+            from: state.place,
+            to: state.place,
+            top: laid.layout.top.copy()?,
+            bottom: laid.layout.bottom.copy()?,
+            picks: Picks::new(alloc),
+        },
+        run: laid.layout.run,
+        wide: laid.layout.wide.copy()?,
+    })
+}
+
+// The fitness that the column behind one without text is compared with.
+fn fitness_behind(style: &Style, state: &State) -> Option<u8>
+    ensures { result ≡ fitness_behind_of style.now state.now }
+{
+    if style.version == 1 {
+        None
+    } else {
+        state.fitness
+    }
+}
+
+// What a column pays for having no text.
+fn textless_price(style: &Style) -> i128
+    ensures value { result ≡ pos style.now.float_column.demerits }
+    ensures size { nat_abs result ≤ 2 ^ 32 }
+{
+    i128::from(style.float_column.demerits)
+}
+
+// What a column without text pays.
+fn stay_price(style: &Style, state: &State, laid: &Laid, price: u128) -> i128
+    requires { price ≤ 2 ^ 51 }
+    ensures { result ≡ stay_price_of style.now state.now laid.now price }
+{
+    large_plus(textless_price(style), page_price(style, state, laid, price))
+}
+
+// The gap below the last area of a column without text.
+fn last_gap(style: &Style, has_floats: bool) -> i64
+    ensures value { result ≡ (if has_floats then style.now.top.gap else style.now.wide.gap) }
+    ensures size { nat_abs result ≤ 2 ^ 31 }
+{
+    if has_floats {
+        i64::from(style.top.gap)
+    } else {
+        i64::from(style.wide.gap)
+    }
+}
+
+// Whether a column without text, whose areas leave this room, has a float or a wide area and is no higher than its page.
+// The gap below its last area takes no room.
+fn stands(style: &Style, room: i64, wide: Option<i64>, has_floats: bool) -> bool
+    requires { nat_abs room < 2 ^ 40 }
+    ensures { result ≡ ((has_floats || is_some wide)
+        && int_le (pos 0) (room +ℤ (if has_floats then style.now.top.gap else style.now.wide.gap))) }
+{
+    (has_floats || wide.is_some()) && 0 <= plus(room, last_gap(style, has_floats))
+}
+
+impl Sources<'_> {
+    // Whether a column without text has a float or a wide area, and is no higher than its page.
+    fn can_stand(&self, laid: &Laid) -> bool
+        requires size { nat_abs laid.now.room < 2 ^ 40 }
+        requires long { length laid.now.layout.top ≡ length (float_numbers self.now.style.now) }
+        ensures { (u : AState) → IsFloatLaid (doc_of self.now) u laid.now →
+            result ≡ can_stand (doc_of self.now) u laid.now.layout }
+    {
+        let has_floats = self.has_floats(&laid.layout.top);
+        stands(self.style, laid.room, laid.wide, has_floats)
+    }
+
+    // The step of a column without text.
+    fn step_of(
+        &self,
+        state: &State,
+        laid: &Laid,
+        settled: Settled,
+    ) -> Result<Step<State, PageMove>, AllocError>
+        requires own { IsState (doc_of self.now) state.now }
+        requires laid { laid.now ≡ laid_of (doc_of self.now) state.now laid.now.layout }
+        requires settled { Settles (doc_of self.now) state.now state.now.place laid.now.after (Some settled) }
+        ensures { IfOk result (λ step. step ≡ listed_stay (doc_of self.now) state.now laid.now.layout) }
+    {
+        let style = self.style;
+        let cost = stay_price(style, state, laid, settled.price);
+        let fitness = fitness_behind(style, state);
+        Ok(Step {
+            to: state_behind(style, state, laid, state.place, fitness, settled.ages)?,
+            by: stay(self.alloc, state, laid)?,
+            cost,
+        })
+    }
+
+    // Adds the step of a column without text that can stand, where no float is left too old.
+    fn add_standing(
+        &self,
+        state: &State,
+        laid: &Laid,
+        settled: Option<Settled>,
+        steps: &mut StepList<State, PageMove>,
+    ) -> Result<(), AllocError>
+        requires own { IsState (doc_of self.now) state.now }
+        requires laid { laid.now ≡ laid_of (doc_of self.now) state.now laid.now.layout }
+        requires stands { can_stand (doc_of self.now) state.now laid.now.layout ≡ true }
+        requires settled { Settles (doc_of self.now) state.now state.now.place laid.now.after settled }
+        ensures { OnOk result (steps.new ≡ steps.old ++ stay_in (doc_of self.now) state.now laid.now) }
+    {
+        match settled {
+            None => Ok(()),
+            Some(settled) => {
+                steps.push(self.step_of(state, laid, settled)?)?;
+                Ok(())
+            }
+        }
+    }
+
+    // Adds the step of a column without text, where it may stay.
+    fn add_stay(
+        &self,
+        state: &State,
+        known: &Known,
+        laid: &Laid,
+        steps: &mut StepList<State, PageMove>,
+    ) -> Result<(), AllocError>
+        requires own { IsState (doc_of self.now) state.now }
+        requires known { known.now ≡ known_of (doc_of self.now) state.now }
+        requires laid { IsFloatLaid (doc_of self.now) state.now laid.now }
+        ensures { OnOk result (steps.new ≡ steps.old ++ stay_in (doc_of self.now) state.now laid.now) }
+    {
+        if !self.can_stand(laid) {
+            return Ok(());
+        }
+        let settled = self.settle(state, known, state.place, &laid.after)?;
+        self.add_standing(state, laid, settled, steps)
+    }
+
+    /// Adds the steps of columns without text in these layouts.
+    pub(crate) fn add_stays(
+        &self,
+        state: &State,
+        known: &Known,
+        laid: &[Laid],
+        steps: &mut StepList<State, PageMove>,
+    ) -> Result<(), AllocError>
+        requires own { IsState (doc_of self.now) state.now }
+        requires known { known.now ≡ known_of (doc_of self.now) state.now }
+        requires laid { (it : ALaid) → Contains laid.now it → IsFloatLaid (doc_of self.now) state.now it }
+        ensures { OnOk result (steps.new ≡ steps.old ++ flat_map (stay_in (doc_of self.now) state.now) laid.now) }
+    {
+        for it in laid {
+            self.add_stay(state, known, it, steps)?;
+        }
+        Ok(())
+    }
+}

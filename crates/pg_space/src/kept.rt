@@ -1,0 +1,183 @@
+//! The space of pages of one document, which keeps the walk of the place that was opened last.
+ghost use Rattle.std.specs.Prelude.{◌≡◌, [], pos, IfOk};
+ghost use Rattle.pg_floats.specs.AreFloats.{AreFloats};
+ghost use Rattle.pg_list.specs.GalleyValue.{GalleyValue};
+ghost use Rattle.pg_moves.specs.Laid.{doc_of};
+ghost use Rattle.pg_reach_laws.specs.ReachAt.{reach_at};
+ghost use Rattle.pg_rules.specs.IsState.{IsPlace, IsState};
+ghost use Rattle.pg_rules.specs.Legal.{document};
+ghost use Rattle.pg_space_laws.specs.PageSpace.{page_meaning};
+ghost use Rattle.pg_style.specs.Plain.{plain};
+ghost use Rattle.pg_style.specs.Values.{StyleValue};
+ghost use Rattle.pg_table.specs.Space.{AreMoves};
+ghost use Rattle.pg_walk_laws.specs.Candidates.{AreCandidates};
+ghost use Rattle.pg_walk_laws.specs.Reached.{tallest};
+ghost use Rattle.pg_space.specs.OneProof.{galley_set, style_set};
+
+use crate::space::PageSpace;
+use pg_floats::FloatList;
+use pg_list::{Galley, Place};
+use pg_plan::{PageKey, PageMove, State};
+use pg_steps::Steps;
+use pg_style::Style;
+use pg_table::{Opened, Space};
+use pg_walk::PlaceWalk;
+use std::alloc::{AllocError, Global};
+use std::cell::RefCell;
+use std::cmp::Ordering;
+use std::marker::{Brand, PhantomData};
+use std::sync::ledger::Ledger;
+
+/// The galley and the style of which what is kept tells.
+pub trait Document {
+    ghost galley: { GalleyValue };
+
+    ghost style: { StyleValue };
+}
+
+impl Document for Brand {
+    ghost galley = { record { width = pos 0; blocks = [] } };
+
+    ghost style = { plain (pos 65536) };
+}
+
+/// The walk from a place of the document.
+#[derive(Drop)]
+struct Walked<D: Document> {
+    from: Place,
+    walk: PlaceWalk,
+    of: PhantomData<D>,
+    ghost found: { ∥ AreCandidates (document D.galley D.style) from (tallest D.style) walk.found ∥₁ },
+    ghost reach: { walk.reach ≡ reach_at (document D.galley D.style) from },
+}
+
+/// The pages of a galley under a style. States of one place that are opened one after another share one walk.
+#[derive(Drop)]
+pub struct KeptPages<'a, D: Document> {
+    pub pages: PageSpace<'a>,
+    kept: RefCell<Option<Walked<D>>>,
+    ghost galley: { pages.sources.galley.now ≡ D.galley } by { galley_set pages.sources.galley.now D.galley },
+    ghost style: { pages.sources.style.now ≡ D.style } by { style_set pages.sources.style.now D.style },
+}
+
+impl<'a, D: Document> KeptPages<'a, D> {
+    /// The space of a galley and the list of its floats, under a style, with nothing kept. No memory is taken.
+    pub fn new(
+        alloc: Global,
+        galley: &'a Galley,
+        style: &'a Style,
+        floats: &'a FloatList,
+    ) -> KeptPages<'a, D>
+        requires floats { AreFloats galley.now.blocks style.now floats.now }
+        requires galley { galley.now ≡ D.galley }
+        requires style { style.now ≡ D.style }
+        ensures galley { result.pages.sources.galley.now ≡ galley.now }
+        ensures style { result.pages.sources.style.now ≡ style.now }
+    {
+        KeptPages {
+            pages: PageSpace::new(alloc, galley, style, floats),
+            kept: RefCell::new(None),
+        }
+    }
+
+    // The walk from a place.
+    fn walk(&self, from: Place) -> Result<Walked<D>, AllocError>
+        requires { IsPlace self.now.pages.sources.galley.now.blocks from }
+        ensures { IfOk result (λ walked. walked.from ≡ from) }
+    {
+        let walk = self.pages.sources.walk(from)?;
+        Ok(Walked {
+            from,
+            walk,
+            of: PhantomData,
+        })
+    }
+
+    // All columns that may follow a state, by the walk of its place.
+    fn open_by(
+        &self,
+        state: &State,
+        walked: &Walked<D>,
+    ) -> Result<Opened<State, PageMove>, AllocError>
+        requires own { IsState (doc_of self.now.pages.sources) state.now }
+        requires from { walked.now.from ≡ state.now.place }
+        ensures moves { IfOk result (λ it.
+            AreMoves (page_meaning (doc_of self.now.pages.sources)) state.now it.steps) }
+        ensures reach { IfOk result (λ it. it.reach ≡ reach_at (doc_of self.now.pages.sources) state.now.place) }
+    {
+        self.pages.sources.open_by(state, &walked.walk)
+    }
+
+    // The same, by the walk that is kept where it is of this place.
+    fn open(&self, state: &State) -> Result<Opened<State, PageMove>, AllocError>
+        requires { IsState (doc_of self.now.pages.sources) state.now }
+        ensures moves { IfOk result (λ it.
+            AreMoves (page_meaning (doc_of self.now.pages.sources)) state.now it.steps) }
+        ensures reach { IfOk result (λ it. it.reach ≡ reach_at (doc_of self.now.pages.sources) state.now.place) }
+    {
+        if let Ok(guard) = self.kept.try_borrow() {
+            if let Some(walked) = &*guard {
+                if walked.from == state.place {
+                    return self.open_by(state, walked);
+                }
+            }
+        }
+        let walked = self.walk(state.place)?;
+        let opened = self.open_by(state, &walked)?;
+        let _was = self.kept.try_replace(Some(walked));
+        Ok(opened)
+    }
+}
+
+impl<D: Document> Space for KeptPages<'_, D> {
+    type State = State;
+
+    type Move = PageMove;
+
+    type Key = PageKey;
+
+    ghost use Rattle.pg_moves.specs.Laid.{doc_of};
+    ghost use Rattle.pg_space_laws.specs.PageSpace.{page_meaning};
+    ghost use Rattle.pg_space.specs.PagesLawful.{pages_lawful};
+
+    ghost meaning = { λ s. page_meaning (doc_of s.pages.sources) };
+
+    ghost lawful = { λ s. pages_lawful s.pages.sources.galley.now s.pages.sources.style.now s.pages.sources.in_range };
+
+    fn start(&self) -> Result<State, AllocError> {
+        self.pages.start()
+    }
+
+    fn key(&self, state: &State) -> Result<PageKey, AllocError> {
+        self.pages.key(state)
+    }
+
+    fn rank(&self, state: &State) -> u64 {
+        self.pages.rank(state)
+    }
+
+    fn block(&self, state: &State) -> u32 {
+        self.pages.block(state)
+    }
+
+    fn is_done(&self, state: &State) -> bool {
+        self.pages.is_done(state)
+    }
+
+    fn no_worse(&self, a: &State, b: &State) -> bool {
+        self.pages.no_worse(a, b)
+    }
+
+    fn order(&self, a: &PageMove, b: &PageMove) -> Ordering {
+        self.pages.order(a, b)
+    }
+
+    fn expand<L: Ledger>(
+        &self,
+        state: &State,
+        steps: &mut Steps<L>,
+    ) -> Result<Opened<State, PageMove>, AllocError> {
+        steps.tick();
+        self.open(state)
+    }
+}

@@ -1,0 +1,4 @@
+pub mod Both
+pub mod FirstState
+pub mod Sums
+pub mod Young

@@ -1,0 +1,107 @@
+//! When a state is no worse than another one.
+ghost use Rattle.std.specs.Prelude.{◌≡◌, nat_le, IfOk};
+ghost use Rattle.pg_flat.specs.Flat.{is_same_place as is_same_place_of};
+ghost use Rattle.pg_rules.specs.NoWorse.{are_no_older as are_no_older_of, are_same_counts as are_same_counts_of, is_no_worse, is_same_key as is_same_key_of, is_same_number as is_same_number_of, is_same_side as is_same_side_of, is_same_whole as is_same_whole_of, key};
+
+use pg_list::Place;
+use pg_plan::{PageKey, Side, State};
+use std::alloc::AllocError;
+
+/// A state but for its ages.
+pub fn key_of(state: &State) -> Result<PageKey, AllocError>
+    ensures { IfOk result (λ it. it ≡ key state.now) }
+{
+    Ok(PageKey {
+        place: state.place,
+        column: state.column,
+        side: state.side,
+        run: state.run,
+        wide: state.wide,
+        fitness: state.fitness,
+        placed: state.placed.copy()?,
+    })
+}
+
+fn is_same_place(a: Place, b: Place) -> bool
+    ensures { result ≡ is_same_place_of a b }
+{
+    a.block == b.block && a.variant == b.variant && a.index == b.index
+}
+
+fn is_same_side(a: Side, b: Side) -> bool
+    ensures { result ≡ is_same_side_of a b }
+{
+    a == b
+}
+
+fn is_same_number(a: Option<u8>, b: Option<u8>) -> bool
+    ensures { result ≡ is_same_number_of a b }
+{
+    a == b
+}
+
+fn is_same_height(a: Option<i64>, b: Option<i64>) -> bool
+    ensures { result ≡ is_same_whole_of a b }
+{
+    a == b
+}
+
+fn are_same_counts(a: &[u16], b: &[u16]) -> bool
+    ensures { result ≡ are_same_counts_of a.now b.now }
+{
+    let mut left = a;
+    let mut right = b;
+    'counts: while let [count, after @ ..] = left {
+        let [other, behind @ ..] = right else {
+            return false;
+        };
+        if count != other {
+            return false;
+        }
+        left = after;
+        right = behind;
+    }
+    right.is_empty()
+}
+
+fn is_no_older(age: u8, other: u8) -> bool
+    ensures { result ≡ nat_le age other }
+{
+    age <= other
+}
+
+// Whether there are as many ages, none greater than the other at its place.
+fn are_no_older(a: &[u8], b: &[u8]) -> bool
+    ensures { result ≡ are_no_older_of a.now b.now }
+{
+    let mut left = a;
+    let mut right = b;
+    'ages: while let [age, after @ ..] = left {
+        let [other, behind @ ..] = right else {
+            return false;
+        };
+        if !is_no_older(*age, *other) {
+            return false;
+        }
+        left = after;
+        right = behind;
+    }
+    right.is_empty()
+}
+
+// Whether two states are equal but for their ages.
+fn is_same_key(a: &State, b: &State) -> bool
+    ensures { result ≡ is_same_key_of (key a.now) (key b.now) }
+{
+    let counts = are_same_counts(a.placed.as_slice(), b.placed.as_slice());
+    let fields = is_same_height(a.wide, b.wide) && (is_same_number(a.fitness, b.fitness) && counts);
+    let page = is_same_side(a.side, b.side) && (is_same_number(a.run, b.run) && fields);
+    is_same_place(a.place, b.place) && (a.column == b.column && page)
+}
+
+/// Whether two states are equal but for their ages, and no age of the first is greater. No memory is taken.
+pub fn no_worse(a: &State, b: &State) -> bool
+    ensures { result ≡ is_no_worse a.now b.now }
+{
+    is_same_key(a, b) && are_no_older(a.ages.as_slice(), b.ages.as_slice())
+}
