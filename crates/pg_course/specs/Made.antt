@@ -5,7 +5,7 @@ use Rattle.pg_plan.specs.declared.pages.Pagination.{Pagination}
 use Rattle.pg_rules.specs.Best.{Best}
 use Rattle.pg_rules.specs.Cost.{cost}
 use Rattle.pg_rules.specs.Legal.{Legal}
-use Rattle.pg_pages.specs.Words.{whole_text}
+use Rattle.pg_words.specs.Written.{whole_text}
 use Rattle.pg_space.specs.Solves.{HasFrontier}
 use Rattle.pg_make.specs.Generated.{made_blocks, made_galley}
 use Rattle.pg_make.specs.Made.{made_style}

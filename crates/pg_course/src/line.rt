@@ -3,7 +3,7 @@ ghost use Rattle.std.specs.Prelude.{◌≡◌, ◌++◌, OnOk, IfOk, length};
 ghost use Rattle.pg_list.specs.Counts.{item_count};
 ghost use Rattle.pg_make.specs.Generated.{made_blocks, made_galley};
 ghost use Rattle.pg_make.specs.Made.{made_style};
-ghost use Rattle.pg_pages.specs.Words.{whole_text};
+ghost use Rattle.pg_words.specs.Written.{whole_text};
 ghost use Rattle.pg_space.specs.Solves.{HasFrontier, Solves};
 ghost use Rattle.pg_course.specs.Made.{MadeOut, made_front, made_labels, made_none, made_pages, numbered};
 ghost use Rattle.pg_course.specs.Made.{none_line, pages_line};

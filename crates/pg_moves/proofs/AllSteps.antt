@@ -1,17 +1,15 @@
 -- The steps of all columns.
-use Rattle.std.proofs.Common.{◌≡◌, refl, sym, ap, subst, ◌∙◌, List, [], ◌∷◌, ◌++◌, map, Bool, true, false, ℤ, inl, inr, ◌<◌, ◌^◌, ℕ}
-use Rattle.std.specs.Prelude.{Contains, nat_abs, if◌then◌else◌, Result, Ok, Err, IfOk, IsErr, OnOk}
-use Rattle.std.specs.List.{AllByRecursion, filter, flat_map}
+use Rattle.std.proofs.Common.{◌≡◌, refl, sym, ap, subst, ◌∙◌, List, [], ◌∷◌, ◌++◌, map, Bool, true, false, ℕ}
+use Rattle.std.specs.Prelude.{Contains, if◌then◌else◌, Result, Ok, Err, IfOk, IsErr, OnOk}
+use Rattle.std.specs.List.{filter, flat_map}
 use Rattle.pg_list.specs.GalleyValue.{GalleyValue}
 use Rattle.pg_list.specs.declared.galley.Place.{Place}
 use Rattle.pg_plan.specs.declared.pages.PageMove.{PageMove}
 use Rattle.pg_plan.specs.declared.states.State.{State}
 use Rattle.pg_style.specs.Values.{StyleValue}
-use Rattle.pg_ends.specs.declared.end.End.{End}
 use Rattle.pg_layouts.specs.Layouts.{float_layouts, text_layouts}
 use Rattle.pg_layouts.specs.declared.layout.Layout.{Layout}
 use Rattle.pg_member_laws.proofs.Members.{among_contains, contains_among, in_map, of_map}
-use Rattle.pg_place_laws.proofs.Among.{Among}
 use Rattle.pg_rules.specs.Floats.{called}
 use Rattle.pg_rules.specs.IsState.{IsPlace, IsState}
 use Rattle.pg_rules.specs.Legal.{document}
@@ -22,16 +20,15 @@ use Rattle.pg_reach_laws.specs.ReachAt.{reach_at}
 use Rattle.pg_space_laws.specs.PageSpace.{page_meaning}
 use Rattle.pg_table.specs.Space.{AreMoves}
 use Rattle.pg_table.specs.declared.step.Step.{Step}
-use Rattle.pg_walk_laws.specs.Laws.{AreEndsInEach}
 use Rattle.pg_move_laws.specs.Laws.{ListedAreMoves, ReachIsCeiling}
 use Rattle.pg_move_laws.specs.Listed.{beyond, listed_floats, listed_stay, stays_on}
 use Rattle.pg_move_laws.specs.Steps.{IsCeiling, text_room}
-use Rattle.pg_move_laws.proofs.Layouts.{IsFloatLayout, of_float_layouts}
-use Rattle.pg_moves.specs.Laid.{HasSoMany, IsFloatLaid, doc_of, laid_of}
-use Rattle.pg_moves.specs.Rooms.{AreRooms, ends_in}
+use Rattle.pg_laid.specs.Laid.{laid_of}
+use Rattle.pg_rooms.specs.PlaceEnds.{ArePlaceEnds, ends_in, has_room}
+use Rattle.pg_rooms.specs.declared.place_ends.PlaceEnds.{PlaceEnds}
+use Rattle.pg_rooms.proofs.Kept.{room_right}
 use Rattle.pg_moves.specs.Stepping.{AreTextSteps, stay_in, steps_in}
-use Rattle.pg_moves.specs.declared.laid.Laid.{Laid}
-use Rattle.pg_moves.proofs.RoomLists.{ends_are}
+use Rattle.pg_laid.specs.declared.laid.Laid.{Laid}
 use Rattle.pg_moves.proofs.Stepped.{laid_steps}
 
 -- what layouts make of their pages is what each makes
@@ -40,21 +37,20 @@ pub laid_own : (doc : Document) (u : State) (layouts : List Layout) (it : Laid) 
 laid_own doc u layouts it c = of_map (laid_of doc u) layouts it (contains_among (map (laid_of doc u) layouts) it c)
     (λ layout a e. sym e ∙ ap (λ (x : Laid). laid_of doc u x.layout) e)
 
-pub text_steps_are : (doc : Document) (u : State) (ceiling : List ℕ) (rooms : List ℤ) (lists : List (List End))
-    (laid : List Laid) (old steps : List (Step State PageMove)) →
-    laid ≡ map (laid_of doc u) (text_layouts doc u ceiling) → AreRooms laid rooms →
-    AreEndsInEach doc u.place rooms lists → old ≡ [] → steps ≡ old ++ flat_map (steps_in doc u rooms lists) laid →
-    AreTextSteps doc u ceiling steps
-text_steps_are doc u ceiling rooms lists laid old steps e held each none is = record {
-  ends = λ layout. ends_in rooms lists (text_room doc u layout);
-  are = λ layout c. ends_are doc u.place rooms lists (text_room doc u layout) each
-      (held.has (laid_of doc u layout) (subst (λ (xs : List Laid). Contains xs (laid_of doc u layout)) (sym e)
+pub text_steps_are : (doc : Document) (u : State) (ceiling : List ℕ) (kept : PlaceEnds) (laid : List Laid)
+    (old steps : List (Step State PageMove)) → laid ≡ map (laid_of doc u) (text_layouts doc u ceiling) →
+    ((it : Laid) → Contains laid it → has_room kept.rooms.items it.room ≡ true) → ArePlaceEnds doc u.place kept →
+    old ≡ [] → steps ≡ old ++ flat_map (steps_in doc u kept.rooms.items) laid → AreTextSteps doc u ceiling steps
+text_steps_are doc u ceiling kept laid old steps e held right none is = record {
+  ends = λ layout. ends_in kept.rooms.items (text_room doc u layout);
+  are = λ layout c. room_right doc u.place kept (text_room doc u layout) right
+      (held (laid_of doc u layout) (subst (λ (xs : List Laid). Contains xs (laid_of doc u layout)) (sym e)
       (among_contains (map (laid_of doc u) (text_layouts doc u ceiling)) (laid_of doc u layout)
       (in_map (laid_of doc u) (text_layouts doc u ceiling) layout
       (contains_among (text_layouts doc u ceiling) layout c)))));
-  is = is ∙ (ap (λ (front : List (Step State PageMove)). front ++ flat_map (steps_in doc u rooms lists) laid) none
-      ∙ (ap (flat_map (steps_in doc u rooms lists)) e
-      ∙ laid_steps doc u rooms lists (text_layouts doc u ceiling)));
+  is = is ∙ (ap (λ (front : List (Step State PageMove)). front ++ flat_map (steps_in doc u kept.rooms.items) laid) none
+      ∙ (ap (flat_map (steps_in doc u kept.rooms.items)) e
+      ∙ laid_steps doc u kept.rooms.items (text_layouts doc u ceiling)));
 }
 
 -- the steps of laid columns without text are those that are listed
@@ -78,37 +74,6 @@ pub floats_are : (doc : Document) (u : State) (ceiling : List ℕ) (laid : List 
 floats_are doc u ceiling laid e c =
     ap (flat_map (stay_in doc u)) e ∙ (laid_stays doc u (float_layouts doc u ceiling)
     ∙ ap (λ (counts : List ℕ). map (listed_stay doc u) (filter (stays_on doc u) (float_layouts doc u counts))) c)
-
--- what holds of each of a list holds of its members
-all_in : {X : Type 0} (P : X → Type 0) (xs : List X) (x : X) → AllByRecursion P xs → Among x xs → P x
-all_in P [] x a b = absurd b
-all_in P (y ∷ ys) x a (inl e) = subst P e a.0
-all_in P (y ∷ ys) x a (inr b) = all_in P ys x a.1 b
-
--- each of the laid columns without text
-float_each : (doc : Document) (u : State) (ceiling : List ℕ) (laid : List Laid) →
-    laid ≡ map (laid_of doc u) (float_layouts doc u ceiling) →
-    AllByRecursion (λ (it : Laid). nat_abs it.room < 2 ^ 40) laid → (it : Laid) → Contains laid it →
-    IsFloatLaid doc u it
-float_each doc u ceiling laid e small it c =
-    of_map (laid_of doc u) (float_layouts doc u ceiling) it
-    (subst (Among it) e (contains_among laid it c))
-    (λ layout a i. by layout i (of_float_layouts doc u ceiling layout a))
-  where
-    by : (layout : Layout) → laid_of doc u layout ≡ it → IsFloatLayout doc u ceiling layout → IsFloatLaid doc u it
-    by layout i is = subst (λ (x : Laid). nat_abs x.room < 2 ^ 40 → IsFloatLaid doc u x) i (λ few. record {
-      is = refl;
-      small = few;
-      long = is.top.long;
-      bottom = is.bottom;
-    }) (all_in (λ (x : Laid). nat_abs x.room < 2 ^ 40) laid it small (contains_among laid it c))
-
-pub on_float_each : {V E : Type 0} (items : V → List Laid) (r : Result V E) (doc : Document) (u : State)
-    (ceiling : List ℕ) → IfOk r (λ laid. items laid ≡ map (laid_of doc u) (float_layouts doc u ceiling)) →
-    IfOk r (λ laid. AllByRecursion (λ (it : Laid). nat_abs it.room < 2 ^ 40) (items laid)) →
-    IfOk r (λ laid. (it : Laid) → Contains (items laid) it → IsFloatLaid doc u it)
-on_float_each items (Err e) doc u ceiling h k = tt
-on_float_each items (Ok laid) doc u ceiling h k = float_each doc u ceiling (items laid) h k
 
 pub opened : (galley : GalleyValue) (style : StyleValue) (u : State) (ceiling : List ℕ)
     (mid new : List (Step State PageMove)) → ListedAreMoves galley style → ReachIsCeiling galley style →

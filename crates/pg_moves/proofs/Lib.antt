@@ -1,10 +1,3 @@
 pub mod AllSteps
-pub mod CalledFew
-pub mod Dealt
-pub mod Next
-pub mod LaidLemmas
-pub mod RoomLists
-pub mod Settles
 pub mod Standing
 pub mod Stepped
-pub mod Tallest

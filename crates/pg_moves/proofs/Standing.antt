@@ -7,7 +7,7 @@ use Rattle.std.proofs.lemmas.List.{append-nil}
 use Rattle.pg_plan.specs.declared.pages.PageMove.{PageMove}
 use Rattle.pg_plan.specs.declared.states.State.{State}
 use Rattle.pg_style.specs.Values.{AreaRuleValue}
-use Rattle.pg_rules.specs.Floats.{area_height, dealt, dealt_from, entry, float_numbers, floats, plus_counts, total_count}
+use Rattle.pg_rules.specs.Floats.{area_height, dealt_from, entry, float_numbers, floats, plus_counts, total_count}
 use Rattle.pg_rules.specs.Follow.{turns}
 use Rattle.pg_rules.specs.Room.{Document, extra}
 use Rattle.pg_table.specs.declared.step.Step.{Step}
@@ -19,10 +19,10 @@ use Rattle.pg_layouts.specs.Layouts.{zeros}
 use Rattle.pg_layouts.proofs.Areas.{slots_long, zeros_entry}
 use Rattle.pg_move_laws.specs.Ages.{may_wait}
 use Rattle.pg_move_laws.specs.Listed.{column_fits, listed_stay, placed_with, stays_on}
-use Rattle.pg_move_laws.specs.Steps.{area_of, text_room, wide_of}
-use Rattle.pg_moves.specs.Laid.{IsFloatLaid, laid_of}
+use Rattle.pg_move_laws.specs.Steps.{area_of, wide_of}
+use Rattle.pg_laid.specs.Laid.{IsFloatLaid, laid_of}
 use Rattle.pg_moves.specs.Stepping.{can_stand, stay_in}
-use Rattle.pg_moves.specs.declared.laid.Laid.{Laid}
+use Rattle.pg_laid.specs.declared.laid.Laid.{Laid}
 
 -- ---- an area without floats
 

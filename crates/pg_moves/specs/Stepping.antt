@@ -1,5 +1,5 @@
 -- The parts of a step to an end, from what is settled there.
-use Rattle.std.specs.Prelude.{◌≡◌, ℕ, ◌+◌, Bool, ◌==◌, ◌&&◌, ◌||◌, nat_lt, if◌then◌else◌, is_some, List, [], ◌∷◌, Option, Some, None, ℤ, pos, ◌+ℤ◌}
+use Rattle.std.specs.Prelude.{◌≡◌, ℕ, ◌+◌, Bool, true, ◌==◌, ◌&&◌, ◌||◌, nat_lt, if◌then◌else◌, is_some, List, [], ◌∷◌, Option, Some, None, ℤ, pos, ◌+ℤ◌}
 use Rattle.pg_list.specs.declared.galley.Place.{Place}
 use Rattle.pg_plan.specs.declared.states.State.{State}
 use Rattle.pg_style.specs.Values.{StyleValue}
@@ -13,9 +13,12 @@ use Rattle.pg_rules.specs.Room.{Document}
 use Rattle.pg_table.specs.declared.step.Step.{Step}
 use Rattle.pg_layouts.specs.declared.layout.Layout.{Layout}
 use Rattle.pg_move_laws.specs.Laws.{AreEndsOf}
-use Rattle.pg_move_laws.specs.Listed.{column_fits, listed_stay, listed_text, listed_with, stays_on}
-use Rattle.pg_moves.specs.Rooms.{ends_in}
-use Rattle.pg_moves.specs.declared.laid.Laid.{Laid}
+use Rattle.pg_move_laws.specs.Listed.{calls_all, column_fits, listed_stay, listed_text, listed_with, stays_on}
+use Rattle.pg_rooms.specs.PlaceEnds.{ends_in}
+use Rattle.pg_rooms.specs.declared.place_ends.RoomEnds.{RoomEnds}
+use Rattle.pg_waiting.specs.Settling.{Settles}
+use Rattle.pg_waiting.specs.declared.settling.Settled.{Settled}
+use Rattle.pg_laid.specs.declared.laid.Laid.{Laid}
 
 -- the state behind a column of a layout, up to a place, with a fitness and the ages of the floats that wait there
 abbrev pub state_behind : StyleValue → State → Laid → Place → Option ℕ → List ℕ → State
@@ -41,9 +44,14 @@ cost_at style u laid end price =
     (end.cost.demerits +ℤ end.pick_demerits)
     +ℤ (page_price style u laid price +ℤ fitness_cost style u.fitness end.cost.fitness)
 
+-- an end before which the floats of a layout are called and none is left too old, and this is left and paid
+abbrev pub IsOpenEnd : Document → State → Laid → Settled → End → Type 0
+IsOpenEnd doc u laid settled end =
+    (calls_all doc end.to laid.after ≡ true) × Settles doc u end.to laid.after (Some settled)
+
 -- the steps to the ends in the room of a layout
-abbrev pub steps_in : Document → State → List ℤ → List (List End) → Laid → List (Step State PageMove)
-steps_in doc u rooms lists it = listed_with doc u (λ layout. ends_in rooms lists it.room) it.layout
+abbrev pub steps_in : Document → State → List RoomEnds → Laid → List (Step State PageMove)
+steps_in doc u rooms it = listed_with doc u (λ layout. ends_in rooms it.room) it.layout
 
 -- the steps of the columns of text with counts up to a ceiling, by the ends of each layout
 pub record AreTextSteps (doc : Document) (u : State) (ceiling : List ℕ) (steps : List (Step State PageMove)) :

@@ -1,29 +1,16 @@
-//! The columns that follow a state, in code: layouts, their rooms, the floats at each end, and the steps.
+//! The columns that follow a state, in code: one step for each, with text and without.
 //!
 //! Proved: `open` gives the moves of a state in the space of pages (pg_space_laws), each once with its best picks, and
-//! the reach of its place (pg_reach_laws). It lists what pg_move_laws lists: each layout up to a ceiling deals out floats
-//! that are there, and `lay` gives it the height of its page's wide area, the floats placed behind it and the room that
-//! it leaves to a text (`specs/Laid`); `rooms_of` gathers these rooms, and `ends_at` finds the ends in one of them
-//! (`specs/Rooms`); `settle` tells the ages of the floats that are left at an end and what the placed ones pay, as the
-//! rules say (`specs/Settling`); `add_all` adds the steps of columns of text, and `add_stays` those of columns without
-//! (`specs/Stepping`).
+//! the reach of its place (pg_reach_laws); `open_by` does from what is kept of the place (pg_rooms). It lists what
+//! pg_move_laws lists: `text_steps` takes each layout of a column of text up to a ceiling (pg_laid) with the ends in its
+//! room, group by group, and `add_stays` each of a column without text; what waits at an end and what is paid for
+//! floats comes from pg_waiting (`specs/Stepping`).
 #![tactic(auto)]
 
-mod ages;
-mod calls;
-mod laid;
-mod laying;
-mod lines;
+mod groups;
 mod opening;
-mod rooms;
-mod settling;
-mod sources;
 mod stays;
 mod steps;
 mod texts;
 
-pub use ages::{behind, front};
-pub use laid::Laid;
-pub use rooms::{ends_at, rooms_of};
-pub use settling::{Known, Settled};
-pub use sources::Sources;
+pub use opening::{open, open_by, walk_place};

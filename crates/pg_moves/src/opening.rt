@@ -8,16 +8,21 @@ ghost use Rattle.pg_table.specs.Space.{AreMoves};
 ghost use Rattle.pg_walk_laws.specs.Candidates.{AreCandidates};
 ghost use Rattle.pg_walk_laws.specs.Reached.{tallest};
 ghost use Rattle.pg_move_laws.specs.Listed.{beyond, listed_floats};
-ghost use Rattle.pg_moves.specs.Laid.{doc_of};
-ghost use Rattle.pg_moves.specs.Settling.{known_of};
+ghost use Rattle.pg_sources.specs.Document.{doc_of};
+ghost use Rattle.pg_rooms.specs.PlaceEnds.{ArePlaceEnds};
+ghost use Rattle.pg_waiting.specs.Settling.{known_of};
 
-use crate::settling::Known;
-use crate::sources::Sources;
+use crate::stays::add_stays;
+use crate::texts::text_steps;
+use pg_laid::lay_floats;
 use pg_list::{Galley, Place};
 use pg_move_laws::listed_steps_are_moves;
 use pg_plan::{Counts, PageMove, State};
 use pg_reach_laws::laws::reach_is_the_greatest;
+use pg_rooms::PlaceEnds;
+use pg_sources::Sources;
 use pg_table::{Opened, StepList};
+use pg_waiting::{Known, known};
 use pg_walk::{PlaceWalk, walk_from};
 use std::alloc::AllocError;
 
@@ -28,80 +33,82 @@ fn last_block(galley: &Galley, reach: u32) -> u32
     (reach as usize).min(galley.blocks().as_slice().len()) as u32
 }
 
-impl Sources<'_> {
-    /// Where the columns of text from a place may end, and how far they may go.
-    ///
-    /// Condition: the place is the galley's. The one refusal is want of memory.
-    pub fn walk(&self, from: Place) -> Result<PlaceWalk, AllocError>
-        requires { IsPlace self.now.galley.now.blocks from }
-        ensures found { IfOk result (λ walk.
-            AreCandidates (doc_of self.now) from (tallest self.now.style.now) walk.found) }
-        ensures reach { IfOk result (λ walk. walk.reach ≡ reach_at (doc_of self.now) from) }
-    {
-        reach_is_the_greatest(self.galley, self.style);
-        walk_from(self.alloc, self.galley, self.style, from)
-    }
+/// Where the columns of text from a place may end, and how far they may go.
+///
+/// Condition: the place is the galley's. The one refusal is want of memory.
+pub fn walk_place(sources: &Sources<'_>, from: Place) -> Result<PlaceWalk, AllocError>
+    requires { IsPlace sources.now.galley.now.blocks from }
+    ensures found { IfOk result (λ walk.
+        AreCandidates (doc_of sources.now) from (tallest sources.now.style.now) walk.found) }
+    ensures reach { IfOk result (λ walk. walk.reach ≡ reach_at (doc_of sources.now) from) }
+{
+    reach_is_the_greatest(sources.galley, sources.style);
+    walk_from(sources.alloc, sources.galley, sources.style, from)
+}
 
-    // How many floats of each class are called before all blocks that a column from a place does not reach.
-    fn ceiling(&self, from: Place, reach: u32) -> Result<Counts, AllocError>
-        requires { reach ≡ reach_at (doc_of self.now) from }
-        ensures { IfOk result (λ counts. counts
-            ≡ called self.now.galley.now.blocks self.now.style.now (beyond (doc_of self.now) from)) }
-    {
-        self.called(Place {
-            block: last_block(self.galley, reach),
-            variant: 0,
-            index: 0,
-        })
-    }
+// How many floats of each class are called before all blocks that a column from a place does not reach.
+fn ceiling(sources: &Sources<'_>, from: Place, reach: u32) -> Result<Counts, AllocError>
+    requires { reach ≡ reach_at (doc_of sources.now) from }
+    ensures { IfOk result (λ counts. counts
+        ≡ called sources.now.galley.now.blocks sources.now.style.now (beyond (doc_of sources.now) from)) }
+{
+    sources.called(Place {
+        block: last_block(sources.galley, reach),
+        variant: 0,
+        index: 0,
+    })
+}
 
-    // Adds the steps of the columns without text.
-    fn add_floats(
-        &self,
-        state: &State,
-        known: &Known,
-        steps: &mut StepList<State, PageMove>,
-    ) -> Result<(), AllocError>
-        requires own { IsState (doc_of self.now) state.now }
-        requires known { known.now ≡ known_of (doc_of self.now) state.now }
-        ensures { OnOk result (steps.new ≡ steps.old ++ listed_floats (doc_of self.now) state.now) }
-    {
-        let layouts = self.lay_floats(state, known.called.as_slice())?;
-        let laid = layouts.as_slice();
-        self.add_stays(state, known, laid, steps)
-    }
+// Adds the steps of the columns without text.
+fn add_floats(
+    sources: &Sources<'_>,
+    state: &State,
+    known: &Known,
+    steps: &mut StepList<State, PageMove>,
+) -> Result<(), AllocError>
+    requires own { IsState (doc_of sources.now) state.now }
+    requires known { known.now ≡ known_of (doc_of sources.now) state.now }
+    ensures { OnOk result (steps.new ≡ steps.old ++ listed_floats (doc_of sources.now) state.now) }
+{
+    let layouts = lay_floats(sources, state, known.called.as_slice())?;
+    let laid = layouts.as_slice();
+    add_stays(sources, state, known, laid, steps)
+}
 
-    /// All columns that may follow a state, from the walk of its place: each once with its best picks, and how far an
-    /// edit can be felt there.
-    ///
-    /// Condition: it is a state of the galley. The one refusal is want of memory.
-    pub fn open_by(
-        &self,
-        state: &State,
-        walk: &PlaceWalk,
-    ) -> Result<Opened<State, PageMove>, AllocError>
-        requires own { IsState (doc_of self.now) state.now }
-        requires reach { walk.now.reach ≡ reach_at (doc_of self.now) state.now.place }
-        ensures moves { IfOk result (λ it. AreCandidates (doc_of self.now) state.now.place (tallest self.now.style.now)
-            walk.now.found → AreMoves (page_meaning (doc_of self.now)) state.now it.steps) }
-        ensures reach { IfOk result (λ it. it.reach ≡ reach_at (doc_of self.now) state.now.place) }
-    {
-        listed_steps_are_moves(self.galley, self.style);
-        let known = self.known(state)?;
-        let reach = walk.reach;
-        let ceiling = self.ceiling(state.place, reach)?;
-        let mut steps = self.text_steps(state, &known, &ceiling, walk)?;
-        self.add_floats(state, &known, &mut steps)?;
-        Ok(Opened { steps, reach })
-    }
+/// All columns that may follow a state, from what is kept of its place: each once with its best picks, and how far an
+/// edit can be felt there. What it works out is kept.
+///
+/// Condition: it is a state of the galley. The one refusal is want of memory.
+pub fn open_by(
+    sources: &Sources<'_>,
+    state: &State,
+    kept: &mut PlaceEnds,
+) -> Result<Opened<State, PageMove>, AllocError>
+    requires own { IsState (doc_of sources.now) state.now }
+    requires reach { kept.old.walk.reach ≡ reach_at (doc_of sources.now) state.now.place }
+    ensures moves { IfOk result (λ it. ArePlaceEnds (doc_of sources.now) state.now.place kept.old →
+        AreMoves (page_meaning (doc_of sources.now)) state.now it.steps) }
+    ensures reach { IfOk result (λ it. it.reach ≡ reach_at (doc_of sources.now) state.now.place) }
+    ensures kept { OnOk result (ArePlaceEnds (doc_of sources.now) state.now.place kept.old →
+        ArePlaceEnds (doc_of sources.now) state.now.place kept.new) }
+    ensures walk { OnOk result (kept.new.walk ≡ kept.old.walk) }
+{
+    listed_steps_are_moves(sources.galley, sources.style);
+    let reach = kept.walk.reach;
+    let waiting = known(sources, state)?;
+    let most = ceiling(sources, state.place, reach)?;
+    let mut steps = text_steps(sources, state, &waiting, &most, kept)?;
+    add_floats(sources, state, &waiting, &mut steps)?;
+    Ok(Opened { steps, reach })
+}
 
-    /// The same, with a walk of its own.
-    pub fn open(&self, state: &State) -> Result<Opened<State, PageMove>, AllocError>
-        requires { IsState (doc_of self.now) state.now }
-        ensures moves { IfOk result (λ it. AreMoves (page_meaning (doc_of self.now)) state.now it.steps) }
-        ensures reach { IfOk result (λ it. it.reach ≡ reach_at (doc_of self.now) state.now.place) }
-    {
-        let walk = self.walk(state.place)?;
-        self.open_by(state, &walk)
-    }
+/// The same, with a walk of its own.
+pub fn open(sources: &Sources<'_>, state: &State) -> Result<Opened<State, PageMove>, AllocError>
+    requires { IsState (doc_of sources.now) state.now }
+    ensures moves { IfOk result (λ it. AreMoves (page_meaning (doc_of sources.now)) state.now it.steps) }
+    ensures reach { IfOk result (λ it. it.reach ≡ reach_at (doc_of sources.now) state.now.place) }
+{
+    let walk = walk_place(sources, state.place)?;
+    let mut kept = PlaceEnds::new(sources.alloc, walk);
+    open_by(sources, state, &mut kept)
 }

@@ -5,19 +5,20 @@ ghost use Rattle.pg_rules.specs.Floats.{float_numbers};
 ghost use Rattle.pg_rules.specs.IsState.{IsState};
 ghost use Rattle.pg_layouts.specs.Layouts.{move_of};
 ghost use Rattle.pg_move_laws.specs.Listed.{listed_stay};
-ghost use Rattle.pg_moves.specs.Laid.{IsFloatLaid, doc_of, laid_of};
-ghost use Rattle.pg_moves.specs.Settling.{Settles, known_of};
+ghost use Rattle.pg_sources.specs.Document.{doc_of};
+ghost use Rattle.pg_laid.specs.Laid.{IsFloatLaid, laid_of};
+ghost use Rattle.pg_waiting.specs.Settling.{Settles, known_of};
 ghost use Rattle.pg_moves.specs.Stepping.{can_stand, fitness_behind as fitness_behind_of, stay_in, stay_price as stay_price_of};
-ghost use Rattle.pg_moves.specs.declared.laid.Laid.{Laid as ALaid};
+ghost use Rattle.pg_laid.specs.declared.laid.Laid.{Laid as ALaid};
 ghost use Rattle.pg_plan.specs.declared.states.State.{State as AState};
 
-use crate::laid::Laid;
-use crate::settling::{Known, Settled};
-use crate::sources::Sources;
 use crate::steps::{page_price, state_behind};
+use pg_laid::{Laid, has_floats};
 use pg_plan::{Column, PageMove, Picks, State};
+use pg_sources::Sources;
 use pg_style::Style;
 use pg_table::{Step, StepList};
+use pg_waiting::{Known, Settled, settle};
 use pg_whole::{large_plus, plus};
 use std::alloc::{AllocError, Global};
 
@@ -87,99 +88,97 @@ fn stands(style: &Style, room: i64, wide: Option<i64>, has_floats: bool) -> bool
     (has_floats || wide.is_some()) && 0 <= plus(room, last_gap(style, has_floats))
 }
 
-impl Sources<'_> {
-    // Whether a column without text has a float or a wide area, and is no higher than its page.
-    fn can_stand(&self, laid: &Laid) -> bool
-        requires size { nat_abs laid.now.room < 2 ^ 40 }
-        requires long { length laid.now.layout.top ≡ length (float_numbers self.now.style.now) }
-        ensures { (u : AState) → IsFloatLaid (doc_of self.now) u laid.now →
-            result ≡ can_stand (doc_of self.now) u laid.now.layout }
-    {
-        let has_floats = self.has_floats(&laid.layout.top);
-        stands(self.style, laid.room, laid.wide, has_floats)
-    }
+// Whether a column without text has a float or a wide area, and is no higher than its page.
+fn can_stand(sources: &Sources<'_>, laid: &Laid) -> bool
+    requires size { nat_abs laid.now.room < 2 ^ 40 }
+    requires long { length laid.now.layout.top ≡ length (float_numbers sources.now.style.now) }
+    ensures { (u : AState) → IsFloatLaid (doc_of sources.now) u laid.now →
+        result ≡ can_stand (doc_of sources.now) u laid.now.layout }
+{
+    let has_floats = has_floats(sources, &laid.layout.top);
+    stands(sources.style, laid.room, laid.wide, has_floats)
+}
 
-    // The step of a column without text.
-    fn step_of(
-        &self,
-        state: &State,
-        laid: &Laid,
-        settled: Settled,
-    ) -> Result<Step<State, PageMove>, AllocError>
-        requires own { IsState (doc_of self.now) state.now }
-        requires laid { laid.now ≡ laid_of (doc_of self.now) state.now laid.now.layout }
-        requires settled { Settles (doc_of self.now) state.now state.now.place laid.now.after (Some settled) }
-        ensures { IfOk result (λ step. step ≡ listed_stay (doc_of self.now) state.now laid.now.layout) }
-    {
-        let style = self.style;
-        let cost = stay_price(style, state, laid, settled.price);
-        let fitness = fitness_behind(style, state);
-        Ok(Step {
-            to: state_behind(style, state, laid, state.place, fitness, settled.ages)?,
-            by: stay(self.alloc, state, laid)?,
-            cost,
-        })
-    }
+// The step of a column without text.
+fn step_of(
+    sources: &Sources<'_>,
+    state: &State,
+    laid: &Laid,
+    settled: Settled,
+) -> Result<Step<State, PageMove>, AllocError>
+    requires own { IsState (doc_of sources.now) state.now }
+    requires laid { laid.now ≡ laid_of (doc_of sources.now) state.now laid.now.layout }
+    requires settled { Settles (doc_of sources.now) state.now state.now.place laid.now.after (Some settled) }
+    ensures { IfOk result (λ step. step ≡ listed_stay (doc_of sources.now) state.now laid.now.layout) }
+{
+    let style = sources.style;
+    let cost = stay_price(style, state, laid, settled.price);
+    let fitness = fitness_behind(style, state);
+    Ok(Step {
+        to: state_behind(style, state, laid, state.place, fitness, settled.ages)?,
+        by: stay(sources.alloc, state, laid)?,
+        cost,
+    })
+}
 
-    // Adds the step of a column without text that can stand, where no float is left too old.
-    fn add_standing(
-        &self,
-        state: &State,
-        laid: &Laid,
-        settled: Option<Settled>,
-        steps: &mut StepList<State, PageMove>,
-    ) -> Result<(), AllocError>
-        requires own { IsState (doc_of self.now) state.now }
-        requires laid { laid.now ≡ laid_of (doc_of self.now) state.now laid.now.layout }
-        requires stands { can_stand (doc_of self.now) state.now laid.now.layout ≡ true }
-        requires settled { Settles (doc_of self.now) state.now state.now.place laid.now.after settled }
-        ensures { OnOk result (steps.new ≡ steps.old ++ stay_in (doc_of self.now) state.now laid.now) }
-    {
-        match settled {
-            None => Ok(()),
-            Some(settled) => {
-                steps.push(self.step_of(state, laid, settled)?)?;
-                Ok(())
-            }
+// Adds the step of a column without text that can stand, where no float is left too old.
+fn add_standing(
+    sources: &Sources<'_>,
+    state: &State,
+    laid: &Laid,
+    settled: Option<Settled>,
+    steps: &mut StepList<State, PageMove>,
+) -> Result<(), AllocError>
+    requires own { IsState (doc_of sources.now) state.now }
+    requires laid { laid.now ≡ laid_of (doc_of sources.now) state.now laid.now.layout }
+    requires stands { can_stand (doc_of sources.now) state.now laid.now.layout ≡ true }
+    requires settled { Settles (doc_of sources.now) state.now state.now.place laid.now.after settled }
+    ensures { OnOk result (steps.new ≡ steps.old ++ stay_in (doc_of sources.now) state.now laid.now) }
+{
+    match settled {
+        None => Ok(()),
+        Some(settled) => {
+            steps.push(step_of(sources, state, laid, settled)?)?;
+            Ok(())
         }
     }
+}
 
-    // Adds the step of a column without text, where it may stay.
-    fn add_stay(
-        &self,
-        state: &State,
-        known: &Known,
-        laid: &Laid,
-        steps: &mut StepList<State, PageMove>,
-    ) -> Result<(), AllocError>
-        requires own { IsState (doc_of self.now) state.now }
-        requires known { known.now ≡ known_of (doc_of self.now) state.now }
-        requires laid { IsFloatLaid (doc_of self.now) state.now laid.now }
-        ensures { OnOk result (steps.new ≡ steps.old ++ stay_in (doc_of self.now) state.now laid.now) }
-    {
-        if !self.can_stand(laid) {
-            return Ok(());
-        }
-        let settled = self.settle(state, known, state.place, &laid.after)?;
-        self.add_standing(state, laid, settled, steps)
+// Adds the step of a column without text, where it may stay.
+fn add_stay(
+    sources: &Sources<'_>,
+    state: &State,
+    known: &Known,
+    laid: &Laid,
+    steps: &mut StepList<State, PageMove>,
+) -> Result<(), AllocError>
+    requires own { IsState (doc_of sources.now) state.now }
+    requires known { known.now ≡ known_of (doc_of sources.now) state.now }
+    requires laid { IsFloatLaid (doc_of sources.now) state.now laid.now }
+    ensures { OnOk result (steps.new ≡ steps.old ++ stay_in (doc_of sources.now) state.now laid.now) }
+{
+    if !can_stand(sources, laid) {
+        return Ok(());
     }
+    let settled = settle(sources, state, known, known.called.as_slice(), &laid.after)?;
+    add_standing(sources, state, laid, settled, steps)
+}
 
-    /// Adds the steps of columns without text in these layouts.
-    pub(crate) fn add_stays(
-        &self,
-        state: &State,
-        known: &Known,
-        laid: &[Laid],
-        steps: &mut StepList<State, PageMove>,
-    ) -> Result<(), AllocError>
-        requires own { IsState (doc_of self.now) state.now }
-        requires known { known.now ≡ known_of (doc_of self.now) state.now }
-        requires laid { (it : ALaid) → Contains laid.now it → IsFloatLaid (doc_of self.now) state.now it }
-        ensures { OnOk result (steps.new ≡ steps.old ++ flat_map (stay_in (doc_of self.now) state.now) laid.now) }
-    {
-        for it in laid {
-            self.add_stay(state, known, it, steps)?;
-        }
-        Ok(())
+/// Adds the steps of columns without text in these layouts.
+pub fn add_stays(
+    sources: &Sources<'_>,
+    state: &State,
+    known: &Known,
+    laid: &[Laid],
+    steps: &mut StepList<State, PageMove>,
+) -> Result<(), AllocError>
+    requires own { IsState (doc_of sources.now) state.now }
+    requires known { known.now ≡ known_of (doc_of sources.now) state.now }
+    requires laid { (it : ALaid) → Contains laid.now it → IsFloatLaid (doc_of sources.now) state.now it }
+    ensures { OnOk result (steps.new ≡ steps.old ++ flat_map (stay_in (doc_of sources.now) state.now) laid.now) }
+{
+    for it in laid {
+        add_stay(sources, state, known, it, steps)?;
     }
+    Ok(())
 }

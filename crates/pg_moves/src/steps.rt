@@ -1,26 +1,27 @@
 //! The steps to the ends of a layout.
-ghost use Rattle.std.specs.Prelude.{◌≡◌, ◌≤◌, ◌^◌, ◌++◌, ◌∷◌, [], ◌==◌, if◌then◌else◌, Some, true, false, nat_abs, pos, slice_get, ◌+ℤ◌, IfOk, OnOk};
+ghost use Rattle.std.specs.Prelude.{◌≡◌, ◌≤◌, ◌^◌, ◌++◌, ◌∷◌, [], ◌==◌, if◌then◌else◌, Some, nat_abs, pos, slice_get, ◌+ℤ◌, IfOk, OnOk};
+ghost use Rattle.std.specs.List.{AllByRecursion};
 ghost use Rattle.std.specs.Option.{option_map_or};
-ghost use Rattle.pg_ends.specs.declared.end.End.{End as AnEnd};
 ghost use Rattle.pg_rules.specs.Cost.{run_demerits as run_demerits_of};
 ghost use Rattle.pg_rules.specs.Follow.{fills_page as fills_page_of, keeps_run, other_side as other_side_of};
 ghost use Rattle.pg_rules.specs.IsState.{IsState};
 ghost use Rattle.pg_layouts.specs.Layouts.{move_of};
 ghost use Rattle.pg_flat.specs.Flat.{is_same_place};
-ghost use Rattle.pg_move_laws.specs.Listed.{calls_all as calls_all_of, listed_end, listed_with};
+ghost use Rattle.pg_move_laws.specs.Listed.{listed_end, listed_with};
 ghost use Rattle.pg_move_laws.specs.Steps.{fitness_cost as fitness_cost_of, kept_fitness as kept_fitness_of};
-ghost use Rattle.pg_moves.specs.Laid.{doc_of, laid_of};
-ghost use Rattle.pg_moves.specs.Settling.{Settles, known_of};
-ghost use Rattle.pg_moves.specs.Stepping.{cost_at, page_price as page_price_of, state_behind as state_behind_of};
+ghost use Rattle.pg_sources.specs.Document.{doc_of};
+ghost use Rattle.pg_laid.specs.Laid.{laid_of};
+ghost use Rattle.pg_waiting.specs.Settling.{Settles};
+ghost use Rattle.pg_moves.specs.Stepping.{IsOpenEnd, cost_at, page_price as page_price_of, state_behind as state_behind_of};
 
-use crate::laid::Laid;
-use crate::settling::{Known, Settled};
-use crate::sources::Sources;
 use pg_ends::End;
+use pg_laid::Laid;
 use pg_list::Place;
 use pg_plan::{Ages, Column, PageMove, Side, State};
+use pg_sources::Sources;
 use pg_style::{Run, Style};
 use pg_table::{Step, StepList};
+use pg_waiting::Settled;
 use pg_whole::large_plus;
 use std::alloc::AllocError;
 
@@ -197,96 +198,71 @@ fn ends_here(state: &State, end: &End) -> bool
     from.block == to.block && from.variant == to.variant && from.index == to.index
 }
 
-impl Sources<'_> {
-    // The step to an end.
-    fn step_to(
-        &self,
-        state: &State,
-        laid: &Laid,
-        end: &End,
-        settled: Settled,
-    ) -> Result<Step<State, PageMove>, AllocError>
-        requires own { IsState (doc_of self.now) state.now }
-        requires laid { laid.now ≡ laid_of (doc_of self.now) state.now laid.now.layout }
-        requires settled { Settles (doc_of self.now) state.now end.now.to laid.now.after (Some settled) }
-        ensures { IfOk result (λ step. step ≡ listed_end (doc_of self.now) state.now laid.now.layout end.now) }
-    {
-        let style = self.style;
-        let cost = cost_to(style, state, laid, end, settled.price);
-        let fitness = kept_fitness(style, end.cost.fitness);
-        Ok(Step {
-            to: state_behind(style, state, laid, end.to, fitness, settled.ages)?,
-            by: move_to(state, laid, end)?,
-            cost,
-        })
-    }
+// The step to an end.
+fn step_to(
+    sources: &Sources<'_>,
+    state: &State,
+    laid: &Laid,
+    end: &End,
+    settled: &Settled,
+) -> Result<Step<State, PageMove>, AllocError>
+    requires own { IsState (doc_of sources.now) state.now }
+    requires laid { laid.now ≡ laid_of (doc_of sources.now) state.now laid.now.layout }
+    requires price { settled.now.price ≤ 2 ^ 51 }
+    ensures { IfOk result (λ step. Settles (doc_of sources.now) state.now end.now.to laid.now.after (Some settled.now) →
+        step ≡ listed_end (doc_of sources.now) state.now laid.now.layout end.now) }
+{
+    let style = sources.style;
+    let cost = cost_to(style, state, laid, end, settled.price);
+    let fitness = kept_fitness(style, end.cost.fitness);
+    Ok(Step {
+        to: state_behind(style, state, laid, end.to, fitness, settled.ages.copy()?)?,
+        by: move_to(state, laid, end)?,
+        cost,
+    })
+}
 
-    // Adds the step to an end, where no float is left too old there.
-    fn add_settled(
-        &self,
-        state: &State,
-        laid: &Laid,
-        end: &End,
-        settled: Option<Settled>,
-        steps: &mut StepList<State, PageMove>,
-    ) -> Result<(), AllocError>
-        requires own { IsState (doc_of self.now) state.now }
-        requires laid { laid.now ≡ laid_of (doc_of self.now) state.now laid.now.layout }
-        requires away { is_same_place state.now.place end.now.to ≡ false }
-        requires called { calls_all_of (doc_of self.now) end.now.to laid.now.after ≡ true }
-        requires settled { Settles (doc_of self.now) state.now end.now.to laid.now.after settled }
-        ensures { OnOk result (steps.new ≡ steps.old
-            ++ listed_with (doc_of self.now) state.now (λ layout. end.now ∷ []) laid.now.layout) }
-    {
-        match settled {
-            None => Ok(()),
-            Some(settled) => {
-                steps.push(self.step_to(state, laid, end, settled)?)?;
-                Ok(())
-            }
-        }
+// Adds the step to an end before which the floats of a layout are called and no float is left too old.
+fn add_end(
+    sources: &Sources<'_>,
+    state: &State,
+    laid: &Laid,
+    end: &End,
+    settled: &Settled,
+    steps: &mut StepList<State, PageMove>,
+) -> Result<(), AllocError>
+    requires own { IsState (doc_of sources.now) state.now }
+    requires laid { laid.now ≡ laid_of (doc_of sources.now) state.now laid.now.layout }
+    requires price { settled.now.price ≤ 2 ^ 51 }
+    ensures { OnOk result (IsOpenEnd (doc_of sources.now) state.now laid.now settled.now end.now →
+        steps.new ≡ steps.old
+        ++ listed_with (doc_of sources.now) state.now (λ layout. end.now ∷ []) laid.now.layout) }
+{
+    if ends_here(state, end) {
+        return Ok(());
     }
+    steps.push(step_to(sources, state, laid, end, settled)?)?;
+    Ok(())
+}
 
-    /// Adds the step to an end, where the column may end there.
-    pub fn add_step(
-        &self,
-        state: &State,
-        known: &Known,
-        laid: &Laid,
-        end: &End,
-        steps: &mut StepList<State, PageMove>,
-    ) -> Result<(), AllocError>
-        requires own { IsState (doc_of self.now) state.now }
-        requires known { known.now ≡ known_of (doc_of self.now) state.now }
-        requires laid { laid.now ≡ laid_of (doc_of self.now) state.now laid.now.layout }
-        ensures { OnOk result (steps.new ≡ steps.old
-            ++ listed_with (doc_of self.now) state.now (λ layout. end.now ∷ []) laid.now.layout) }
-    {
-        if ends_here(state, end) || !self.calls_all(end.to, laid.after.as_slice()) {
-            return Ok(());
-        }
-        let settled = self.settle(state, known, end.to, &laid.after)?;
-        self.add_settled(state, laid, end, settled, steps)
+/// Adds the steps to ends before which the floats of a layout are called and no float is left too old.
+pub fn add_ends(
+    sources: &Sources<'_>,
+    state: &State,
+    laid: &Laid,
+    ends: &[End],
+    settled: &Settled,
+    steps: &mut StepList<State, PageMove>,
+) -> Result<(), AllocError>
+    requires own { IsState (doc_of sources.now) state.now }
+    requires laid { laid.now ≡ laid_of (doc_of sources.now) state.now laid.now.layout }
+    requires price { settled.now.price ≤ 2 ^ 51 }
+    ensures { OnOk result (AllByRecursion (IsOpenEnd (doc_of sources.now) state.now laid.now settled.now) ends.now →
+        steps.new ≡ steps.old
+        ++ listed_with (doc_of sources.now) state.now (λ layout. ends.now) laid.now.layout) }
+{
+    for end in ends {
+        add_end(sources, state, laid, end, settled, steps)?;
     }
-
-    /// Adds the steps to the ends of a layout at which the column may end.
-    pub fn add_steps(
-        &self,
-        state: &State,
-        known: &Known,
-        laid: &Laid,
-        ends: &[End],
-        steps: &mut StepList<State, PageMove>,
-    ) -> Result<(), AllocError>
-        requires own { IsState (doc_of self.now) state.now }
-        requires known { known.now ≡ known_of (doc_of self.now) state.now }
-        requires laid { laid.now ≡ laid_of (doc_of self.now) state.now laid.now.layout }
-        ensures { OnOk result (steps.new ≡ steps.old
-            ++ listed_with (doc_of self.now) state.now (λ layout. ends.now) laid.now.layout) }
-    {
-        for end in ends {
-            self.add_step(state, known, laid, end, steps)?;
-        }
-        Ok(())
-    }
+    Ok(())
 }

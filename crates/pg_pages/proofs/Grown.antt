@@ -1,13 +1,9 @@
 -- Texts that grow.
-use Rattle.std.proofs.Common.{◌≡◌, ◌∙◌, sym, ap, ℕ, arith, List, ◌++◌, take, length, append_assoc, length-append, subst}
+use Rattle.std.proofs.Common.{◌≡◌, ◌∙◌, sym, ap, ℕ, arith, List, ◌++◌, append_assoc, length-append, subst}
 use Rattle.std.specs.Prelude.{OnOk, Result, Ok, Err}
 use Rattle.std.proofs.Math.Seq.{take-append_seam}
-use Rattle.std.proofs.lemmas.List.{take-take}
 use Rattle.pg_scaled.specs.Scaled.{Grows}
-
-pub grows_on : (a b c : List ℕ) → Grows a b → Grows b c → Grows a c
-grows_on a b c one two =
-    (omega (arith, one.0, two.0), sym (take-take (length a) (length b) c one.0) ∙ ap (λ (xs : List ℕ). take (length a) xs) two.1 ∙ one.1)
+pub use Rattle.pg_words.proofs.Grown.{grows_on}
 
 pub on_ok : {T E : Type 0} (r : Result T E) (P Q : Type 0) → (P → Q) → OnOk r P → OnOk r Q
 on_ok (Ok x) P Q f p = f p

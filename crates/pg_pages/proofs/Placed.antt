@@ -1,5 +1,5 @@
 -- No class places more floats than there are.
-use Rattle.std.proofs.Common.{◌≡◌, refl, subst, ℕ, zero, suc, ◌+◌, ◌≤◌, ◌<◌, ◌^◌, arith, List, [], ◌∷◌, length, true, inl, inr}
+use Rattle.std.proofs.Common.{◌≡◌, subst, ℕ, zero, suc, ◌+◌, ◌≤◌, ◌<◌, ◌^◌, arith, List, [], ◌∷◌, length, true, inl, inr}
 use Rattle.std.specs.Prelude.{◌==◌, ◌||◌, nat_le, nat_lt, ℤ}
 use Rattle.std.specs.List.{sum_by}
 use Rattle.std.proofs.lemmas.Bool.{eqb-true, leb-true}

@@ -34,7 +34,7 @@ use Rattle.pg_column.proofs.Spans.{ahead_few}
 use Rattle.pg_lemmas.proofs.Bools.{both_of, if_false}
 use Rattle.pg_lemmas.proofs.Lists.{all_take}
 use Rattle.pg_pages.specs.PageText.{area, bottom_area, column_body, column_line, float_column, float_bodies, floats_text, inserted, items_text, set_line, text_area, text_column, top_area}
-use Rattle.pg_pages.specs.Words.{line}
+use Rattle.pg_words.specs.Written.{line}
 use Rattle.pg_pages.specs.Seated.{seated}
 use Rattle.pg_pages.specs.Sheets.{seat_text}
 use Rattle.pg_pages.specs.declared.seats.Seat.{Seat}

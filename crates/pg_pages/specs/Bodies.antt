@@ -5,7 +5,7 @@ use Rattle.pg_list.specs.declared.item.Item.{Item}
 use Rattle.pg_list.specs.declared.item.Item.TheVariants.{Insert}
 use Rattle.pg_list.specs.Bodies.{body_of}
 use Rattle.pg_scaled.specs.Scaled.{scaled_text}
-use Rattle.pg_pages.specs.Words.{line}
+use Rattle.pg_words.specs.Written.{line}
 use Rattle.pg_scan.specs.Lines.{is_no_feed}
 
 -- a point in front of each further line

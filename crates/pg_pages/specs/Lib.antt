@@ -1,4 +1,3 @@
-pub mod Words
 pub mod Bodies
 pub mod SetGlue
 pub mod PageText

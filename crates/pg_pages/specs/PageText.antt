@@ -25,7 +25,7 @@ use Rattle.pg_rules.specs.Cost.{text_demerits}
 use Rattle.pg_rules.specs.History.{next_column, next_page, next_side, placed_of, context}
 use Rattle.pg_rules.specs.Legal.{document}
 use Rattle.pg_scaled.specs.Scaled.{scaled_text}
-use Rattle.pg_pages.specs.Words.{line, whole_text, counts_text, place_text, side_text}
+use Rattle.pg_words.specs.Written.{line, whole_text, counts_text, place_text, side_text}
 use Rattle.pg_pages.specs.Bodies.{body_text, set_text, plain_text}
 use Rattle.pg_pages.specs.SetGlue.{glue_widths}
 

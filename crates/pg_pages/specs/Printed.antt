@@ -23,7 +23,7 @@ use Rattle.pg_glue.specs.declared.Sense.TheVariants.{Stretch, Shrink}
 use Rattle.pg_glue.specs.Widths.{set_widths}
 use Rattle.pg_pages.specs.Bodies.{body_text, plain_text, set_text}
 use Rattle.pg_pages.specs.PageText.{area, inserted, is_note_kind, items_text}
-use Rattle.pg_pages.specs.Words.{line, whole_text}
+use Rattle.pg_words.specs.Written.{line, whole_text}
 use Rattle.pg_scaled.specs.Scaled.{scaled_text}
 use Rattle.pg_pages.specs.SetGlue.{own_width, shrinking, stretching}
 

@@ -6,7 +6,7 @@ ghost use Rattle.pg_rules.specs.Floats.{dealt_from, entry as entry_of};
 ghost use Rattle.pg_scaled.specs.Scaled.{Grows};
 ghost use Rattle.pg_floats.specs.Callouts.{first_items};
 ghost use Rattle.pg_style.specs.Ranges.{AreClasses};
-ghost use Rattle.pg_pages.specs.Words.{line};
+ghost use Rattle.pg_words.specs.Written.{line};
 ghost use Rattle.pg_pages.specs.Bodies.{body_text};
 ghost use Rattle.pg_pages.specs.PageText.{area, inserted, inserted_body};
 ghost use Rattle.pg_pages.specs.Printed.{behind, bodies_of, class_notes_text, lent, notes_by};

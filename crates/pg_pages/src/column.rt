@@ -16,7 +16,7 @@ ghost use Rattle.pg_column.specs.Fits.{are_named};
 ghost use Rattle.pg_scaled.specs.Scaled.{Grows};
 ghost use Rattle.pg_pages.specs.PageText.{area, column_body, column_line, float_bodies, float_column, items_text, text_column};
 ghost use Rattle.pg_pages.specs.Seated.{MayPrint, seated};
-ghost use Rattle.pg_pages.specs.Words.{line};
+ghost use Rattle.pg_words.specs.Written.{line};
 ghost use Rattle.pg_pages.specs.Printed.{IsPrintable, behind, dealt_text, items_to, bare_text, lent, notes_by, read_text, text_by};
 
 use crate::areas::{close_area, open_area, print_dealt, print_notes};
@@ -130,6 +130,26 @@ struct Placed<'a> {
     below: &'a [u16],
 }
 
+// The bottom area of a column.
+fn print_bottom(
+    bodies: &[Vec<&[u8]>],
+    placed: &Placed<'_>,
+    column: &Column,
+    out: &mut Vec<u8>,
+) -> Result<(), AllocError>
+    ensures ok { OnOk result (out.new.items ≡ out.old.items
+        ++ area (codes "bottom") (dealt_text (lent bodies.now) placed.now.below.now column.now.bottom)) }
+    ensures grows { Grows out.old.items out.new.items }
+{
+    print_floats(
+        b"bottom",
+        bodies,
+        placed.below,
+        column.bottom.as_slice(),
+        out,
+    )
+}
+
 // A column whose text has these items and numbers.
 #[tactic(auto, unfolding(crate::specs::Printed::read_text))]
 fn print_read(
@@ -153,13 +173,7 @@ fn print_read(
     print_numbers(numbers, out)?;
     print_floats(b"top", bodies, placed.before, column.top.as_slice(), out)?;
     print_text_area(style, items, numbers, is_spent, out)?;
-    print_floats(
-        b"bottom",
-        bodies,
-        placed.below,
-        column.bottom.as_slice(),
-        out,
-    )?;
+    print_bottom(bodies, placed, column, out)?;
     print_note_area(style.classes.as_slice(), items, out)
 }
 
@@ -252,13 +266,7 @@ fn print_areas(
     ensures grows { Grows out.old.items out.new.items }
 {
     print_floats(b"top", bodies, placed.before, column.top.as_slice(), out)?;
-    print_floats(
-        b"bottom",
-        bodies,
-        placed.below,
-        column.bottom.as_slice(),
-        out,
-    )
+    print_bottom(bodies, placed, column, out)
 }
 
 // What a column without text costs.

@@ -16,7 +16,6 @@ mod seats;
 mod segment;
 mod sheets;
 mod text;
-mod words;
 
 pub use lines::print_none;
 pub use sheets::print_pages;

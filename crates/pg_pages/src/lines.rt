@@ -1,13 +1,13 @@
 //! The lines of a page text: its first one, those of pages and of columns, and the line for none.
 ghost use Rattle.std.specs.Prelude.{◌≡◌, ◌++◌, OnOk, OnErr, decimal};
 ghost use Rattle.pg_scaled.specs.Scaled.{Grows, scaled_text};
-ghost use Rattle.pg_pages.specs.Words.{line, counts_text, place_text, side_text};
+ghost use Rattle.pg_words.specs.Written.{line, counts_text, place_text, side_text};
 ghost use Rattle.pg_pages.specs.PageText.{none_text, head_counts, head_line, page_side, page_run, page_line, column_line, column_ends as ends_of, column_counts as counts_of};
 
 use crate::number_line::print_length;
-use crate::words::{print_counts, print_decimal, print_picks, print_place, print_whole};
 use pg_list::Place;
 use pg_plan::{Column, Page, Side};
+use pg_words::{print_counts, print_decimal, print_picks, print_place, print_side, print_whole};
 use std::alloc::AllocError;
 
 // A name, and counts behind it.
@@ -54,20 +54,6 @@ pub fn print_run(page: &Page, out: &mut Vec<u8>) -> Result<(), AllocError>
 {
     print_numbered(b" run ", u128::from(page.run), out)?;
     print_counts_of(b" wide ", page.wide.as_slice(), out)
-}
-
-// The letter of a side.
-fn print_side(side: Side, out: &mut Vec<u8>) -> Result<(), AllocError>
-    ensures ok { OnOk result (out.new.items ≡ out.old.items ++ side_text side) }
-    ensures grows { Grows out.old.items out.new.items }
-{
-    let letter = match side {
-        Side::L => b'L',
-        Side::R => b'R',
-        Side::S => b'S',
-    };
-    out.push(letter)?;
-    Ok(())
 }
 
 // The number and the side of a page.

@@ -1,12 +1,12 @@
 //! The line of a text column's numbers.
 ghost use Rattle.std.specs.Prelude.{◌≡◌, ◌++◌, OnOk};
 ghost use Rattle.pg_scaled.specs.Scaled.{Grows, scaled_text};
-ghost use Rattle.pg_pages.specs.Words.{whole_text};
+ghost use Rattle.pg_words.specs.Written.{whole_text};
 ghost use Rattle.pg_pages.specs.Printed.{numbers_text, sizes_text, costs_text, demerits_line};
 
-use crate::words::print_whole;
 use pg_column::TextCost;
 use pg_scaled::print_scaled;
+use pg_words::print_whole;
 use std::alloc::AllocError;
 
 // A name, and a scaled number behind it.

@@ -2,26 +2,26 @@
 ghost use Rattle.std.specs.Prelude.{◌≡◌, [], pos, IfOk};
 ghost use Rattle.pg_floats.specs.AreFloats.{AreFloats};
 ghost use Rattle.pg_list.specs.GalleyValue.{GalleyValue};
-ghost use Rattle.pg_moves.specs.Laid.{doc_of};
+ghost use Rattle.pg_sources.specs.Document.{doc_of};
 ghost use Rattle.pg_reach_laws.specs.ReachAt.{reach_at};
+ghost use Rattle.pg_rooms.specs.PlaceEnds.{ArePlaceEnds};
 ghost use Rattle.pg_rules.specs.IsState.{IsPlace, IsState};
 ghost use Rattle.pg_rules.specs.Legal.{document};
 ghost use Rattle.pg_space_laws.specs.PageSpace.{page_meaning};
 ghost use Rattle.pg_style.specs.Plain.{plain};
 ghost use Rattle.pg_style.specs.Values.{StyleValue};
 ghost use Rattle.pg_table.specs.Space.{AreMoves};
-ghost use Rattle.pg_walk_laws.specs.Candidates.{AreCandidates};
-ghost use Rattle.pg_walk_laws.specs.Reached.{tallest};
 ghost use Rattle.pg_space.specs.OneProof.{galley_set, style_set};
 
 use crate::space::PageSpace;
 use pg_floats::FloatList;
 use pg_list::{Galley, Place};
+use pg_moves::{open_by, walk_place};
 use pg_plan::{PageKey, PageMove, State};
+use pg_rooms::PlaceEnds;
 use pg_steps::Steps;
 use pg_style::Style;
 use pg_table::{Opened, Space};
-use pg_walk::PlaceWalk;
 use std::alloc::{AllocError, Global};
 use std::cell::RefCell;
 use std::cmp::Ordering;
@@ -41,21 +41,29 @@ impl Document for Brand {
     ghost style = { plain (pos 65536) };
 }
 
-/// The walk from a place of the document.
+/// What is kept of a place of the document.
 #[derive(Drop)]
-struct Walked<D: Document> {
+struct Kept<D: Document> {
     from: Place,
-    walk: PlaceWalk,
+    ends: PlaceEnds,
     of: PhantomData<D>,
-    ghost found: { ∥ AreCandidates (document D.galley D.style) from (tallest D.style) walk.found ∥₁ },
-    ghost reach: { walk.reach ≡ reach_at (document D.galley D.style) from },
+    ghost right: { ∥ ArePlaceEnds (document D.galley D.style) from ends ∥₁ },
+    ghost reach: { ends.walk.reach ≡ reach_at (document D.galley D.style) from },
 }
 
-/// The pages of a galley under a style. States of one place that are opened one after another share one walk.
+/// The columns behind a state, and what is kept of its place.
+#[derive(Drop)]
+struct OpenedBy<D: Document> {
+    opened: Opened<State, PageMove>,
+    kept: Kept<D>,
+}
+
+/// The pages of a galley under a style. States of one place that are opened one after another share one walk, and the
+/// ends in each room that one of them asks for.
 #[derive(Drop)]
 pub struct KeptPages<'a, D: Document> {
     pub pages: PageSpace<'a>,
-    kept: RefCell<Option<Walked<D>>>,
+    kept: RefCell<Option<Kept<D>>>,
     ghost galley: { pages.sources.galley.now ≡ D.galley } by { galley_set pages.sources.galley.now D.galley },
     ghost style: { pages.sources.style.now ≡ D.style } by { style_set pages.sources.style.now D.style },
 }
@@ -81,51 +89,65 @@ impl<'a, D: Document> KeptPages<'a, D> {
     }
 
     // The walk from a place.
-    fn walk(&self, from: Place) -> Result<Walked<D>, AllocError>
+    fn walk(&self, from: Place) -> Result<Kept<D>, AllocError>
         requires { IsPlace self.now.pages.sources.galley.now.blocks from }
-        ensures { IfOk result (λ walked. walked.from ≡ from) }
+        ensures { IfOk result (λ kept. kept.from ≡ from) }
     {
-        let walk = self.pages.sources.walk(from)?;
-        Ok(Walked {
+        let sources = &self.pages.sources;
+        let walk = walk_place(sources, from)?;
+        Ok(Kept {
             from,
-            walk,
+            ends: PlaceEnds::new(sources.alloc, walk),
             of: PhantomData,
         })
     }
 
-    // All columns that may follow a state, by the walk of its place.
-    fn open_by(
-        &self,
-        state: &State,
-        walked: &Walked<D>,
-    ) -> Result<Opened<State, PageMove>, AllocError>
-        requires own { IsState (doc_of self.now.pages.sources) state.now }
-        requires from { walked.now.from ≡ state.now.place }
-        ensures moves { IfOk result (λ it.
-            AreMoves (page_meaning (doc_of self.now.pages.sources)) state.now it.steps) }
-        ensures reach { IfOk result (λ it. it.reach ≡ reach_at (doc_of self.now.pages.sources) state.now.place) }
+    // What is kept of a place, taken out of the cell, or a walk where it is not this place.
+    fn take(&self, from: Place) -> Result<Kept<D>, AllocError>
+        requires { IsPlace self.now.pages.sources.galley.now.blocks from }
+        ensures { IfOk result (λ kept. kept.from ≡ from) }
     {
-        self.pages.sources.open_by(state, &walked.walk)
+        if let Ok(Some(kept)) = self.kept.try_replace(None) {
+            if kept.from == from {
+                return Ok(kept);
+            }
+        }
+        self.walk(from)
     }
 
-    // The same, by the walk that is kept where it is of this place.
+    // All columns that may follow a state, by what is kept of its place.
+    fn open_by(&self, state: &State, kept: Kept<D>) -> Result<OpenedBy<D>, AllocError>
+        requires own { IsState (doc_of self.now.pages.sources) state.now }
+        requires from { kept.from ≡ state.now.place }
+        ensures moves { IfOk result (λ it.
+            AreMoves (page_meaning (doc_of self.now.pages.sources)) state.now it.opened.steps) }
+        ensures reach { IfOk result (λ it.
+            it.opened.reach ≡ reach_at (doc_of self.now.pages.sources) state.now.place) }
+    {
+        let from = kept.from;
+        let mut ends = kept.ends;
+        let opened = open_by(&self.pages.sources, state, &mut ends)?;
+        Ok(OpenedBy {
+            opened,
+            kept: Kept {
+                from,
+                ends,
+                of: PhantomData,
+            },
+        })
+    }
+
+    // All columns that may follow a state. What is kept of its place serves for the next state.
     fn open(&self, state: &State) -> Result<Opened<State, PageMove>, AllocError>
         requires { IsState (doc_of self.now.pages.sources) state.now }
         ensures moves { IfOk result (λ it.
             AreMoves (page_meaning (doc_of self.now.pages.sources)) state.now it.steps) }
         ensures reach { IfOk result (λ it. it.reach ≡ reach_at (doc_of self.now.pages.sources) state.now.place) }
     {
-        if let Ok(guard) = self.kept.try_borrow() {
-            if let Some(walked) = &*guard {
-                if walked.from == state.place {
-                    return self.open_by(state, walked);
-                }
-            }
-        }
-        let walked = self.walk(state.place)?;
-        let opened = self.open_by(state, &walked)?;
-        let _was = self.kept.try_replace(Some(walked));
-        Ok(opened)
+        let kept = self.take(state.place)?;
+        let by = self.open_by(state, kept)?;
+        let _was = self.kept.try_replace(Some(by.kept));
+        Ok(by.opened)
     }
 }
 
@@ -136,7 +158,7 @@ impl<D: Document> Space for KeptPages<'_, D> {
 
     type Key = PageKey;
 
-    ghost use Rattle.pg_moves.specs.Laid.{doc_of};
+    ghost use Rattle.pg_sources.specs.Document.{doc_of};
     ghost use Rattle.pg_space_laws.specs.PageSpace.{page_meaning};
     ghost use Rattle.pg_space.specs.PagesLawful.{pages_lawful};
 

@@ -2,7 +2,7 @@
 ghost use Rattle.std.specs.Prelude.{◌≡◌, reverse, List, IfOk, IsTrue, ◌↔◌};
 ghost use Rattle.pg_beginning_laws.specs.Pages.{plan_of};
 ghost use Rattle.pg_floats.specs.AreFloats.{AreFloats};
-ghost use Rattle.pg_moves.specs.Laid.{doc_of};
+ghost use Rattle.pg_sources.specs.Document.{doc_of};
 ghost use Rattle.pg_plan.specs.Order.{columns};
 ghost use Rattle.pg_plan.specs.declared.pages.PageMove.{PageMove as AMove};
 ghost use Rattle.pg_plan.specs.declared.states.State.{State as AState};
@@ -15,9 +15,10 @@ ghost use Rattle.pg_table.specs.declared.table.Entry.{Entry};
 use crate::columns::moves_in;
 use pg_floats::FloatList;
 use pg_list::Galley;
-use pg_moves::Sources;
+use pg_moves::open;
 use pg_paging::{columns_are_paged, pages_of};
 use pg_plan::{Moves, PageKey, PageMove, Pagination, State, compare_moves};
+use pg_sources::Sources;
 use pg_space_laws::filled_table_tells_all;
 use pg_states::{is_done, is_state, key_of, no_worse, rank_of, start};
 use pg_steps::Steps;
@@ -94,7 +95,7 @@ impl Space for PageSpace<'_> {
 
     type Key = PageKey;
 
-    ghost use Rattle.pg_moves.specs.Laid.{doc_of};
+    ghost use Rattle.pg_sources.specs.Document.{doc_of};
     ghost use Rattle.pg_space_laws.specs.PageSpace.{page_meaning};
     ghost use Rattle.pg_space.specs.PagesLawful.{pages_lawful};
 
@@ -136,6 +137,6 @@ impl Space for PageSpace<'_> {
         steps: &mut Steps<L>,
     ) -> Result<Opened<State, PageMove>, AllocError> {
         steps.tick();
-        self.sources.open(state)
+        open(&self.sources, state)
     }
 }

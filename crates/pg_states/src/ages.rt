@@ -4,12 +4,13 @@ ghost use Rattle.std.specs.List.{list_all};
 ghost use Rattle.pg_rules.specs.Floats.{called, distance_table, entry as entry_of, total_count};
 ghost use Rattle.pg_move_laws.specs.Ages.{waits_of};
 ghost use Rattle.pg_move_laws.specs.StateTest.{young_by};
-ghost use Rattle.pg_moves.specs.Laid.{doc_of};
+ghost use Rattle.pg_sources.specs.Document.{doc_of};
 ghost use Rattle.pg_states.specs.Parts.{waits_in};
 
 use pg_areas::{entry, table_of};
-use pg_moves::{Sources, behind, front};
 use pg_plan::State;
+use pg_sources::Sources;
+use pg_waiting::{behind, front};
 
 // How many floats of a slot are called before a state's place and not placed.
 fn count_waiting(sources: &Sources<'_>, state: &State, slot: usize) -> usize

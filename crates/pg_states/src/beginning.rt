@@ -2,11 +2,11 @@
 ghost use Rattle.std.specs.Prelude.{◌≡◌, [], IfOk};
 ghost use Rattle.pg_rules.specs.History.{side_of};
 ghost use Rattle.pg_rules.specs.States.{state_at};
-ghost use Rattle.pg_moves.specs.Laid.{doc_of};
+ghost use Rattle.pg_sources.specs.Document.{doc_of};
 
 use pg_list::Place;
-use pg_moves::Sources;
 use pg_plan::{Ages, Counts, Side, State};
+use pg_sources::Sources;
 use pg_style::{First, Style};
 use std::alloc::AllocError;
 

@@ -1,5 +1,5 @@
 //! When a state is no worse than another one.
-ghost use Rattle.std.specs.Prelude.{◌≡◌, nat_le, IfOk};
+ghost use Rattle.std.specs.Prelude.{◌≡◌, ◌==◌, ◌&&◌, nat_le, IfOk};
 ghost use Rattle.pg_flat.specs.Flat.{is_same_place as is_same_place_of};
 ghost use Rattle.pg_rules.specs.NoWorse.{are_no_older as are_no_older_of, are_same_counts as are_same_counts_of, is_no_worse, is_same_key as is_same_key_of, is_same_number as is_same_number_of, is_same_side as is_same_side_of, is_same_whole as is_same_whole_of, key};
 
@@ -89,14 +89,34 @@ fn are_no_older(a: &[u8], b: &[u8]) -> bool
     right.is_empty()
 }
 
+// Whether the fitness and the counts of placed floats are the same.
+fn is_same_past(a: &State, b: &State) -> bool
+    ensures { result ≡ (is_same_number_of a.now.fitness b.now.fitness && are_same_counts_of a.now.placed b.now.placed) }
+{
+    is_same_number(a.fitness, b.fitness)
+        && are_same_counts(a.placed.as_slice(), b.placed.as_slice())
+}
+
+// Whether the run and the wide area of the page are the same.
+fn is_same_page(a: &State, b: &State) -> bool
+    ensures { result ≡ (is_same_number_of a.now.run b.now.run && is_same_whole_of a.now.wide b.now.wide) }
+{
+    is_same_number(a.run, b.run) && is_same_height(a.wide, b.wide)
+}
+
+// Whether the place, the column and the side are the same.
+fn is_same_spot(a: &State, b: &State) -> bool
+    ensures { result ≡ (is_same_place_of a.now.place b.now.place
+        && ((a.now.column == b.now.column) && is_same_side_of a.now.side b.now.side)) }
+{
+    is_same_place(a.place, b.place) && (a.column == b.column && is_same_side(a.side, b.side))
+}
+
 // Whether two states are equal but for their ages.
 fn is_same_key(a: &State, b: &State) -> bool
     ensures { result ≡ is_same_key_of (key a.now) (key b.now) }
 {
-    let counts = are_same_counts(a.placed.as_slice(), b.placed.as_slice());
-    let fields = is_same_height(a.wide, b.wide) && (is_same_number(a.fitness, b.fitness) && counts);
-    let page = is_same_side(a.side, b.side) && (is_same_number(a.run, b.run) && fields);
-    is_same_place(a.place, b.place) && (a.column == b.column && page)
+    is_same_spot(a, b) && (is_same_page(a, b) && is_same_past(a, b))
 }
 
 /// Whether two states are equal but for their ages, and no age of the first is greater. No memory is taken.

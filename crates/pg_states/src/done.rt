@@ -3,11 +3,11 @@ ghost use Rattle.std.specs.Prelude.{◌≡◌};
 ghost use Rattle.pg_rules.specs.IsState.{IsState};
 ghost use Rattle.pg_rules.specs.Legal.{has_dealt_all as has_dealt_all_of, is_spent_at as is_spent_at_of};
 ghost use Rattle.pg_rules.specs.States.{is_done as is_done_of};
-ghost use Rattle.pg_moves.specs.Laid.{doc_of};
+ghost use Rattle.pg_sources.specs.Document.{doc_of};
 
-use pg_moves::Sources;
 use pg_plan::State;
 use pg_remains::{has_dealt_all, is_spent_at};
+use pg_sources::Sources;
 
 // Whether each class has placed all its floats.
 fn has_placed_all(sources: &Sources<'_>, placed: &[u16]) -> bool

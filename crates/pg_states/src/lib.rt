@@ -8,6 +8,7 @@
 
 mod ages;
 mod beginning;
+mod called;
 mod comparing;
 mod done;
 mod rank;

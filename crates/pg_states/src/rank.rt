@@ -5,13 +5,13 @@ ghost use Rattle.pg_plan.specs.declared.states.Side.TheVariants.{R};
 ghost use Rattle.pg_rules.specs.Floats.{total_count};
 ghost use Rattle.pg_rules.specs.IsState.{IsState};
 ghost use Rattle.pg_rules.specs.NoWorse.{is_same_side};
-ghost use Rattle.pg_moves.specs.Laid.{doc_of};
+ghost use Rattle.pg_sources.specs.Document.{doc_of};
 ghost use Rattle.pg_space_laws.specs.PageSpace.{place_rank as place_rank_of, rank, side_run as side_run_of};
 
 use pg_areas::total;
 use pg_list::Place;
-use pg_moves::Sources;
 use pg_plan::{Side, State};
+use pg_sources::Sources;
 use pg_space_laws::ranks_fit;
 
 // The block, the variant and the index of a place as one number, the block first.

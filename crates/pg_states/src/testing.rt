@@ -6,14 +6,15 @@ ghost use Rattle.pg_plan.specs.declared.states.Side.TheVariants.{R};
 ghost use Rattle.pg_rules.specs.IsState.{IsState, has_side as has_side_of, not_first, not_some};
 ghost use Rattle.pg_rules.specs.NoWorse.{is_same_side};
 ghost use Rattle.pg_move_laws.specs.StateTest.{has_column as has_column_of, has_fields as has_fields_of, has_floats as has_floats_of, has_place as has_place_of, has_run_field as has_run_field_of, is_state as is_state_of};
-ghost use Rattle.pg_moves.specs.Laid.{doc_of};
+ghost use Rattle.pg_sources.specs.Document.{doc_of};
 ghost use Rattle.pg_states.specs.Parts.{has_ages as has_ages_of, has_page as has_page_of, has_rest as has_rest_of};
 
 use crate::ages::{are_young, count_all_waiting};
+use crate::called::calls_all;
 use pg_list::{Galley, Place, items_around};
 use pg_move_laws::states_are_tested;
-use pg_moves::Sources;
 use pg_plan::{Side, State};
+use pg_sources::Sources;
 use pg_style::{First, Style};
 
 // No wide area is as high, in scaled points.
@@ -126,7 +127,7 @@ fn has_floats(sources: &Sources<'_>, state: &State) -> bool
 {
     let placed = state.placed.as_slice();
     placed.len() == sources.slots()
-        && (sources.calls_all(state.place, placed) && has_ages(sources, state))
+        && (calls_all(sources, state.place, placed) && has_ages(sources, state))
 }
 
 // Whether the wide area, the fitness and the floats are those of a state.

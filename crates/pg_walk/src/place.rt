@@ -1,19 +1,17 @@
 //! One walk for all columns of text from a place.
-ghost use Rattle.std.specs.Prelude.{◌<◌, ◌^◌, IfOk, nat_abs, ℤ};
-ghost use Rattle.std.specs.List.{AllByRecursion};
+ghost use Rattle.std.specs.Prelude.{◌<◌, ◌≤ℤ◌, ◌^◌, IfOk, nat_abs, ℤ};
+ghost use Rattle.pg_ends.specs.Ends.{AreEnds};
 ghost use Rattle.pg_list.specs.declared.galley.Place.{Place as APlace};
 ghost use Rattle.pg_rules.specs.IsState.{IsPlace};
 ghost use Rattle.pg_rules.specs.Legal.{document};
 ghost use Rattle.pg_rules.specs.Reach.{IsReach};
 ghost use Rattle.pg_walk_laws.specs.Candidates.{AreCandidates};
-ghost use Rattle.pg_walk_laws.specs.Laws.{AreEndsInEach, AreUpTo};
 ghost use Rattle.pg_walk_laws.specs.Reached.{tallest as tallest_of};
 
 use crate::reach::{reach_of, tallest};
-use crate::rooms::ends_each;
 use crate::walking::candidates;
 use pg_candidates::CandidateList;
-use pg_ends::EndLists;
+use pg_ends::EndList;
 use pg_list::{Galley, Place};
 use pg_style::Style;
 use std::alloc::{AllocError, Global};
@@ -27,20 +25,22 @@ pub struct PlaceWalk {
 }
 
 impl PlaceWalk {
-    /// The ends in each of these rooms in scaled points, in order. The one refusal is want of memory.
-    pub fn ends_in_each(
+    /// The ends in a room of so many scaled points.
+    ///
+    /// Condition: the room is below 2^40 in size. The one refusal is want of memory.
+    pub fn ends_in(
         &self,
         alloc: Global,
         galley: &Galley,
         style: &Style,
-        rooms: &[i64],
-    ) -> Result<EndLists, AllocError>
-        requires { AllByRecursion (λ (room : ℤ). nat_abs room < 2 ^ 40) rooms.now }
-        ensures { IfOk result (λ lists. (from : APlace) (top : ℤ) → AreUpTo top rooms.now →
+        room: i64,
+    ) -> Result<EndList, AllocError>
+        requires { nat_abs room < 2 ^ 40 }
+        ensures { IfOk result (λ ends. (from : APlace) (top : ℤ) → room ≤ℤ top →
             AreCandidates (document galley.now style.now) from top self.now.found →
-            AreEndsInEach (document galley.now style.now) from rooms.now lists) }
+            AreEnds (document galley.now style.now) from room ends) }
     {
-        ends_each(alloc, galley, style, &self.found, rooms)
+        self.found.ends_in(alloc, galley, style, room)
     }
 }
 

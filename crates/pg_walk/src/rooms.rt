@@ -60,7 +60,7 @@ fn top_of(rooms: &[i64]) -> i64
 }
 
 // The ends in each of these rooms of the candidates of a place.
-pub(crate) fn ends_each(
+fn ends_each(
     alloc: Global,
     galley: &Galley,
     style: &Style,

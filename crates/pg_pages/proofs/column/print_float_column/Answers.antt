@@ -1,6 +1,6 @@
 use Rattle.std.proofs.Common.{◌∙◌, ◌++◌, ap, ℕ}
 use Rattle.std.specs.Prelude.{codes, decimal}
-use Rattle.pg_pages.specs.Words.{line}
+use Rattle.pg_words.specs.Written.{line}
 use Rattle.pg_pages.specs.PageText.{area}
 use Rattle.pg_pages.specs.Printed.{bare_text, dealt_text, lent}
 use Rattle.pg_pages.proofs.Grown.{on_ok, two_parts}

@@ -1,6 +1,6 @@
 use Rattle.std.proofs.Common.{◌≡◌, ◌∙◌, ◌++◌, rules, ap, ℤ, w32, to_z, of_z}
 use Rattle.std.specs.Prelude.{codes}
-use Rattle.pg_pages.specs.Words.{line}
+use Rattle.pg_words.specs.Written.{line}
 use Rattle.pg_pages.specs.PageText.{items_text}
 use Rattle.pg_pages.specs.Printed.{behind}
 use Rattle.pg_pages.proofs.Grown.{grown, grows_on, on_ok, two_parts}

@@ -2,7 +2,7 @@ use Rattle.std.proofs.Common.{◌≡◌, ◌∙◌, ◌++◌, rules, sym, ap, su
 use Rattle.std.specs.Prelude.{codes}
 use Rattle.std.specs.List.{AllByRecursion}
 use Rattle.std.proofs.lemmas.Int.{to_z-of_z}
-use Rattle.pg_pages.specs.Words.{line}
+use Rattle.pg_words.specs.Written.{line}
 use Rattle.pg_pages.specs.PageText.{items_text}
 use Rattle.pg_pages.specs.Printed.{IsPrintable, behind, widths_by}
 use Rattle.pg_pages.proofs.Printed.{behind_long}

@@ -3,7 +3,7 @@ use Rattle.std.specs.Prelude.{codes}
 use Rattle.std.specs.Int.{w128}
 use Rattle.std.proofs.lemmas.Int.{to_z-of_z}
 use Rattle.pg_scaled.specs.Scaled.{scaled_text}
-use Rattle.pg_pages.specs.Words.{line}
+use Rattle.pg_words.specs.Written.{line}
 use Rattle.pg_pages.specs.PageText.{head_line, head_counts}
 use Rattle.pg_pages.proofs.Grown.{on_ok, two_parts}
 use Rattle.pg_pages.proofs.lines.print_head.Goals as goal

@@ -3,7 +3,7 @@ use Rattle.std.specs.Prelude.{codes}
 use Rattle.std.proofs.lemmas.Int.{to_z-of_z}
 use Rattle.pg_flat.specs.Totals.{top_glue}
 use Rattle.pg_scaled.specs.Scaled.{scaled_text}
-use Rattle.pg_pages.specs.Words.{line}
+use Rattle.pg_words.specs.Written.{line}
 use Rattle.pg_pages.specs.Printed.{behind}
 use Rattle.pg_pages.proofs.Grown.{on_ok}
 use Rattle.pg_pages.proofs.text.print_top.Goals as goal

@@ -1,5 +1,5 @@
 use Rattle.std.proofs.Common.{sym, subst, List}
-use Rattle.pg_moves.specs.Laid.{doc_of}
+use Rattle.pg_sources.specs.Document.{doc_of}
 use Rattle.pg_plan.specs.declared.pages.PageMove.{PageMove}
 use Rattle.pg_plan.specs.declared.states.State.{State}
 use Rattle.pg_space_laws.specs.PageSpace.{page_meaning}

@@ -1,6 +1,6 @@
 use Rattle.std.proofs.Common.{rules, arith, ◌≡◌, ◌∙◌, sym, ◌<◌, length, ℕ}
 use Rattle.pg_rules.specs.Floats.{distance_table}
-use Rattle.pg_moves.specs.Laid.{doc_of}
+use Rattle.pg_sources.specs.Document.{doc_of}
 use Rattle.pg_states.specs.Parts.{waits_in}
 use Rattle.pg_states.proofs.Young.{too_old, young_end, young_enough, young_start}
 use Rattle.pg_states.proofs.ages.are_young.Goals as goal

@@ -1,7 +1,7 @@
 use Rattle.std.proofs.Common.{rules, arith, ◌≡◌, ◌∙◌, ap, map, length, ℕ}
 use Rattle.std.specs.List.{range_with_len}
 use Rattle.pg_rules.specs.Floats.{float_numbers, total_count}
-use Rattle.pg_moves.specs.Laid.{doc_of}
+use Rattle.pg_sources.specs.Document.{doc_of}
 use Rattle.pg_states.specs.Parts.{waits_in}
 use Rattle.pg_states.proofs.Sums.{total_next}
 use Rattle.pg_states.proofs.ages.count_all_waiting.Goals as goal

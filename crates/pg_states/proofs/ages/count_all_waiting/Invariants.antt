@@ -1,7 +1,7 @@
 use Rattle.std.proofs.Common.{◌≡◌, ◌≤◌, ◌*◌, ◌^◌, map}
 use Rattle.std.specs.List.{range_with_len}
 use Rattle.pg_rules.specs.Floats.{total_count}
-use Rattle.pg_moves.specs.Laid.{doc_of}
+use Rattle.pg_sources.specs.Document.{doc_of}
 use Rattle.pg_states.specs.Parts.{waits_in}
 use Rattle.pg_states.proofs.ages.count_all_waiting.Given as goal
 

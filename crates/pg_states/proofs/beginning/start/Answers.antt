@@ -1,6 +1,6 @@
 use Rattle.std.proofs.Common.{◌∙◌, ap, ℕ}
 use Rattle.std.specs.Prelude.{replicate}
-use Rattle.pg_moves.specs.Laid.{doc_of}
+use Rattle.pg_sources.specs.Document.{doc_of}
 use Rattle.pg_states.proofs.FirstState.{start_is}
 use Rattle.pg_states.proofs.beginning.start.Goals as goal
 

@@ -1,7 +1,7 @@
 use Rattle.std.proofs.Common.{sym, subst, Bool}
 use Rattle.std.specs.Prelude.{IsTrue, ◌↔◌}
 use Rattle.pg_rules.specs.IsState.{IsState}
-use Rattle.pg_moves.specs.Laid.{doc_of}
+use Rattle.pg_sources.specs.Document.{doc_of}
 use Rattle.pg_states.proofs.testing.is_state.Goals as goal
 
 pub returns : goal.returns

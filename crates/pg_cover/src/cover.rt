@@ -1,0 +1,194 @@
+//! Labels tested whether they are closed.
+ghost use Rattle.std.specs.Prelude.{◌≡◌, true, length, Contains, IfOk, Some, None, ◌≤ℤ◌, ◌+ℤ◌};
+ghost use Rattle.std.specs.Bool.{Decides};
+ghost use Rattle.pg_plan.specs.declared.states.Label.{Label as ALabel};
+ghost use Rattle.pg_table.specs.declared.step.Step.{Step as AStep};
+ghost use Rattle.pg_plan.specs.declared.pages.PageMove.{PageMove as AMove};
+ghost use Rattle.pg_plan.specs.declared.states.State.{State as AState};
+ghost use Rattle.pg_cover.specs.declared.cover.Open.{Open as AnOpen};
+ghost use Rattle.pg_cover.specs.Covered.{AreOwn, CoveredBy, DoesCover, CoversStep, LeastOf, least_with, IsOpenOf, NoneOpenBefore, IsFirstOpen};
+
+use crate::hints::{Hints, hints_of};
+use pg_list::Place;
+use pg_plan::{Label, PageMove, State, compare_places};
+use pg_steps::Steps;
+use pg_table::{Space, Step, StepList};
+use std::alloc::{AllocError, Global};
+use std::sync::ledger::Ledger;
+
+// Whether a cost is at most the sum of two, which may be beyond 128 bits.
+fn is_within(cost: i128, base: i128, pays: i128) -> bool
+    ensures { Decides result (cost ≤ℤ (base +ℤ pays)) }
+{
+    match base.checked_add(pays) {
+        Some(sum) => cost <= sum,
+        None => pays > 0,
+    }
+}
+
+// Whether the label has a state that is no worse, at a cost that is at most the sum of two.
+fn label_covers<S: Space<State = State>>(
+    space: &S,
+    label: &Label,
+    to: &State,
+    base: i128,
+    pays: i128,
+) -> bool
+    requires label { (S.meaning space.now).Own label.now.state }
+    requires to { (S.meaning space.now).Own to.now }
+    ensures { Decides result (DoesCover (S.meaning space.now) label.now to.now (base +ℤ pays)) }
+{
+    space.no_worse(&label.state, to) && is_within(label.cost, base, pays)
+}
+
+/// Whether some label has a state that is no worse than a state of the space, at a cost that is at most the sum of two.
+/// The sum is that of whole numbers, and may be beyond 128 bits. No memory is taken.
+pub fn covers<S: Space<State = State>>(
+    space: &S,
+    labels: &[Label],
+    to: &State,
+    base: i128,
+    pays: i128,
+) -> bool
+    requires labels { AreOwn (S.meaning space.now) labels.now }
+    requires to { (S.meaning space.now).Own to.now }
+    ensures { Decides result (CoveredBy (S.meaning space.now) labels.now to.now (base +ℤ pays)) }
+{
+    for label in labels {
+        if label_covers(space, label, to, base, pays) {
+            return true;
+        }
+    }
+    false
+}
+
+// Whether one of the labels at these places covers what a step of a label leads to.
+fn among_covers<S: Space<State = State, Move = PageMove>>(
+    space: &S,
+    labels: &[Label],
+    places: &[usize],
+    label: &Label,
+    step: &Step<State, PageMove>,
+) -> bool
+    requires labels { AreOwn (S.meaning space.now) labels.now }
+    requires to { (S.meaning space.now).Own step.now.to }
+    ensures { result ≡ true → CoversStep (S.meaning space.now) labels.now label.now step.now }
+{
+    for place in places {
+        if *place < labels.len()
+            && label_covers(space, &labels[*place], &step.to, label.cost, step.cost)
+        {
+            return true;
+        }
+    }
+    false
+}
+
+// Whether a label covers what a step of a label leads to. The labels of its key are looked at first.
+fn covers_step<S: Space<State = State, Move = PageMove>>(
+    space: &S,
+    labels: &[Label],
+    hints: &Hints<S::Key>,
+    label: &Label,
+    step: &Step<State, PageMove>,
+) -> Result<bool, AllocError>
+    requires labels { AreOwn (S.meaning space.now) labels.now }
+    requires to { (S.meaning space.now).Own step.now.to }
+    ensures { IfOk result (λ r. Decides r (CoversStep (S.meaning space.now) labels.now label.now step.now)) }
+{
+    let key = space.key(&step.to)?;
+    if among_covers(space, labels, hints.places_of(&key), label, step) {
+        return Ok(true);
+    }
+    Ok(covers(space, labels, &step.to, label.cost, step.cost))
+}
+
+// The least of places, with one more unless what ends there is covered.
+fn least_place(is_covered: bool, least: Option<Place>, to: Place) -> Option<Place>
+    ensures { result ≡ least_with is_covered least to }
+{
+    if is_covered {
+        return least;
+    }
+    match least {
+        None => Some(to),
+        Some(old) => {
+            if compare_places(&to, &old).is_lt() {
+                Some(to)
+            } else {
+                Some(old)
+            }
+        }
+    }
+}
+
+// The least place where one of these steps of a label ends that no label covers.
+fn least_open<S: Space<State = State, Move = PageMove>>(
+    space: &S,
+    labels: &[Label],
+    hints: &Hints<S::Key>,
+    label: &Label,
+    steps: StepList<State, PageMove>,
+) -> Result<Option<Place>, AllocError>
+    requires labels { AreOwn (S.meaning space.now) labels.now }
+    requires steps { (step : AStep AState AMove) → Contains steps step → (S.meaning space.now).Own step.to }
+    ensures { IfOk result (LeastOf (S.meaning space.now) labels.now label.now steps) }
+{
+    let mut steps = steps;
+    let mut least = None;
+    while let Some(step) = steps.pop() {
+        least = least_place(
+            covers_step(space, labels, hints, label, &step)?,
+            least,
+            step.by.column.to,
+        );
+    }
+    Ok(least)
+}
+
+// The least place where a column that follows a label ends, and no label covers what it leads to.
+fn open_of<S: Space<State = State, Move = PageMove>, L: Ledger>(
+    space: &S,
+    labels: &[Label],
+    hints: &Hints<S::Key>,
+    label: &Label,
+    steps: &mut Steps<L>,
+) -> Result<Option<Place>, AllocError>
+    requires labels { AreOwn (S.meaning space.now) labels.now }
+    requires label { (S.meaning space.now).Own label.now.state }
+    ensures { IfOk result (IsOpenOf (S.meaning space.now) labels.now label.now) }
+{
+    let opened = space.expand(&label.state, steps)?;
+    least_open(space, labels, hints, label, opened.steps)
+}
+
+/// A label, by its index from 0, behind which stands a column that leads to what no label covers, and the least place
+/// where such a column ends.
+#[derive(Clone, Copy, Debug, PartialEq, Eq)]
+pub struct Open {
+    pub index: usize,
+    pub to: Place,
+}
+
+/// The first label with a column behind it that leads to what no label covers; None where there is no such label. Each
+/// label up to that one is opened once, and counted as a step. The only refusal is for want of memory.
+pub fn first_open<S: Space<State = State, Move = PageMove>, L: Ledger>(
+    alloc: Global,
+    space: &S,
+    labels: &[Label],
+    steps: &mut Steps<L>,
+) -> Result<Option<Open>, AllocError>
+    requires { AreOwn (S.meaning space.now) labels.now }
+    ensures none { IfOk result (λ found. found ≡ None
+        → NoneOpenBefore (S.meaning space.now) labels.now (length labels.now)) }
+    ensures some { IfOk result (λ found. (o : AnOpen) → found ≡ Some o
+        → IsFirstOpen (S.meaning space.now) labels.now o.index o.to) }
+{
+    let hints = hints_of(alloc, space, labels)?;
+    for index in 0..labels.len() {
+        if let Some(to) = open_of(space, labels, &hints, &labels[index], steps)? {
+            return Ok(Some(Open { index, to }));
+        }
+    }
+    Ok(None)
+}

@@ -1,0 +1,97 @@
+-- Heights of areas whose floats are there.
+use Rattle.std.proofs.Common.{◌≡◌, refl, sym, ap, ◌∙◌, subst, ℕ, ◌<◌, List, true, Option, Some, None, ℤ, pos, arith, ◌++◌, map, take, get_or, length, ◌+◌, [], ◌∷◌}
+use Rattle.std.specs.Prelude.{nat_abs, ◌^◌, ◌≤ℤ◌, ◌<ℤ◌, ◌&&◌, int_le, int_lt, ◌-ℤ◌, ◌+ℤ◌, unwrap_or, IfSome}
+use Rattle.std.specs.Option.{option_map_or}
+use Rattle.std.proofs.lemmas.Int.{ints}
+use Rattle.pg_plan.specs.declared.states.State.{State}
+use Rattle.pg_style.specs.Ranges.{IsAreaRule}
+use Rattle.pg_style.specs.Values.{AreaRuleValue}
+use Rattle.pg_rules.specs.Floats.{dealt, float_numbers, floats, plus_counts}
+use Rattle.pg_rules.specs.IsState.{IsState, not_first}
+use Rattle.pg_rules.specs.Room.{Document, checked_height, extra}
+use Rattle.std.specs.List.{AllByRecursion}
+use Rattle.pg_list.specs.Shapes.{IsBlock}
+use Rattle.pg_bound_laws.proofs.Areas.{area_range, dealt_range, floats_range}
+use Rattle.pg_layouts.specs.declared.layout.Layout.{Layout}
+use Rattle.std.proofs.lemmas.List.{map-append}
+use Rattle.pg_lemmas.proofs.Lists.{all_append, one_more}
+use Rattle.pg_lemmas.proofs.Bools.{both_of}
+use Rattle.pg_move_laws.proofs.Moves.{checked_is}
+use Rattle.pg_move_laws.specs.Steps.{area_of, text_room}
+use Rattle.pg_laid.specs.Laid.{IsLaidBy, IsThere, laid_of}
+use Rattle.pg_laid.specs.declared.laid.Laid.{Laid}
+use Rattle.pg_place_laws.proofs.Tests.{le_int, less_int}
+
+-- the height that a list of floats answers
+pub height_is : (doc : Document) (rule : AreaRuleValue) (before counts : List ℕ) (z : ℤ) → IsThere doc before counts →
+    z ≡ checked_height (floats doc.blocks doc.style) true rule before counts → z ≡ area_of doc rule before counts
+height_is doc rule before counts z there e =
+    e ∙ checked_is (floats doc.blocks doc.style) true rule before counts refl there.there
+
+pub height_small : (doc : Document) (rule : AreaRuleValue) (before counts : List ℕ) (z : ℤ) →
+    AllByRecursion IsBlock doc.blocks → IsAreaRule rule → IsThere doc before counts →
+    z ≡ area_of doc rule before counts → nat_abs z < 2 ^ 34
+height_small doc rule before counts z blocks range there e =
+    let r = area_range rule range (dealt (floats doc.blocks doc.style) before counts)
+    (dealt_range 0 (floats doc.blocks doc.style) before counts (floats_range doc.blocks (float_numbers doc.style) blocks))
+    there.few in
+    let few = r.1 in
+    subst (λ (y : ℤ). nat_abs y < 2 ^ 34) (sym e) (omega (arith, few))
+
+-- the wide area of a page that has begun
+pub begun_small : (doc : Document) (u : State) → IsState doc u → IfSome u.wide (λ (z : ℤ). nat_abs z < 2 ^ 34)
+begun_small doc u own = by u.wide own.wide
+  where
+    by : (o : Option ℤ) → option_map_or (λ (z : ℤ). not_first u.column
+        && (int_le (pos 0) z && int_lt z (pos (2 ^ 33)))) o true ≡ true → IfSome o (λ (z : ℤ). nat_abs z < 2 ^ 34)
+    by None e = tt
+    by (Some z) e =
+        let s = both_of (int_le (pos 0) z) (int_lt z (pos (2 ^ 33))) (both_of (not_first u.column) _ e).1 in
+        let a : pos 0 ≤ℤ z = le_int (pos 0) z s.0 in
+        let b : z <ℤ pos 8589934592 = less_int z (pos 8589934592) s.1 in
+        omega (arith, ints, a, b)
+
+-- what the areas of a layout leave to a text
+pub room_is : (doc : Document) (u : State) (layout : Layout) (wide : Option ℤ) (before below : List ℕ)
+    (full w t b : ℤ) → IsLaidBy doc u layout wide before below → full ≡ doc.style.height +ℤ extra doc.style layout.run →
+    w ≡ unwrap_or wide (pos 0) → t ≡ area_of doc doc.style.top before layout.top →
+    b ≡ area_of doc doc.style.bottom below layout.bottom → ((full -ℤ w) -ℤ t) -ℤ b ≡ text_room doc u layout
+room_is doc u layout wide before below full w t b by f h i j =
+    left_is full w t b _ _ _ _ f (h ∙ ap (λ (o : Option ℤ). unwrap_or o (pos 0)) by.wide_is)
+    (i ∙ ap (λ (counts : List ℕ). area_of doc doc.style.top counts layout.top) by.before_is)
+    (j ∙ ap (λ (counts : List ℕ). area_of doc doc.style.bottom counts layout.bottom)
+    (by.below_is ∙ ap (λ (counts : List ℕ). plus_counts doc.style counts layout.top) by.before_is))
+  where
+    left_is : (f w t b f' w' t' b' : ℤ) → f ≡ f' → w ≡ w' → t ≡ t' → b ≡ b' →
+        ((f -ℤ w) -ℤ t) -ℤ b ≡ ((f' -ℤ w') -ℤ t') -ℤ b'
+    left_is f w t b f' w' t' b' p q r s = cc
+
+pub laid_is : (doc : Document) (u : State) (layout : Layout) (wide : Option ℤ) (before below after : List ℕ) (room : ℤ) →
+    IsLaidBy doc u layout wide before below → after ≡ plus_counts doc.style below layout.bottom →
+    room ≡ text_room doc u layout →
+    ◌≡◌ {A = Laid} (record { layout = layout; wide = wide; after = after; room = room }) (laid_of doc u layout)
+laid_is doc u layout wide before below after room by a r =
+    same wide _ after _ room _ by.wide_is
+    (a ∙ (ap (λ (counts : List ℕ). plus_counts doc.style counts layout.bottom) by.below_is
+    ∙ ap (λ (counts : List ℕ). plus_counts doc.style (plus_counts doc.style counts layout.top) layout.bottom)
+    by.before_is)) r
+  where
+    same : (w w' : Option ℤ) (a a' : List ℕ) (r r' : ℤ) → w ≡ w' → a ≡ a' → r ≡ r' →
+        ◌≡◌ {A = Laid} (record { layout = layout; wide = w; after = a; room = r })
+        (record { layout = layout; wide = w'; after = a'; room = r' })
+    same w w' a a' r r' p q s = cc
+
+-- one more layout behind those before it
+pub laid_more : (doc : Document) (u : State) (layouts : List Layout) (i : ℕ) (layout copy : Layout) (it : Laid)
+    (mid new : List Laid) → i < length layouts → layout ≡ get_or layouts i layout → copy ≡ layout →
+    it ≡ laid_of doc u copy → nat_abs it.room < 2 ^ 40 → mid ≡ map (laid_of doc u) (take i layouts) →
+    AllByRecursion (λ (x : Laid). nat_abs x.room < 2 ^ 40) mid → new ≡ mid ++ it ∷ [] →
+    (new ≡ map (laid_of doc u) (take (i + 1) layouts)) × AllByRecursion (λ (x : Laid). nat_abs x.room < 2 ^ 40) new
+laid_more doc u layouts i layout copy it mid new less is c e small h all n = (
+  n ∙ (ap (λ (xs : List Laid). xs ++ it ∷ []) h
+      ∙ (ap (λ (x : Laid). map (laid_of doc u) (take i layouts) ++ x ∷ []) (e ∙ ap (laid_of doc u) c)
+      ∙ (sym (map-append (laid_of doc u) (take i layouts) (layout ∷ []))
+      ∙ ap (map (laid_of doc u)) (sym (one_more layouts i layout less is))))),
+  subst (AllByRecursion (λ (x : Laid). nat_abs x.room < 2 ^ 40)) (sym n)
+      (all_append (λ (x : Laid). nat_abs x.room < 2 ^ 40) mid (it ∷ []) all (small, tt)),
+)

@@ -1,0 +1,4 @@
+pub mod Dealt
+pub mod FloatLaid
+pub mod LaidLemmas
+pub mod Tallest

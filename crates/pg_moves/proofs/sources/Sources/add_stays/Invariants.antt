@@ -1,8 +1,0 @@
-use Rattle.std.proofs.Common.{◌≡◌, ◌++◌, take}
-use Rattle.std.specs.List.{flat_map}
-use Rattle.pg_moves.specs.Laid.{doc_of}
-use Rattle.pg_moves.specs.Stepping.{stay_in}
-use Rattle.pg_moves.proofs.sources.Sources.add_stays.Given as goal
-
-abbrev pub invariant-loop-it : goal.invariant-loop-it
-invariant-loop-it l = l.steps ≡ l.initial.steps ++ flat_map (stay_in (doc_of l.self) l.state) (take l.it-index l.laid)

@@ -1,0 +1,17 @@
+use Rattle.std.proofs.Common.{rules, subst}
+use Rattle.pg_sources.specs.Document.{doc_of}
+use Rattle.pg_waiting.specs.Settling.{Settles}
+use Rattle.pg_moves.proofs.Standing.{not_stayed, stayed}
+use Rattle.pg_moves.proofs.stays.add_standing.Goals as goal
+
+pub returns-in-None : goal.returns-in-None
+returns-in-None c = not_stayed (doc_of c.args.sources.now) c.args.state.now c.args.laid.now c.requires.laid
+    c.args.steps.now c.requires.stands
+    (subst (Settles (doc_of c.args.sources.now) c.args.state.now c.args.state.now.place c.args.laid.now.after) c.in-None.is
+    c.requires.settled)
+
+pub returns-in_ok-push-in-Some : goal.returns-in_ok-push-in-Some
+returns-in_ok-push-in-Some c = stayed (doc_of c.args.sources.now) c.args.state.now c.args.laid.now c.requires.laid
+    c.args.steps.now c.push.new.self c.in_ok-step_of-in-Some.field-0 c.requires.stands
+    (subst (Settles (doc_of c.args.sources.now) c.args.state.now c.args.state.now.place c.args.laid.now.after) c.in-Some.is
+    c.requires.settled).0 c.in_ok-step_of-in-Some.ensures (search rules)

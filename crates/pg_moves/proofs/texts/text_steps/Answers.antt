@@ -1,0 +1,36 @@
+use Rattle.std.proofs.Common.{◌∙◌, ap, ℕ, subst, sym, List, map}
+use Rattle.std.specs.Prelude.{Contains, ◌≤ℤ◌}
+use Rattle.std.specs.List.{AllByRecursion}
+use Rattle.pg_layouts.specs.Layouts.{text_layouts}
+use Rattle.pg_walk_laws.specs.Reached.{tallest}
+use Rattle.pg_sources.specs.Document.{doc_of}
+use Rattle.pg_laid.specs.Laid.{HasSoMany, laid_of}
+use Rattle.pg_laid.specs.declared.laid.Laid.{Laid}
+use Rattle.pg_moves.proofs.AllSteps.{laid_own, text_steps_are}
+use Rattle.pg_moves.proofs.texts.text_steps.Goals as goal
+
+pub lay_texts-requires-clause-ceiling : goal.lay_texts-requires-clause-ceiling
+lay_texts-requires-clause-ceiling c =
+    subst (HasSoMany (doc_of c.args.sources.now)) (sym c.as_slice.ensures) c.requires.ceiling
+
+pub add_all-requires-clause-laid : goal.add_all-requires-clause-laid
+add_all-requires-clause-laid c = λ it m. laid_own (doc_of c.args.sources.now) c.args.state.now
+    (text_layouts (doc_of c.args.sources.now) c.args.state.now c.as_slice.result.now) it
+    (subst (λ (xs : List Laid). Contains xs it) (c.as_slice-laid.ensures.value ∙ c.in_ok-layouts.ensures.laid) m)
+
+pub returns-clause-steps : goal.returns-clause-steps
+returns-clause-steps c = λ right.
+    let now = c.in_ok-ask_all.ensures.right c.args.state.now.place
+    (subst (AllByRecursion (λ (it : Laid). it.room ≤ℤ tallest c.args.sources.now.style.now))
+    (sym c.as_slice-laid.ensures.value) c.in_ok-layouts.ensures.low) right in
+    text_steps_are (doc_of c.args.sources.now) c.args.state.now c.args.ceiling.now c.ask_all.new.self
+    c.as_slice-laid.result.now c.new-steps.result c.add_all.new.steps
+    (c.as_slice-laid.ensures.value ∙ (c.in_ok-layouts.ensures.laid
+    ∙ ap (λ (counts : List ℕ). map (laid_of (doc_of c.args.sources.now) c.args.state.now)
+    (text_layouts (doc_of c.args.sources.now) c.args.state.now counts)) c.as_slice.ensures))
+    c.in_ok-ask_all.ensures.has now c.new-steps.ensures (c.in_ok-add_all.ensures now)
+
+pub returns-clause-kept : goal.returns-clause-kept
+returns-clause-kept c = c.in_ok-ask_all.ensures.right c.args.state.now.place
+    (subst (AllByRecursion (λ (it : Laid). it.room ≤ℤ tallest c.args.sources.now.style.now))
+    (sym c.as_slice-laid.ensures.value) c.in_ok-layouts.ensures.low)

@@ -1,0 +1,8 @@
+use Rattle.std.proofs.Common.{subst, ◌<◌, ◌^◌}
+use Rattle.std.specs.Prelude.{ℤ, nat_abs}
+use Rattle.pg_output_laws.proofs.Contracts.{pages_read_back}
+use Rattle.pg_output_laws.proofs.laws.pages_read_back.Goals as goal
+
+pub returns : goal.returns
+returns c = pages_read_back _ _ c.requires.range
+    (subst (λ (z : ℤ). nat_abs z < 2 ^ 30) c.width.ensures.width c.width.ensures.in_range) c.requires.penalties

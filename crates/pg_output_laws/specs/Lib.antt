@@ -1,0 +1,4 @@
+pub mod Ranges
+pub mod PageRanges
+pub mod GalleyRanges
+pub mod Laws

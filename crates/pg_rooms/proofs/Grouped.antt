@@ -1,0 +1,78 @@
+-- Ends in groups.
+use Rattle.std.proofs.Common.{◌≡◌, sym, ap, subst, ◌∙◌, ℕ, ◌+◌, ◌-◌, ◌≤◌, ◌<◌, suc, arith, true, Bool, get_or}
+use Rattle.std.specs.Prelude.{List, [], ◌∷◌, ◌++◌, length, take, drop, ◌==◌, ◌&&◌}
+use Rattle.std.specs.Cmp.{unsigned_Decides}
+use Rattle.std.specs.Cmp.Lexicographic.{pointwise}
+use Rattle.std.specs.List.{AllByRecursion}
+use Rattle.std.proofs.Math.Seq.{take-length}
+use Rattle.std.proofs.lemmas.List.{append_assoc, append-nil, length-drop}
+use Rattle.std.proofs.lemmas.Slice.Eq.{slice_eq-Decides}
+use Rattle.pg_ends.specs.declared.end.End.{End}
+use Rattle.pg_flat.proofs.Places.{same_place}
+use Rattle.pg_lemmas.proofs.Bools.{both, both_of}
+use Rattle.pg_lemmas.proofs.Lists.{all_append, no_items, one_more}
+use Rattle.pg_list.specs.declared.galley.Place.{Place}
+use Rattle.pg_rules.specs.Floats.{called}
+use Rattle.pg_rules.specs.Room.{Document}
+use Rattle.pg_rooms.specs.PlaceEnds.{AreGroups}
+use Rattle.pg_rooms.specs.declared.grouping.Group.{Group}
+
+-- places that are equal number by number are one
+pub one_place : (a b : Place) (r : Bool) →
+    r ≡ ((a.block == b.block) && ((a.variant == b.variant) && (a.index == b.index))) → r ≡ true → a ≡ b
+one_place a b r e t =
+    let s = both_of (a.block == b.block) ((a.variant == b.variant) && (a.index == b.index)) (sym e ∙ t) in
+    let u = both_of (a.variant == b.variant) (a.index == b.index) s.1 in
+    same_place a b (both ((a.block == b.block) && (a.variant == b.variant)) (a.index == b.index)
+    (both (a.block == b.block) (a.variant == b.variant) s.0 u.0) u.1)
+
+-- counts that are equal one by one are the same
+pub one_list : (a b : List ℕ) (r : Bool) → r ≡ pointwise (λ (x y : ℕ). x == y) a b → r ≡ true → a ≡ b
+one_list a b r e t = (slice_eq-Decides unsigned_Decides a b r e).0 t
+
+-- what holds of each of the first elements, and of the next
+pub all_more : {X : Type 0} (P : X → Type 0) (xs : List X) (i : ℕ) (x : X) → i < length xs → x ≡ get_or xs i x →
+    AllByRecursion P (take i xs) → P x → AllByRecursion P (take (i + 1) xs)
+all_more P xs i x less is all own =
+    subst (AllByRecursion P) (sym (one_more xs i x less is)) (all_append P (take i xs) (x ∷ []) all (own, tt))
+
+-- the first ends are one group more, behind those that were found
+pub one_group : (doc : Document) (groups now : List Group) (ends rest after left : List End) (first : End)
+    (group : Group) (k : ℕ) →
+    ((more : List Group) → AreGroups doc more rest → AreGroups doc (groups ++ more) ends) → rest ≡ first ∷ after →
+    group.count ≡ k + 1 → group.called ≡ called doc.blocks doc.style first.to →
+    AllByRecursion (λ (end : End). group.called ≡ called doc.blocks doc.style end.to) (take k after) →
+    now ≡ groups ++ group ∷ [] → left ≡ drop k after →
+    (more : List Group) → AreGroups doc more left → AreGroups doc (now ++ more) ends
+one_group doc groups now ends rest after left first group k old split count here same push cut more g =
+    let next : suc k ≡ group.count = omega (arith, count) in
+    let front : AreGroups doc (group ∷ more) (first ∷ after) =
+    subst (λ (n : ℕ). AllByRecursion (λ (end : End). group.called ≡ called doc.blocks doc.style end.to)
+    (take n (first ∷ after)) × AreGroups doc more (drop n (first ∷ after))) next
+    ((here, same), subst (AreGroups doc more) cut g) in
+    subst (λ (gs : List Group). AreGroups doc gs ends)
+    (sym (append_assoc groups (group ∷ []) more) ∙ ap (λ (gs : List Group). gs ++ more) (sym push))
+    (old (group ∷ more) (subst (AreGroups doc (group ∷ more)) (sym split) front))
+
+-- a list that begins with an element
+pub split_first : {X : Type 0} (xs : List X) (x : X) → 1 ≤ length xs → x ≡ get_or xs 0 x →
+    xs ≡ x ∷ take (length xs - 1) (drop 1 xs)
+split_first [] x l e = absurd (omega (arith, l))
+split_first (y ∷ xs) x l e =
+    let n : length xs ≡ suc (length xs) - 1 = omega arith in
+    ap (λ z. z ∷ xs) (sym e) ∙ ap (λ ys. x ∷ ys) (sym (take-length xs) ∙ ap (λ (k : ℕ). take k xs) n)
+
+-- no more ends are left than there were
+pub still_few : (ends rest after left : List End) (first : End) (k : ℕ) → rest ≡ first ∷ after →
+    left ≡ drop k after → length rest ≤ length ends → length left ≤ length ends
+still_few ends rest after left first k split cut few =
+    let all = ap length split in
+    let behind = ap length cut ∙ length-drop k after in
+    omega (arith, all, behind, few)
+
+-- no end is left
+pub all_grouped : (doc : Document) (groups : List Group) (ends rest : List End) →
+    ((more : List Group) → AreGroups doc more rest → AreGroups doc (groups ++ more) ends) → length rest ≡ 0 →
+    AreGroups doc groups ends
+all_grouped doc groups ends rest old none =
+    subst (λ (gs : List Group). AreGroups doc gs ends) (append-nil groups) (old [] (no_items rest none))

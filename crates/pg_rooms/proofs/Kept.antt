@@ -1,0 +1,129 @@
+-- What is kept of a place.
+use Rattle.std.proofs.Common.{◌≡◌, refl, sym, ap, subst, ◌∙◌, ℕ, zero, suc, ◌+◌, ◌<◌, true, false, Bool, ℤ, arith, get_or}
+use Rattle.std.specs.Prelude.{List, [], ◌∷◌, ◌++◌, length, take, if◌then◌else◌, Contains}
+use Rattle.std.specs.List.{AllByRecursion}
+use Rattle.std.specs.Ordering.{int_eq}
+use Rattle.std.proofs.Math.Seq.{take-length}
+use Rattle.std.proofs.lemmas.Bool.Decides.{Decides-int_eq}
+use Rattle.pg_ends.specs.Ends.{AreEnds}
+use Rattle.pg_ends.specs.declared.end.End.{End}
+use Rattle.pg_lemmas.proofs.Bools.{by_bool, if_false, if_true}
+use Rattle.pg_lemmas.proofs.Lists.{all_append, none_among}
+use Rattle.pg_laid.specs.declared.laid.Laid.{Laid}
+use Rattle.pg_list.specs.declared.galley.Place.{Place}
+use Rattle.pg_rules.specs.Room.{Document}
+use Rattle.pg_walk.specs.declared.place.PlaceWalk.{PlaceWalk}
+use Rattle.pg_walk_laws.specs.Candidates.{AreCandidates}
+use Rattle.pg_walk_laws.specs.Reached.{tallest}
+use Rattle.pg_rooms.proofs.Grouped.{all_more}
+use Rattle.pg_rooms.specs.PlaceEnds.{AreGroups, ArePlaceEnds, AreRoomEnds, ends_in, groups_in, has_room}
+use Rattle.pg_rooms.specs.declared.grouping.Group.{Group}
+use Rattle.pg_rooms.specs.declared.place_ends.PlaceEnds.{PlaceEnds}
+use Rattle.pg_rooms.specs.declared.place_ends.RoomEnds.{RoomEnds}
+
+-- ---- a room more
+
+has_last : (rooms : List RoomEnds) (it : RoomEnds) → has_room (rooms ++ it ∷ []) it.room ≡ true
+has_last [] it = if_true (int_eq it.room it.room) true false ((Decides-int_eq it.room it.room).1 refl)
+has_last (first ∷ rooms) it = by (int_eq first.room it.room) (has_last rooms it)
+  where
+    by : (b : Bool) → has_room (rooms ++ it ∷ []) it.room ≡ true →
+        (if b then true else has_room (rooms ++ it ∷ []) it.room) ≡ true
+    by true h = refl
+    by false h = h
+
+has_front : (rooms more : List RoomEnds) (room : ℤ) → has_room rooms room ≡ true →
+    has_room (rooms ++ more) room ≡ true
+has_front [] more room h = absurd cc
+has_front (first ∷ rooms) more room h = by (int_eq first.room room) h (has_front rooms more room)
+  where
+    by : (b : Bool) → (if b then true else has_room rooms room) ≡ true →
+        (has_room rooms room ≡ true → has_room (rooms ++ more) room ≡ true) →
+        (if b then true else has_room (rooms ++ more) room) ≡ true
+    by true h f = refl
+    by false h f = f h
+
+-- the room that was added is kept
+pub has_added : (rooms now : List RoomEnds) (it : RoomEnds) (room : ℤ) → now ≡ rooms ++ it ∷ [] → it.room ≡ room →
+    has_room now room ≡ true
+has_added rooms now it room push is =
+    subst (λ (xs : List RoomEnds). has_room xs room ≡ true) (sym push)
+    (subst (λ (z : ℤ). has_room (rooms ++ it ∷ []) z ≡ true) is (has_last rooms it))
+
+-- the others still are
+pub has_still : (rooms now : List RoomEnds) (it : RoomEnds) (room : ℤ) → now ≡ rooms ++ it ∷ [] →
+    has_room rooms room ≡ true → has_room now room ≡ true
+has_still rooms now it room push h =
+    subst (λ (xs : List RoomEnds). has_room xs room ≡ true) (sym push) (has_front rooms (it ∷ []) room h)
+
+-- what is kept with it is right
+pub right_added : (doc : Document) (from : Place) (old now : PlaceEnds) (it : RoomEnds) → now.walk ≡ old.walk →
+    now.rooms.items ≡ old.rooms.items ++ it ∷ [] → ArePlaceEnds doc from old → AreRoomEnds doc from it →
+    ArePlaceEnds doc from now
+right_added doc from old now it walk push are own = record {
+  found = subst (λ (w : PlaceWalk). AreCandidates doc from (tallest doc.style) w.found) (sym walk) are.found;
+  rooms = subst (AllByRecursion (AreRoomEnds doc from)) (sym push)
+      (all_append (AreRoomEnds doc from) old.rooms.items (it ∷ []) are.rooms (own, tt));
+}
+
+-- ---- the rooms of layouts
+
+-- what holds of each holds of an element
+pub all_contain : {X : Type 0} (P : X → Type 0) (xs : List X) (x : X) → AllByRecursion P xs → Contains xs x → P x
+all_contain P [] x a c = absurd (none_among x c)
+all_contain P (y ∷ ys) x a (zero, l, e) = subst P e a.0
+all_contain P (y ∷ ys) x a (suc k, l, e) = all_contain P ys x a.1 (k, omega arith, e)
+
+-- those that were asked for still are kept, and one more is
+pub has_more : (rooms now : List RoomEnds) (laid : List Laid) (i : ℕ) (it : Laid) → i < length laid →
+    it ≡ get_or laid i it →
+    AllByRecursion (λ (x : Laid). has_room rooms x.room ≡ true) (take i laid) → has_room now it.room ≡ true →
+    ((room : ℤ) → has_room rooms room ≡ true → has_room now room ≡ true) →
+    AllByRecursion (λ (x : Laid). has_room now x.room ≡ true) (take (i + 1) laid)
+has_more rooms now laid i it less is all own keeps =
+    all_more (λ (x : Laid). has_room now x.room ≡ true) laid i it less is (still (take i laid) all) own
+  where
+    still : (xs : List Laid) → AllByRecursion (λ (x : Laid). has_room rooms x.room ≡ true) xs →
+        AllByRecursion (λ (x : Laid). has_room now x.room ≡ true) xs
+    still [] a = tt
+    still (x ∷ xs) a = (keeps x.room a.0, still xs a.1)
+
+-- each of all is kept
+pub has_each : (rooms : List RoomEnds) (laid : List Laid) (i : ℕ) → i ≡ length laid →
+    AllByRecursion (λ (x : Laid). has_room rooms x.room ≡ true) (take i laid) → (it : Laid) → Contains laid it →
+    has_room rooms it.room ≡ true
+has_each rooms laid i done all it c = all_contain (λ (x : Laid). has_room rooms x.room ≡ true) laid it
+    (subst (AllByRecursion (λ (x : Laid). has_room rooms x.room ≡ true))
+    (ap (λ (n : ℕ). take n laid) done ∙ take-length laid) all) c
+
+-- ---- for callers
+
+-- the ends in a room that is kept
+pub room_right : (doc : Document) (from : Place) (it : PlaceEnds) (room : ℤ) → ArePlaceEnds doc from it →
+    has_room it.rooms.items room ≡ true → AreEnds doc from room (ends_in it.rooms.items room)
+room_right doc from it room are h = by it.rooms.items are.rooms h
+  where
+    by : (rooms : List RoomEnds) → AllByRecursion (AreRoomEnds doc from) rooms → has_room rooms room ≡ true →
+        AreEnds doc from room (ends_in rooms room)
+    by [] all h = absurd cc
+    by (first ∷ rooms) all h = by_bool (int_eq first.room room)
+        (λ t. subst (AreEnds doc from room) (sym (if_true (int_eq first.room room) first.ends (ends_in rooms room) t))
+        (subst (λ (z : ℤ). AreEnds doc from z first.ends) ((Decides-int_eq first.room room).0 t) all.0.ends))
+        (λ f. subst (AreEnds doc from room) (sym (if_false (int_eq first.room room) first.ends (ends_in rooms room) f))
+        (by rooms all.1 (sym (if_false (int_eq first.room room) true (has_room rooms room) f) ∙ h)))
+
+-- their groups, also where it is not
+pub groups_right : (doc : Document) (from : Place) (it : PlaceEnds) (room : ℤ) → ArePlaceEnds doc from it →
+    AreGroups doc (groups_in it.rooms.items room) (ends_in it.rooms.items room)
+groups_right doc from it room are = by it.rooms.items are.rooms
+  where
+    either : (b : Bool) (gs hs : List Group) (xs ys : List End) → AreGroups doc gs xs → AreGroups doc hs ys →
+        AreGroups doc (if b then gs else hs) (if b then xs else ys)
+    either true gs hs xs ys p q = p
+    either false gs hs xs ys p q = q
+
+    by : (rooms : List RoomEnds) → AllByRecursion (AreRoomEnds doc from) rooms →
+        AreGroups doc (groups_in rooms room) (ends_in rooms room)
+    by [] all = refl
+    by (first ∷ rooms) all = either (int_eq first.room room) first.groups.items (groups_in rooms room) first.ends
+        (ends_in rooms room) all.0.groups (by rooms all.1)

@@ -1,0 +1,46 @@
+-- The ends of columns of text from a place, room by room.
+use Rattle.std.specs.Prelude.{◌≡◌, Bool, true, false, if◌then◌else◌, List, [], ◌∷◌, ℤ, take, drop}
+use Rattle.std.specs.List.{AllByRecursion}
+use Rattle.std.specs.Ordering.{int_eq}
+use Rattle.pg_list.specs.declared.galley.Place.{Place}
+use Rattle.pg_ends.specs.Ends.{AreEnds}
+use Rattle.pg_ends.specs.declared.end.End.{End}
+use Rattle.pg_rules.specs.Floats.{called}
+use Rattle.pg_rules.specs.Room.{Document}
+use Rattle.pg_walk_laws.specs.Candidates.{AreCandidates}
+use Rattle.pg_walk_laws.specs.Reached.{tallest}
+use Rattle.pg_rooms.specs.declared.grouping.Group.{Group}
+use Rattle.pg_rooms.specs.declared.place_ends.PlaceEnds.{PlaceEnds}
+use Rattle.pg_rooms.specs.declared.place_ends.RoomEnds.{RoomEnds}
+
+-- groups of ends that follow one another: before each end of a group its floats of each class are called
+abbrev pub AreGroups : Document → List Group → List End → Type 0
+AreGroups doc [] ends = ends ≡ []
+AreGroups doc (group ∷ groups) ends =
+    AllByRecursion (λ (end : End). group.called ≡ called doc.blocks doc.style end.to) (take group.count ends)
+    × AreGroups doc groups (drop group.count ends)
+
+-- all ends in one room, and their groups
+pub record AreRoomEnds (doc : Document) (from : Place) (it : RoomEnds) : Type 0 where
+  pub ends : AreEnds doc from it.room it.ends
+  pub groups : AreGroups doc it.groups.items it.ends
+
+-- what a place keeps: its candidates, and the ends in some rooms
+pub record ArePlaceEnds (doc : Document) (from : Place) (it : PlaceEnds) : Type 0 where
+  pub found : AreCandidates doc from (tallest doc.style) it.walk.found
+  pub rooms : AllByRecursion (AreRoomEnds doc from) it.rooms.items
+
+-- a room is among these
+abbrev pub has_room : List RoomEnds → ℤ → Bool
+has_room [] room = false
+has_room (first ∷ rooms) room = if int_eq first.room room then true else has_room rooms room
+
+-- the ends in a room, where they are kept
+abbrev pub ends_in : List RoomEnds → ℤ → List End
+ends_in [] room = []
+ends_in (first ∷ rooms) room = if int_eq first.room room then first.ends else ends_in rooms room
+
+-- and their groups
+abbrev pub groups_in : List RoomEnds → ℤ → List Group
+groups_in [] room = []
+groups_in (first ∷ rooms) room = if int_eq first.room room then first.groups.items else groups_in rooms room

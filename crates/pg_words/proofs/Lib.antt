@@ -1,0 +1,3 @@
+pub mod Grown
+mod Sizes
+mod WorkedWords
