@@ -23,6 +23,7 @@ class Item:
     penalty: int = 0
     number: int = 0
     size: int = 0
+    body: str = ""  # the lines that show it, where they were read
 
     def is_box(self):
         return self.kind in ("box", "rule")

@@ -48,7 +48,7 @@ module _ {X : Type 0} (cmp : X → X → Ordering) (total : IsTotalOrder cmp) wh
   option_equal h (Some x) None e = absurd cc
   option_equal h (Some x) (Some y) e = ap (λ (z : X). Some z) (h x y e)
 
-int_equal : (a b : ℤ) → int_cmp a b ≡ Equal → a ≡ b
+pub int_equal : (a b : ℤ) → int_cmp a b ≡ Equal → a ≡ b
 int_equal a b e = by_ranked (a <ℤ b) (a ≡ b) (b <ℤ a) (int_cmp a b) (int_ranked a b (int_cmp a b) refl)
     (λ o _. absurd cc) (λ _ p. p) (λ o _. absurd cc)
 

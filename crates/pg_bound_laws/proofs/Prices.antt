@@ -37,7 +37,7 @@ pub size_if : (b : Bool) (x y : ℤ) (n : ℕ) → nat_abs x ≤ n → nat_abs y
 size_if true x y n h k = h
 size_if false x y n h k = k
 
-size_none : {X : Type 0} (f : X → ℤ) (o : Option X) (n : ℕ) → ((x : X) → o ≡ Some x → nat_abs (f x) ≤ n) →
+pub size_none : {X : Type 0} (f : X → ℤ) (o : Option X) (n : ℕ) → ((x : X) → o ≡ Some x → nat_abs (f x) ≤ n) →
     nat_abs (option_map_or f o (pos 0)) ≤ n
 size_none f None n h = omega arith
 size_none f (Some x) n h = h x refl
@@ -77,7 +77,7 @@ page_badness_few spent goal total items =
     (badness_few (total -ℤ goal) (shrink items)))
 
 -- the penalty of a break is below 10000
-abbrev IsLow : Option ℤ → Type 0
+abbrev pub IsLow : Option ℤ → Type 0
 IsLow o = (z : ℤ) → o ≡ Some z → z <ℤ pos 10000
 
 some_low : (x : ℤ) → x <ℤ pos 10000 → IsLow (Some x)
@@ -109,7 +109,7 @@ item_low flat k (Penalty value body) = by (int_lt value (pos 10000)) refl
 item_low flat k (Insert c s body) = none_low
 item_low flat k (Carry body) = none_low
 
-break_low : (flat : List Item) (k : ℕ) → IsLow (break_penalty flat k)
+pub break_low : (flat : List Item) (k : ℕ) → IsLow (break_penalty flat k)
 break_low flat k = low_if (k == length flat) (Some (pos 0)) _ zero_low (by (slice_get flat k))
   where
     by : (o : Option Item) → IsLow (option_map_or (item_break flat k) o None)
@@ -140,7 +140,7 @@ penalty_few (negsuc p) h = by (int_lt (negsuc 9999) (negsuc p)) refl
 
 -- ---- the parts of a column's cost
 
-text_few : (it : ColumnContext) → it.document.style.line ≤ 10000 → (n : ℕ) →
+pub text_few : (it : ColumnContext) → it.document.style.line ≤ 10000 → (n : ℕ) →
     nat_abs (text_demerits it n) ≤ 500000000
 text_few it line n =
     let b : text_badness it n ≤ 10000 =

@@ -1,19 +1,16 @@
 -- The ends in a room of one candidate more.
-use Rattle.std.proofs.Common.{◌≡◌, refl, sym, ap, ◌∙◌, subst, ℤ, ℕ, List, [], ◌∷◌, ◌++◌, map, take, ◌+◌, append-nil, Bool, true, false, Option, Some, None, Result, Ok, Err, OnOk}
+use Rattle.std.proofs.Common.{◌≡◌, refl, sym, ap, subst, ℤ, ℕ, List, [], ◌∷◌, ◌++◌, map, append-nil, Bool, true, false, Option, Some, None}
 use Rattle.std.specs.Prelude.{◌&&◌, not, if◌then◌else◌, cond, filter}
 use Rattle.std.proofs.lemmas.Option.{same_Some}
 use Rattle.pg_list.specs.declared.galley.Place.{Place}
 use Rattle.pg_column.specs.declared.cost.TextCost.{TextCost}
 use Rattle.pg_rules.specs.Room.{Document}
-use Rattle.std.proofs.lemmas.List.{map-append}
 use Rattle.pg_ends.specs.declared.end.End.{End}
 use Rattle.pg_walk_laws.specs.Best.{AreBest, insert_end}
 use Rattle.pg_walk_laws.specs.Candidates.{Candidate, end_in, keeps_in, kept_ends}
 use Rattle.pg_walk_laws.proofs.BestLaws.{best_push}
-use Rattle.pg_candidates.specs.View.{candidate_of}
-use Rattle.pg_candidates.specs.declared.candidate.Candidate.{Candidate as Parts}
 
-kept_last : (doc : Document) (room : ℤ) (cs : List Candidate) (c : Candidate) →
+pub kept_last : (doc : Document) (room : ℤ) (cs : List Candidate) (c : Candidate) →
     kept_ends doc room (cs ++ c ∷ [])
     ≡ kept_ends doc room cs ++ (if keeps_in doc room c then end_in doc room c ∷ [] else [])
 kept_last doc room [] c = by (keeps_in doc room c)
@@ -85,21 +82,3 @@ pub end_same : (to : Place) (ms ns : List ℕ) (a b : TextCost) (y z : ℤ) → 
     ◌≡◌ {A = End} (record { to = to; picks = ms; cost = a; pick_demerits = y })
     (record { to = to; picks = ns; cost = b; pick_demerits = z })
 end_same to ms ns a b y z o p q = rw (o, p, q) refl
-
--- ---- one turn of the loop
-
-pub keep_taken : (doc : Document) (room : ℤ) (items : List Parts) (i : ℕ) (x : Parts) (bs new : List End) →
-    take (i + 1) items ≡ take i items ++ x ∷ [] →
-    AreBest (kept_ends doc room (map candidate_of (take i items))) bs →
-    new ≡ (if keeps_in doc room (candidate_of x) then insert_end (end_in doc room (candidate_of x)) bs else bs) →
-    AreBest (kept_ends doc room (map candidate_of (take (i + 1) items))) new
-keep_taken doc room items i x bs new e r n =
-    let m : map candidate_of (take (i + 1) items) ≡ map candidate_of (take i items) ++ candidate_of x ∷ [] =
-    ap (map candidate_of) e ∙ map-append candidate_of (take i items) (x ∷ []) in
-    subst (λ (cs : List Candidate). AreBest (kept_ends doc room cs) new) (sym m)
-    (subst (AreBest (kept_ends doc room (map candidate_of (take i items) ++ candidate_of x ∷ []))) (sym n)
-    (keep_more doc room (map candidate_of (take i items)) (candidate_of x) bs r))
-
-pub kept_ok : {T E : Type 0} (r : Result T E) (new x y : List End) → OnOk r (new ≡ x) → x ≡ y → OnOk r (new ≡ y)
-kept_ok (Ok u) new x y h e = h ∙ e
-kept_ok (Err f) new x y h e = tt

@@ -1,3 +1,5 @@
 pub mod Stretched
 pub mod Putting
 pub mod Kept
+pub mod Short
+pub mod Nears

@@ -1,5 +1,5 @@
 //! The best of the ends, for each place and fitness.
-ghost use Rattle.std.specs.Prelude.{◌≡◌, ◌≤◌, ◌+ℤ◌, OnOk, length, slice_get, true, false};
+ghost use Rattle.std.specs.Prelude.{◌≡◌, ◌≤◌, ◌+ℤ◌, ◌++◌, ◌∷◌, [], OnOk, length, slice_get, true, false};
 ghost use Rattle.std.specs.List.Sorted.{IsPartitionPoint, IsPartitionedBy};
 ghost use Rattle.pg_ends.specs.declared.end.End.{End as AnEnd};
 ghost use Rattle.pg_walk_laws.specs.Best.{Ascend, end_cmp, end_cost, insert_end, is_better as is_better_of};
@@ -84,10 +84,19 @@ fn spot_at(ends: &[End], at: usize, end: &End) -> Spot
     }
 }
 
-/// Adds an end to those that are in order, one for each place and fitness; the better one stays.
-pub fn keep_best(ends: &mut EndList, end: End) -> Result<(), AllocError>
-    requires { Ascend ends.old }
-    ensures { OnOk result (ends.new ≡ insert_end end ends.old) }
+// Whether an end belongs behind all others that are in order: there are none, or the last stands before it.
+fn is_behind(ends: &[End], end: &End) -> bool
+    ensures { result ≡ true → Ascend ends.now → ends.now ++ end.now ∷ [] ≡ insert_end end.now ends.now }
+{
+    match ends.last() {
+        None => true,
+        Some(last) => is_before(last, end),
+    }
+}
+
+// Puts an end in among others that are in order, where it belongs, or nowhere where it is no better.
+fn put_in(ends: &mut EndList, end: End) -> Result<(), AllocError>
+    ensures { OnOk result (Ascend ends.old → ends.new ≡ insert_end end ends.old) }
 {
     let at = count_before(ends.as_slice(), &end);
     match spot_at(ends.as_slice(), at, &end) {
@@ -96,4 +105,15 @@ pub fn keep_best(ends: &mut EndList, end: End) -> Result<(), AllocError>
         Spot::Nowhere => {}
     }
     Ok(())
+}
+
+/// Adds an end to those that are in order, one for each place and fitness; the better one stays. Where it comes behind
+/// all others, nothing is searched.
+pub fn keep_best(ends: &mut EndList, end: End) -> Result<(), AllocError>
+    ensures { OnOk result (Ascend ends.old → ends.new ≡ insert_end end ends.old) }
+{
+    if is_behind(ends.as_slice(), &end) {
+        return ends.push(end);
+    }
+    put_in(ends, end)
 }

@@ -155,7 +155,7 @@ item_range blocks all at item e = by (items_around blocks at) at.index (around_r
 
 -- ---- no more items than the galley has
 
-from_few : (n : ℕ) (blocks : List Block) (picks : List ℕ) → length (flat_items_from n blocks picks) ≤ item_count blocks
+pub from_few : (n : ℕ) (blocks : List Block) (picks : List ℕ) → length (flat_items_from n blocks picks) ≤ item_count blocks
 from_few n [] picks = omega arith
 from_few n (One item ∷ blocks) picks =
     let k = from_few (n + 1) blocks picks in
@@ -207,7 +207,7 @@ split_few (block ∷ blocks) (suc b) v =
     let d = ap (λ (k : ℕ). item_count (drop k (block ∷ blocks))) q in
     omega (arith, c, r, d)
 
-drop_few : (n : ℕ) (blocks : List Block) → item_count (drop n blocks) ≤ item_count blocks
+pub drop_few : (n : ℕ) (blocks : List Block) → item_count (drop n blocks) ≤ item_count blocks
 drop_few zero blocks = omega arith
 drop_few (suc n) [] = omega arith
 drop_few (suc n) (block ∷ blocks) = let c = item_count_cons block blocks in let r = drop_few n blocks in omega

@@ -10,7 +10,7 @@ ghost use Rattle.pg_sums.specs.AreSums.{AreSums};
 ghost use Rattle.pg_rules.specs.ColumnRules.{fitness_by};
 ghost use Rattle.pg_rules.specs.Cost.{penalty_demerits as demerits_of_penalty};
 ghost use Rattle.pg_rules.specs.Room.{ColumnContext, items_of, room as room_of};
-ghost use Rattle.pg_column.specs.Numbers.{AreNumbers, cost_by, cost_for, goal_by, is_over_by};
+ghost use Rattle.pg_column.specs.Numbers.{AreNumbers, cost_by, cost_for as cost_for_goal, goal_by, is_over_by};
 
 use pg_notes::NoteSums;
 use pg_style::Style;
@@ -96,7 +96,9 @@ fn demerits(line: u16, badness: u16, penalty: i32) -> i64
     plus(line_demerits(line, badness), penalty_demerits(penalty))
 }
 
-// What the notes leave of a room.
+/// What the notes leave of a room of so many scaled points.
+///
+/// Condition: the room is below 2^40 in size. Takes no memory.
 pub fn goal_in(style: &Style, room: i64, notes: &NoteSums) -> i64
     requires { nat_abs room < 2 ^ 40 }
     ensures value { result ≡ goal_by style.now room notes.now.sums }
@@ -105,11 +107,14 @@ pub fn goal_in(style: &Style, room: i64, notes: &NoteSums) -> i64
     minus(room, notes.height(style))
 }
 
-// The numbers for a goal.
-fn cost_at(style: &Style, goal: i64, sums: &Sums, is_spent: bool, penalty: i32) -> TextCost
+/// The numbers of a column of text from the sums of its items, and its goal: what its notes leave of its room. `is_spent`
+/// and `penalty` are as for `text_cost`.
+///
+/// Conditions: the goal is below 2^52 in size, and the text is not over in it. Takes no memory.
+pub fn cost_for(style: &Style, goal: i64, sums: &Sums, is_spent: bool, penalty: i32) -> TextCost
     requires size { nat_abs goal < 2 ^ 52 }
     requires fits { is_over sums.now.totals.total sums.now.totals.shrink goal ≡ false }
-    ensures { result ≡ cost_for style.now goal sums.now.totals is_spent penalty }
+    ensures { result ≡ cost_for_goal style.now goal sums.now.totals is_spent penalty }
 {
     let total = sums.total();
     let badness = sums.page_badness(goal, is_spent);
@@ -152,5 +157,5 @@ pub fn text_cost(
         break_penalty (items_of it) n ≡ Some penalty → AreNumbers it n result }
 {
     let _ranges = version_of(style);
-    cost_at(style, goal_in(style, room, notes), sums, is_spent, penalty)
+    cost_for(style, goal_in(style, room, notes), sums, is_spent, penalty)
 }

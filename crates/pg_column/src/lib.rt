@@ -17,7 +17,7 @@ mod rule;
 mod span;
 mod walked;
 
-pub use cost::{TextCost, text_cost};
+pub use cost::{TextCost, cost_for, goal_in, text_cost};
 pub use items::{
     blocks_of, is_end, is_same_place, item_place, next_index_of, picks_behind, settled,
 };

@@ -46,3 +46,7 @@ front_of_pieces old mid new pieces i none less before front =
     sym (line_append (take (i + 1) pieces) (drop (i + 1) pieces)) ∙ ap line_text (take-append-drop (i + 1) pieces) in
     subst (AppendsFront old new) whole
     (front_of_more old new (line_text (take (i + 1) pieces)) behind so_far)
+
+-- three texts in front of another
+pub three_parts : (a b c rest : List ℕ) → a ++ b ++ c ++ rest ≡ a ++ (b ++ (c ++ rest))
+three_parts a b c rest = append_assoc (a ++ b) c rest ∙ append_assoc a b (c ++ rest)

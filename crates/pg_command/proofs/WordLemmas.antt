@@ -3,12 +3,12 @@ use Rattle.std.proofs.Common.{◌≡◌, ◌≤◌, ◌<◌, ◌-◌, ℕ, arith
 use Rattle.std.proofs.Common.{false, Bool}
 use Rattle.std.specs.Prelude.{Some, None, map, IfSome, if◌then◌else◌, nat_le, ◌&&◌, ◌==◌}
 use Rattle.std.proofs.lemmas.Bool.Decides.{nat_tests}
-use Rattle.std.proofs.lemmas.List.{take_rest}
+use Rattle.std.proofs.lemmas.List.{length-map, take_rest}
 use Rattle.std.specs.Str.Parse.{digits_value}
 use Rattle.pg_scaled.specs.Digits.{digit_count}
 use Rattle.pg_scan.specs.Parts.{is_word_length, word_number}
 use Rattle.pg_command.specs.declared.words.Options.{Options}
-use Rattle.pg_command.specs.Words.{is_option, with_option, options_in, paragraphs_of}
+use Rattle.pg_command.specs.Words.{has_value, is_labels, with_labels, with_option, options_in, paragraphs_of}
 
 -- the first two words, and those behind them
 pub two_words : {X : Type 0} (f : X → List ℕ) (xs : List X) (x y : X) → 2 ≤ length xs → x ≡ get_or xs 0 x
@@ -26,21 +26,50 @@ few_words f options [] few = refl
 few_words f options (a ∷ []) few = refl
 few_words f options (a ∷ b ∷ cs) few = absurd (omega arith)
 
-pub no_option : (options : Options) (word value : List ℕ) (words : List (List ℕ)) → is_option word ≡ false
+-- the first word, and those behind it
+pub one_word : {X : Type 0} (f : X → List ℕ) (xs : List X) (x : X) → 1 ≤ length xs → x ≡ get_or xs 0 x
+    → map f xs ≡ f x ∷ map f (take (length xs - 1) (drop 1 xs))
+one_word f [] x one first = absurd (omega arith)
+one_word f (a ∷ bs) x one first = rw (take_rest (a ∷ bs) 1, first) refl
+
+-- behind the first of two words a word is left
+pub some_left : {X : Type 0} (f : X → List ℕ) (xs : List X) → 2 ≤ length xs
+    → 1 ≤ length (map f (take (length xs - 1) (drop 1 xs)))
+some_left f [] two = absurd (omega arith)
+some_left f (a ∷ bs) two = rw (take_rest (a ∷ bs) 1, length-map bs f) (omega (arith, two))
+
+pub no_option : (options : Options) (word value : List ℕ) (words : List (List ℕ)) → is_labels word ≡ false
+    → has_value word ≡ false
     → options_in options (word ∷ value ∷ words) ≡ Some (options, word ∷ value ∷ words)
 unfolding options_in
-no_option options word value words test = rw test refl
+no_option options word value words none test = rw (none, test) refl
 
 pub an_option : (options : Options) (word value : List ℕ) (words : List (List ℕ)) (more : Options)
-    → is_option word ≡ true
+    → is_labels word ≡ false → has_value word ≡ true
     → with_option options word value ≡ Some more → options_in options (word ∷ value ∷ words) ≡ options_in more words
 unfolding options_in
-an_option options word value words more test with = rw (test, with) refl
+an_option options word value words more none test with = rw (none, test, with) refl
 
-pub bad_option : (options : Options) (word value : List ℕ) (words : List (List ℕ)) → is_option word ≡ true
+pub bad_option : (options : Options) (word value : List ℕ) (words : List (List ℕ)) → is_labels word ≡ false
+    → has_value word ≡ true
     → with_option options word value ≡ None → options_in options (word ∷ value ∷ words) ≡ None
 unfolding options_in
-bad_option options word value words test with = rw (test, with) refl
+bad_option options word value words none test with = rw (none, test, with) refl
+
+-- the option for labels stands in front of more words
+pub labels_more : (options : Options) (word : List ℕ) (words : List (List ℕ)) (more : Options) → 1 ≤ length words
+    → is_labels word ≡ true → with_labels options ≡ Some more
+    → options_in options (word ∷ words) ≡ options_in more words
+unfolding options_in
+labels_more options word [] more some test with = absurd (omega (arith, some))
+labels_more options word (value ∷ words) more some test with = rw (test, with) refl
+
+-- it stands there a second time
+pub labels_twice : (options : Options) (word : List ℕ) (words : List (List ℕ)) → 1 ≤ length words
+    → is_labels word ≡ true → with_labels options ≡ None → options_in options (word ∷ words) ≡ None
+unfolding options_in
+labels_twice options word [] some test with = absurd (omega (arith, some))
+labels_twice options word (value ∷ words) some test with = rw (test, with) refl
 
 -- a number that is taken is in range
 pub few_paragraphs : (word : List ℕ) → IfSome (paragraphs_of word) (λ (count : ℕ). count ≤ 2000)

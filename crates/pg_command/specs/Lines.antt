@@ -1,15 +1,19 @@
 -- How a run ends: its status, and its line for the user.
-use Rattle.std.specs.Prelude.{ℕ, List, [], ◌∷◌, ◌++◌, codes, decimal, Option, ⊤, ◌⊎◌}
+use Rattle.std.specs.Prelude.{ℕ, List, [], ◌∷◌, ◌++◌, codes, decimal, Option, ⊤, ◌⊎◌, ℤ}
 use Rattle.std.specs.Io.KnownBytes.{Appends}
 use Rattle.pg_outside.specs.Outside.{Rose, AppendsFront}
 use Rattle.pg_showbox.specs.declared.kinds.ListFault.{ListFault}
 use Rattle.pg_showbox.specs.Kinds.{kind_number}
 use Rattle.pg_stylefile.specs.declared.fault.StyleFault.{StyleFault}
 use Rattle.pg_stylefile.specs.Faults as style_faults
+use Rattle.pg_list.specs.declared.galley.Place.{Place}
+use Rattle.pg_words.specs.Written.{place_text, whole_text}
+use Rattle.pg_check_laws.specs.declared.answers.No.{No}
+use Rattle.pg_check_laws.specs.declared.answers.No.TheVariants as fails
 use Rattle.pg_command.specs.declared.ending.Ending.{Ending}
 use Rattle.pg_command.specs.declared.ending.Ending.TheVariants as ending
 use Rattle.pg_command.specs.declared.line.Piece.{Piece}
-use Rattle.pg_command.specs.declared.line.Piece.TheVariants.{Text, Bytes, Number}
+use Rattle.pg_command.specs.declared.line.Piece.TheVariants.{Text, Bytes, Number, Long, Whole}
 use Rattle.pg_command.specs.declared.status.Status.{Status}
 use Rattle.pg_command.specs.declared.status.Status.TheVariants as status
 
@@ -23,9 +27,11 @@ status_of (ending.BadList name fault) = status.Refused
 status_of (ending.BadStyle name fault) = status.Refused
 status_of (ending.UnknownClass class) = status.Refused
 status_of (ending.TooManyFloats count) = status.Refused
+status_of (ending.BadOutput name line) = status.Refused
 status_of (ending.Unread name) = status.ReadFault
 status_of ending.WriteFault = status.WriteFault
 status_of ending.Memory = status.Memory
+status_of (ending.NotProved fault) = status.NotProved
 
 -- the numbers of the ends, in their order
 abbrev pub exit_number : Status → ℕ
@@ -75,6 +81,11 @@ class_line class = codes "pg: class " ++ (decimal class ++ codes " is not in the
 unfoldable pub many_line : ℕ → List ℕ
 many_line count = codes "pg: " ++ (decimal count ++ codes " floats are too many\n")
 
+-- the lines of an output text's file up to this one begin none, or it ends in front of it
+unfoldable pub no_output_line : List ℕ → ℕ → List ℕ
+no_output_line name line =
+    codes "pg: " ++ (name ++ (codes ": line " ++ (decimal line ++ codes ": not an output text\n")))
+
 -- a file could not be read
 unfoldable pub unread_line : List ℕ → List ℕ
 unread_line name = file_line name (codes ": cannot be read")
@@ -87,6 +98,42 @@ output_line = codes "pg: output failed" ++ 10 ∷ []
 unfoldable pub memory_line : List ℕ
 memory_line = codes "pg: out of memory" ++ 10 ∷ []
 
+-- a rule that is broken, and the first column that breaks it
+unfoldable pub broken_line : ℕ → ℕ → List ℕ
+broken_line rule column =
+    codes "pg: not proved 1: rule " ++ (decimal rule ++ (codes " column " ++ (decimal column ++ 10 ∷ [])))
+
+-- the printed cost and the judged one
+unfoldable pub costs_line : ℤ → ℤ → List ℕ
+costs_line printed judged =
+    codes "pg: not proved 2: printed " ++ (whole_text printed ++ (codes " judged " ++ (whole_text judged ++ 10 ∷ [])))
+
+-- a label, and the cost at which it is finished
+unfoldable pub undercut_line : ℕ → ℤ → List ℕ
+undercut_line label cost =
+    codes "pg: not proved 7: label " ++ (decimal label ++ (codes " cost " ++ (whole_text cost ++ 10 ∷ [])))
+
+-- a text and a number
+abbrev pub with_number : List ℕ → ℕ → List ℕ
+with_number before number = before ++ (decimal number ++ 10 ∷ [])
+
+-- a label, and a place that a column behind it leads to
+unfoldable pub open_line : ℕ → Place → List ℕ
+open_line label to =
+    codes "pg: not proved 6: label " ++ (decimal label ++ (codes " to " ++ (place_text to ++ 10 ∷ [])))
+
+-- the number of the test that fails, and what it names
+abbrev pub no_line : No → List ℕ
+no_line (fails.Broken rule column) = broken_line rule column
+no_line (fails.CostDiffers printed judged) = costs_line printed judged
+no_line (fails.PagesDiffer line) = with_number (codes "pg: not proved 3: page text line ") line
+no_line (fails.BadLabel label) = with_number (codes "pg: not proved 4: label ") label
+no_line fails.NoStart = codes "pg: not proved 5: no start\n"
+no_line (fails.NotClosed label to) = open_line label to
+no_line (fails.Undercut label cost) = undercut_line label cost
+no_line (fails.FinalInNone label) = with_number (codes "pg: not proved 8: label ") label
+no_line fails.Memory = memory_line
+
 -- the line of an ending, or nothing
 abbrev pub line_of : Ending → List ℕ
 line_of ending.Done = []
@@ -97,9 +144,11 @@ line_of (ending.BadList name fault) = list_line name.now fault
 line_of (ending.BadStyle name fault) = style_line name.now fault
 line_of (ending.UnknownClass class) = class_line class
 line_of (ending.TooManyFloats count) = many_line count
+line_of (ending.BadOutput name line) = no_output_line name.now line
 line_of (ending.Unread name) = unread_line name.now
 line_of ending.WriteFault = output_line
 line_of ending.Memory = memory_line
+line_of (ending.NotProved fault) = no_line fault
 
 -- the line was written, or a front of it and a count rose
 abbrev pub Says : Option (List ℕ) → Option (List ℕ) → ℕ → ℕ → List ℕ → Type 0
@@ -116,6 +165,8 @@ abbrev pub piece_text : Piece → List ℕ
 piece_text (Text text) = text.now
 piece_text (Bytes bytes) = bytes.now
 piece_text (Number number) = decimal number
+piece_text (Long number) = decimal number
+piece_text (Whole number) = whole_text number.now
 
 -- the bytes of all pieces, in turn
 abbrev pub line_text : List Piece → List ℕ

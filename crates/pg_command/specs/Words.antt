@@ -1,6 +1,7 @@
 -- The words of a command.
-use Rattle.std.specs.Prelude.{ℕ, ◌^◌, ◌≤◌, List, [], ◌∷◌, length, ◌&&◌, ◌==◌, ◌||◌, Bool, false, not, nat_lt, is_some}
-use Rattle.std.specs.Prelude.{if◌then◌else◌, Option, Some, None, codes, ℤ, pos, negsuc, ◌≤ℤ◌, ◌<ℤ◌, String, Vec, map}
+use Rattle.std.specs.Prelude.{ℕ, ◌^◌, ◌≤◌, List, [], ◌∷◌, length, ◌&&◌, ◌==◌, ◌||◌, Bool, true, false, not, nat_lt}
+use Rattle.std.specs.Prelude.{if◌then◌else◌, Option, Some, None, is_some, codes, ℤ, pos, negsuc, ◌≤ℤ◌, ◌<ℤ◌, String}
+use Rattle.std.specs.Prelude.{Vec, map}
 use Rattle.std.specs.String.{string_bytes}
 use Rattle.std.specs.Option.{option_map, option_and_then}
 use Rattle.std.specs.Str.{bytes_eq}
@@ -12,7 +13,7 @@ use Rattle.pg_scan.specs.Parts.{word_number}
 use Rattle.pg_command.specs.declared.words.StyleWord.{StyleWord}
 use Rattle.pg_command.specs.declared.words.StyleWord.TheVariants.{Named, Plain}
 use Rattle.pg_command.specs.declared.words.Job.{Job}
-use Rattle.pg_command.specs.declared.words.Job.TheVariants.{Run, Show, Make}
+use Rattle.pg_command.specs.declared.words.Job.TheVariants.{Run, Show, Make, Check}
 use Rattle.pg_command.specs.declared.words.Options.{Options}
 
 -- which style a run takes: that of the file of this name, or the plain one of this page height
@@ -20,12 +21,14 @@ pub data StyleName : Type 0 where
   named : List ℕ → StyleName
   plain : ℤ → StyleName
 
--- a command: to paginate the galley of this name, or to print it, with the width at which lines are joined; or to make
--- a galley of so many paragraphs
+-- a command: to paginate the galley of this name, with the labels of the search or without, or to print it, with the
+-- width at which lines are joined; to make a galley of so many paragraphs; or to check against a style and a galley, of
+-- these names, the output text of a name
 pub data Command : Type 0 where
-  run : StyleName → List ℕ → Option ℕ → Command
+  run : StyleName → List ℕ → Bool → Option ℕ → Command
   show : List ℕ → Option ℕ → Command
   make : ℕ → Command
+  check : List ℕ → List ℕ → List ℕ → Option ℕ → Command
 
 -- what a word for a style says, without where it lies in memory
 abbrev pub style_name : StyleWord → StyleName
@@ -34,9 +37,10 @@ style_name (Plain height) = plain height
 
 -- what a job says, without where it lies in memory
 abbrev pub command_in : Job → Command
-command_in (Run style galley wrap) = run (style_name style) galley.now wrap
+command_in (Run style galley labels wrap) = run (style_name style) galley.now labels wrap
 command_in (Show galley wrap) = show galley.now wrap
 command_in (Make count) = make count
+command_in (Check style galley output wrap) = check style.now galley.now output.now wrap
 
 -- a page height is above 0 and below 2^30
 abbrev pub IsHeight : ℤ → Type 0
@@ -49,9 +53,10 @@ IsStyle (Plain height) = IsHeight height
 
 -- a job whose height, if it has one, is one of a page, and whose paragraphs are at most 2000
 abbrev pub IsInRange : Job → Type 0
-IsInRange (Run style galley wrap) = IsStyle style
+IsInRange (Run style galley labels wrap) = IsStyle style
 IsInRange (Show galley wrap) = Unit {0}
 IsInRange (Make count) = count ≤ 2000
+IsInRange (Check style galley output wrap) = Unit {0}
 
 -- ---- the words of options and names
 
@@ -86,11 +91,19 @@ is_name (c ∷ cs) = not (c == 45)
 
 -- no option stands there
 abbrev pub no_options : Options
-no_options = record { height = None; wrap = None }
+no_options = record { height = None; labels = false; wrap = None }
 
--- the name of an option
-abbrev pub is_option : List ℕ → Bool
-is_option word = bytes_eq word (codes "--height") || bytes_eq word (codes "--wrap")
+-- the option for labels, which has no value
+abbrev pub is_labels : List ℕ → Bool
+is_labels word = bytes_eq word (codes "--labels")
+
+-- the name of an option that has a value
+abbrev pub has_value : List ℕ → Bool
+has_value word = bytes_eq word (codes "--height") || bytes_eq word (codes "--wrap")
+
+-- the option for labels too: none where it stands a second time
+abbrev pub with_labels : Options → Option Options
+with_labels options = if options.labels then None else Some (record options { labels = true })
 
 -- one more option with its value: none where it stands a second time, or its value is no such value
 abbrev pub with_option : Options → List ℕ → List ℕ → Option Options
@@ -101,44 +114,58 @@ with_option options word value =
     else (if is_some options.wrap then None
     else option_map (λ (wrap : ℕ). record options { wrap = Some wrap }) (wrap_of value))
 
--- the options in front, each with its value as the next word, and the names behind them
+-- the options in front, each that has a value with it as the next word, and the names behind them; the last word is a
+-- name
 unfoldable pub options_in : Options → List (List ℕ) → Option (Options × List (List ℕ))
 options_in options [] = Some (options, [])
 options_in options (word ∷ []) = Some (options, word ∷ [])
 options_in options (word ∷ value ∷ words) =
-    if is_option word
+    if is_labels word
+    then option_and_then (λ (more : Options). options_in more (value ∷ words)) (with_labels options)
+    else (if has_value word
     then option_and_then (λ (more : Options). options_in more words) (with_option options word value)
-    else Some (options, word ∷ value ∷ words)
+    else Some (options, word ∷ value ∷ words))
 
 -- `run --height H GALLEY`, or `run STYLE GALLEY`
 abbrev pub run_named : Options → List (List ℕ) → Option Command
 run_named options (galley ∷ []) =
-    if is_name galley then option_map (λ (height : ℤ). run (plain height) galley options.wrap) options.height
+    if is_name galley
+    then option_map (λ (height : ℤ). run (plain height) galley options.labels options.wrap) options.height
     else None
 run_named options (style ∷ galley ∷ []) =
     if is_name style && (is_name galley && not (is_some options.height))
-    then Some (run (named style) galley options.wrap)
+    then Some (run (named style) galley options.labels options.wrap)
     else None
 run_named options names = None
 
--- `show GALLEY`, which takes no height
+-- `show GALLEY`, which takes no height and no labels
 abbrev pub show_named : Options → List (List ℕ) → Option Command
 show_named options (galley ∷ []) =
-    if not (is_name galley) || is_some options.height then None else Some (show galley options.wrap)
+    if not (is_name galley) || is_some options.height || options.labels then None else Some (show galley options.wrap)
 show_named options names = None
 
 -- `make N`, which takes no option
 abbrev pub make_named : Options → List (List ℕ) → Option Command
 make_named options (word ∷ []) =
-    if is_some options.height || is_some options.wrap then None else option_map make (paragraphs_of word)
+    if is_some options.height || options.labels || is_some options.wrap then None
+    else option_map make (paragraphs_of word)
 make_named options names = None
+
+-- `check STYLE GALLEY OUTPUT`, which takes no height and no labels
+abbrev pub check_named : Options → List (List ℕ) → Option Command
+check_named options (style ∷ galley ∷ output ∷ []) =
+    if is_name style && (is_name galley && (is_name output && not (is_some options.height || options.labels)))
+    then Some (check style galley output options.wrap)
+    else None
+check_named options names = None
 
 -- the command of the first word, with the options and names behind it
 abbrev pub job_of : List ℕ → (Options × List (List ℕ)) → Option Command
 job_of word (options, names) =
     if bytes_eq word (codes "run") then run_named options names
     else (if bytes_eq word (codes "show") then show_named options names
-    else (if bytes_eq word (codes "make") then make_named options names else None))
+    else (if bytes_eq word (codes "make") then make_named options names
+    else (if bytes_eq word (codes "check") then check_named options names else None)))
 
 -- the command of these words: a command's name, options, names
 abbrev pub command_of : List (List ℕ) → Option Command

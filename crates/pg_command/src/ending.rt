@@ -3,6 +3,7 @@ ghost use Rattle.std.specs.Prelude.{◌≡◌};
 ghost use Rattle.pg_command.specs.Lines.{status_of};
 
 use crate::status::Status;
+use pg_check_laws::No;
 use pg_showbox::ListFault;
 use pg_stylefile::StyleFault;
 
@@ -25,12 +26,16 @@ pub enum Ending<'a> {
     UnknownClass(u8),
     /// The galley has so many floats, which are more than are allowed.
     TooManyFloats(u32),
+    /// The lines of the file up to this one begin no output text, or it ends in front of it.
+    BadOutput(&'a str, u32),
     /// The file cannot be read.
     Unread(&'a str),
     /// The output failed.
     WriteFault,
     /// Memory ran out.
     Memory,
+    /// An output text fails a test of its check.
+    NotProved(No),
 }
 
 impl<'a> Ending<'a> {
@@ -46,10 +51,12 @@ impl<'a> Ending<'a> {
             | Ending::BadList(..)
             | Ending::BadStyle(..)
             | Ending::UnknownClass(_)
-            | Ending::TooManyFloats(_) => Status::Refused,
+            | Ending::TooManyFloats(_)
+            | Ending::BadOutput(..) => Status::Refused,
             Ending::Unread(_) => Status::ReadFault,
             Ending::WriteFault => Status::WriteFault,
             Ending::Memory => Status::Memory,
+            Ending::NotProved(_) => Status::NotProved,
         }
     }
 }

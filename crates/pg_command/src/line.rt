@@ -13,6 +13,9 @@ pub enum Piece<'a> {
     Text(&'a str),
     Bytes(&'a [u8]),
     Number(u32),
+    Long(u64),
+    /// With a minus in front of a negative one.
+    Whole(&'a i128),
 }
 
 // Writes a piece, without memory.
@@ -28,6 +31,14 @@ fn write_piece<E: Sink>(say: &mut E, piece: &Piece<'_>) -> Result<(), WriteFaile
         Piece::Number(number) => {
             let mut buffer = Buffer::new();
             say.write(buffer.format(*number).as_bytes())
+        }
+        Piece::Long(number) => {
+            let mut buffer = Buffer::new();
+            say.write(buffer.format(*number).as_bytes())
+        }
+        Piece::Whole(number) => {
+            let mut buffer = Buffer::new();
+            say.write(buffer.format(**number).as_bytes())
         }
     }
 }

@@ -1,10 +1,13 @@
 //! The line for the user.
 ghost use Rattle.std.specs.Prelude.{◌≡◌, ◌≤◌, ◌++◌};
 ghost use Rattle.pg_command.specs.Lines.{OnQuiet, Says, class_line, key_text, line_of, list_line, many_line, status_of};
-ghost use Rattle.pg_command.specs.Lines.{style_line};
+ghost use Rattle.pg_command.specs.Lines.{style_line, no_output_line, broken_line, costs_line, undercut_line};
+ghost use Rattle.pg_command.specs.Lines.{no_line, open_line, with_number};
 
 use crate::ending::Ending;
 use crate::line::{Piece, say_pieces};
+use pg_check_laws::No;
+use pg_list::Place;
 use pg_outside::Sink;
 use pg_showbox::ListFault;
 use pg_stylefile::StyleFault;
@@ -109,6 +112,131 @@ fn say_count<E: Sink>(say: &mut E, count: u32)
     );
 }
 
+// The line for a text that is no output text.
+fn say_no_output<'a, E: Sink>(say: &mut E, name: &'a str, line: u32)
+    ensures line { Says (E.written say.old) (E.written say.new) (E.faults say.old) (E.faults say.new)
+        (no_output_line name.now line) }
+    ensures later { E.faults say.old ≤ E.faults say.new }
+{
+    say_pieces(
+        say,
+        &[
+            Piece::Text("pg: "),
+            Piece::Text(name),
+            Piece::Text(": line "),
+            Piece::Number(line),
+            Piece::Text(": not an output text\n"),
+        ],
+    );
+}
+
+// A line with a number at its end.
+fn say_number<'a, E: Sink>(say: &mut E, before: &'a str, number: u64)
+    ensures line { Says (E.written say.old) (E.written say.new) (E.faults say.old) (E.faults say.new)
+        (with_number before.now number) }
+    ensures later { E.faults say.old ≤ E.faults say.new }
+{
+    say_pieces(
+        say,
+        &[Piece::Text(before), Piece::Long(number), Piece::Text("\n")],
+    );
+}
+
+// The line for a pagination that breaks this rule at this column.
+fn say_broken<E: Sink>(say: &mut E, rule: u8, column: u32)
+    ensures line { Says (E.written say.old) (E.written say.new) (E.faults say.old) (E.faults say.new)
+        (broken_line rule column) }
+    ensures later { E.faults say.old ≤ E.faults say.new }
+{
+    say_pieces(
+        say,
+        &[
+            Piece::Text("pg: not proved 1: rule "),
+            Piece::Number(u32::from(rule)),
+            Piece::Text(" column "),
+            Piece::Number(column),
+            Piece::Text("\n"),
+        ],
+    );
+}
+
+// The line for a pagination that has another cost.
+fn say_costs<'a, E: Sink>(say: &mut E, printed: &'a i128, judged: &'a i128)
+    ensures line { Says (E.written say.old) (E.written say.new) (E.faults say.old) (E.faults say.new)
+        (costs_line printed.now judged.now) }
+    ensures later { E.faults say.old ≤ E.faults say.new }
+{
+    say_pieces(
+        say,
+        &[
+            Piece::Text("pg: not proved 2: printed "),
+            Piece::Whole(printed),
+            Piece::Text(" judged "),
+            Piece::Whole(judged),
+            Piece::Text("\n"),
+        ],
+    );
+}
+
+// The line for a label that is finished at a lower cost, in demerits.
+fn say_undercut<E: Sink>(say: &mut E, label: u32, cost: &i128)
+    ensures line { Says (E.written say.old) (E.written say.new) (E.faults say.old) (E.faults say.new)
+        (undercut_line label cost.now) }
+    ensures later { E.faults say.old ≤ E.faults say.new }
+{
+    say_pieces(
+        say,
+        &[
+            Piece::Text("pg: not proved 7: label "),
+            Piece::Number(label),
+            Piece::Text(" cost "),
+            Piece::Whole(cost),
+            Piece::Text("\n"),
+        ],
+    );
+}
+
+// The line for a label behind which a column leads to this place, which no label covers.
+fn say_open<E: Sink>(say: &mut E, label: u32, to: Place)
+    ensures line { Says (E.written say.old) (E.written say.new) (E.faults say.old) (E.faults say.new)
+        (open_line label to) }
+    ensures later { E.faults say.old ≤ E.faults say.new }
+{
+    say_pieces(
+        say,
+        &[
+            Piece::Text("pg: not proved 6: label "),
+            Piece::Number(label),
+            Piece::Text(" to "),
+            Piece::Number(to.block),
+            Piece::Text(" "),
+            Piece::Number(to.variant),
+            Piece::Text(" "),
+            Piece::Number(to.index),
+            Piece::Text("\n"),
+        ],
+    );
+}
+
+// The line for the test of a check that fails.
+fn say_no<E: Sink>(say: &mut E, fault: &No)
+    ensures line { Says (E.written say.old) (E.written say.new) (E.faults say.old) (E.faults say.new)
+        (no_line fault.now) }
+    ensures later { E.faults say.old ≤ E.faults say.new }
+{
+    match fault {
+        No::Broken { rule, column } => say_broken(say, *rule, *column),
+        No::CostDiffers { printed, judged } => say_costs(say, printed, judged),
+        No::PagesDiffer { line } => say_number(say, "pg: not proved 3: page text line ", *line),
+        No::BadLabel { label } => say_number(say, "pg: not proved 4: label ", u64::from(*label)),
+        No::NoStart => say_text(say, "pg: not proved 5: no start\n"),
+        No::NotClosed { label, to } => say_open(say, *label, *to),
+        No::Undercut { label, cost } => say_undercut(say, *label, cost),
+        No::FinalInNone { label } => say_number(say, "pg: not proved 8: label ", u64::from(*label)),
+        No::Memory => say_text(say, "pg: out of memory\n"),
+    }
+}
+
 /// Writes the line of how a run ended, in pieces and without memory. A fault ends the writing.
 ///
 /// Where there is no line, nothing is written and the sink is as it was.
@@ -126,8 +254,10 @@ pub fn say_line<E: Sink>(ending: &Ending<'_>, say: &mut E)
         Ending::BadStyle(name, fault) => say_style_fault(say, name, fault),
         Ending::UnknownClass(class) => say_class(say, *class),
         Ending::TooManyFloats(count) => say_count(say, *count),
+        Ending::BadOutput(name, line) => say_no_output(say, name, *line),
         Ending::Unread(name) => say_file(say, "pg: ", name, ": cannot be read\n"),
         Ending::WriteFault => say_text(say, "pg: output failed\n"),
+        Ending::NotProved(fault) => say_no(say, fault),
         Ending::Memory => say_text(say, "pg: out of memory\n"),
     }
 }

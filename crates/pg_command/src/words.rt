@@ -3,8 +3,9 @@ ghost use Rattle.std.specs.Prelude.{◌≡◌, ◌≤◌, IfSome, IsTrue, map, �
 ghost use Rattle.std.specs.Option.{option_map};
 ghost use Rattle.std.specs.String.{string_bytes};
 ghost use Rattle.pg_command.specs.Words.{command_in, command_of, texts_of, height_of, wrap_of, is_name};
-ghost use Rattle.pg_command.specs.Words.{is_option as is_option_word, with_option as one_more, no_options};
-ghost use Rattle.pg_command.specs.Words.{options_in, run_named, show_named, make_named, paragraphs_of};
+ghost use Rattle.pg_command.specs.Words.{is_labels as is_labels_word, has_value as has_value_word, no_options};
+ghost use Rattle.pg_command.specs.Words.{with_labels as labels_too, with_option as one_more, options_in};
+ghost use Rattle.pg_command.specs.Words.{run_named, show_named, make_named, check_named, job_of, paragraphs_of};
 ghost use Rattle.pg_command.specs.Words.{IsHeight, IsInRange};
 
 use pg_scaled::{Front, read_scaled};
@@ -23,10 +24,11 @@ pub enum StyleWord<'a> {
 /// of a galley that is read are joined.
 #[derive(Clone, Copy)]
 pub enum Job<'a> {
-    /// To paginate a galley.
+    /// To paginate a galley, and where `labels` is true to write the labels of the search behind its pages.
     Run {
         style: StyleWord<'a>,
         galley: &'a str,
+        labels: bool,
         wrap: Option<u32>,
     },
     /// To print a galley.
@@ -38,12 +40,20 @@ pub enum Job<'a> {
     Make {
         count: u32,
     },
+    /// To check an output text against a style and a galley.
+    Check {
+        style: &'a str,
+        galley: &'a str,
+        output: &'a str,
+        wrap: Option<u32>,
+    },
 }
 
 /// What the options between a command and its names say.
 #[derive(Clone, Copy)]
 pub struct Options {
     pub height: Option<i32>,
+    pub labels: bool,
     pub wrap: Option<u32>,
 }
 
@@ -82,13 +92,34 @@ fn is_file_name(word: &str) -> bool
     }
 }
 
-fn is_option(word: &str) -> bool
-    ensures { result ≡ is_option_word word.now }
+fn is_labels(word: &str) -> bool
+    ensures { result ≡ is_labels_word word.now }
+{
+    word == "--labels"
+}
+
+fn has_value(word: &str) -> bool
+    ensures { result ≡ has_value_word word.now }
 {
     word == "--height" || word == "--wrap"
 }
 
-// The options with one more, which may not stand among them.
+// The options with that for labels, which may not stand among them.
+fn with_labels(options: &Options) -> Option<Options>
+    requires { IfSome options.now.height IsHeight }
+    ensures value { result ≡ labels_too options.now }
+    ensures in_range { IfSome result (λ more. IfSome more.height IsHeight) }
+{
+    if options.labels {
+        return None;
+    }
+    Some(Options {
+        labels: true,
+        ..*options
+    })
+}
+
+// The options with one more that has a value, which may not stand among them.
 fn with_option(options: &Options, word: &str, value: &str) -> Option<Options>
     requires { IfSome options.now.height IsHeight }
     ensures value { result ≡ one_more options.now word.now value.now }
@@ -101,7 +132,7 @@ fn with_option(options: &Options, word: &str, value: &str) -> Option<Options>
         let height = height(value)?;
         Some(Options {
             height: Some(height),
-            wrap: options.wrap,
+            ..*options
         })
     } else {
         if options.wrap.is_some() {
@@ -109,8 +140,8 @@ fn with_option(options: &Options, word: &str, value: &str) -> Option<Options>
         }
         let wrap = wrap_width(value)?;
         Some(Options {
-            height: options.height,
             wrap: Some(wrap),
+            ..*options
         })
     }
 }
@@ -123,15 +154,20 @@ fn split_options(words: &[String]) -> Option<(Options, &[String])>
 {
     let mut options = Options {
         height: None,
+        labels: false,
         wrap: None,
     };
     let mut rest = words;
     'options: while let [word, value, after @ ..] = rest {
-        if !is_option(word.as_str()) {
+        if is_labels(word.as_str()) {
+            options = with_labels(&options)?;
+            rest = &rest[1..];
+        } else if has_value(word.as_str()) {
+            options = with_option(&options, word.as_str(), value.as_str())?;
+            rest = after;
+        } else {
             return Some((options, rest));
         }
-        options = with_option(&options, word.as_str(), value.as_str())?;
-        rest = after;
     }
     Some((options, rest))
 }
@@ -162,6 +198,7 @@ fn plain_job<'a>(options: &Options, galley: &'a str) -> Option<Job<'a>>
     Some(Job::Run {
         style: StyleWord::Plain(height),
         galley,
+        labels: options.labels,
         wrap: options.wrap,
     })
 }
@@ -175,6 +212,7 @@ fn styled_job<'a>(options: &Options, style: &'a str, galley: &'a str) -> Option<
         Some(Job::Run {
             style: StyleWord::Named(style),
             galley,
+            labels: options.labels,
             wrap: options.wrap,
         })
     } else {
@@ -191,7 +229,7 @@ fn show_job<'a>(options: &Options, names: &'a [String]) -> Option<Job<'a>>
         return None;
     };
     let galley = galley.as_str();
-    if !is_file_name(galley) || options.height.is_some() {
+    if !is_file_name(galley) || options.height.is_some() || options.labels {
         return None;
     }
     Some(Job::Show {
@@ -208,19 +246,77 @@ fn make_job<'a>(options: &Options, names: &'a [String]) -> Option<Job<'a>>
     let [word] = names else {
         return None;
     };
-    if options.height.is_some() || options.wrap.is_some() {
+    if options.height.is_some() || options.labels || options.wrap.is_some() {
         return None;
     }
     let count = paragraph_count(word.as_str())?;
     Some(Job::Make { count })
 }
 
+// A check with these options and names.
+fn check_job<'a>(options: &Options, names: &'a [String]) -> Option<Job<'a>>
+    ensures job { option_map command_in result ≡ check_named options.now (map string_bytes names.now) }
+    ensures in_range { IfSome result IsInRange }
+{
+    match names {
+        [style, galley, output] => named_check(
+            options,
+            style.as_str(),
+            galley.as_str(),
+            output.as_str(),
+        ),
+        _ => None,
+    }
+}
+
+// A check of the files of these names.
+fn named_check<'a>(
+    options: &Options,
+    style: &'a str,
+    galley: &'a str,
+    output: &'a str,
+) -> Option<Job<'a>>
+    ensures job { option_map command_in result
+        ≡ check_named options.now (style.now ∷ galley.now ∷ output.now ∷ []) }
+    ensures in_range { IfSome result IsInRange }
+{
+    if is_file_name(style)
+        && (is_file_name(galley)
+            && (is_file_name(output) && !(options.height.is_some() || options.labels)))
+    {
+        Some(Job::Check {
+            style,
+            galley,
+            output,
+            wrap: options.wrap,
+        })
+    } else {
+        None
+    }
+}
+
+// What the command of this name asks for, with these options and names.
+fn named_job<'a>(name: &str, options: &Options, names: &'a [String]) -> Option<Job<'a>>
+    requires { IfSome options.now.height IsHeight }
+    ensures job { option_map command_in result ≡ job_of name.now (options.now, map string_bytes names.now) }
+    ensures in_range { IfSome result IsInRange }
+{
+    match name {
+        "run" => run_job(options, names),
+        "show" => show_job(options, names),
+        "make" => make_job(options, names),
+        "check" => check_job(options, names),
+        _ => None,
+    }
+}
+
 /// What the words after the program's name ask for, or None where they are no command.
 ///
-/// A command is `run [--wrap W] STYLE GALLEY`, `run --height H [--wrap W] GALLEY`, `show [--wrap W] GALLEY` or
-/// `make N`. Options stand between the command and the names, in any order, each at most once and with its value as
-/// the next word. H is wholly a scaled number above 0 and below 16384, W is 1 to 65535 and N is 0 to 2000, both in 1 to
-/// 10 digits, and a name is not empty and does not begin with a minus. No memory is taken.
+/// A command is `run [--labels] [--wrap W] STYLE GALLEY`, `run [--labels] --height H [--wrap W] GALLEY`,
+/// `show [--wrap W] GALLEY`, `make N` or `check [--wrap W] STYLE GALLEY OUTPUT`. Options stand between the command and
+/// the names, in any order, each at most once; H and W stand as the next word behind their options. H is wholly a
+/// scaled number above 0 and below 16384, W is 1 to 65535 and N is 0 to 2000, both in 1 to 10 digits, and a name is not
+/// empty and does not begin with a minus. No memory is taken.
 pub fn command(words: &Vec<String>) -> Option<Job<'_>>
     ensures command { option_map command_in result ≡ command_of (texts_of words.now) }
     ensures in_range { IfSome result IsInRange }
@@ -229,10 +325,5 @@ pub fn command(words: &Vec<String>) -> Option<Job<'_>>
         return None;
     };
     let (options, names) = split_options(rest)?;
-    match name.as_str() {
-        "run" => run_job(&options, names),
-        "show" => show_job(&options, names),
-        "make" => make_job(&options, names),
-        _ => None,
-    }
+    named_job(name.as_str(), &options, names)
 }

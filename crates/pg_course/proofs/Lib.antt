@@ -1,3 +1,4 @@
 pub mod MadeFloats
 pub mod Runs
 pub mod WorkedLines
+pub mod Checks

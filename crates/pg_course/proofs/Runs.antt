@@ -1,5 +1,5 @@
 -- What a command promises, by what was found for its galley.
-use Rattle.std.proofs.Common.{◌≡◌, ◌≤◌, ◌<◌, ◌^◌, ℕ, sym, ap, List, [], ◌∷◌, refl, subst, true, false, arith}
+use Rattle.std.proofs.Common.{◌≡◌, ◌≤◌, ◌<◌, ◌^◌, ℕ, Bool, sym, ap, List, [], ◌∷◌, refl, subst, true, false, arith}
 use Rattle.std.proofs.Common.{append-nil}
 use Rattle.std.specs.Prelude.{Option, Some, None, Result, Ok, Err, IfSome, nat_le}
 use Rattle.std.specs.Io.KnownBytes.{Appends, Keeps}
@@ -19,8 +19,8 @@ use Rattle.pg_command.specs.Words.{StyleName, run}
 use Rattle.pg_command.specs.Lines.{line_of, many_line, status_of}
 use Rattle.pg_command.proofs.Fronts.{appends_nothing, front_of_more}
 use Rattle.pg_course.specs.Calls.{OverSink, Writes, ending_of, over_sink}
-use Rattle.pg_course.specs.Course.{Stop, opened, opened_style, OneText, PaginateGalley, RunGalley, RunCourse}
-use Rattle.pg_course.specs.Course.{StyledCourse, EndsBy, BeginsBy, EndedBefore, OnSettled, OnWriteFault}
+use Rattle.pg_course.specs.Course.{Stop, opened, opened_style, OneText, PaginateGalley, RunGalley, RunCourse, OnTaken}
+use Rattle.pg_course.specs.Course.{StyledCourse, EndsBy, BeginsBy, EndedBefore, OnSettled, OnReadFault, OnWriteFault}
 
 pub on_settled : {P Q : Type 0} → (status : Status) → (P → Q) → OnSettled status P → OnSettled status Q
 on_settled ReadFault f p = tt
@@ -42,26 +42,44 @@ on_write_fault ReadFault f p = tt
 on_write_fault Memory f p = tt
 on_write_fault NotProved f p = tt
 
+pub on_read_fault : {P Q : Type 0} → (status : Status) → (P → Q) → OnReadFault status P → OnReadFault status Q
+on_read_fault ReadFault f p = f p
+on_read_fault Done f p = tt
+on_read_fault NoLegal f p = tt
+on_read_fault Usage f p = tt
+on_read_fault Refused f p = tt
+on_read_fault WriteFault f p = tt
+on_read_fault Memory f p = tt
+on_read_fault NotProved f p = tt
+
+-- what ends one course ends another that follows from it
+pub ends_as : (C D : List (List ℕ) → Status → List ℕ → Type 0) (old new : Option (List ℕ)) (end : Status)
+    (said : List ℕ) →
+    ((texts : List (List ℕ)) (status : Status) (line : List ℕ) → C texts status line → D texts status line) →
+    EndsBy C old new end said → EndsBy D old new end said
+ends_as C D old new end said f e =
+    record { texts = e.texts; course = f e.texts end said e.course; written = e.written }
+
+-- and so does what begins it
+pub begins_as : (C D : List (List ℕ) → Status → List ℕ → Type 0) (old new : Option (List ℕ)) →
+    ((texts : List (List ℕ)) (status : Status) (line : List ℕ) → C texts status line → D texts status line) →
+    BeginsBy C old new → BeginsBy D old new
+begins_as C D old new f b = record {
+  texts = b.texts;
+  end = b.end;
+  line = b.line;
+  course = f b.texts b.end b.line b.course;
+  front = b.front;
+}
+
 -- what does one course does another that follows from it
 pub writes_as : (C D : List (List ℕ) → Status → List ℕ → Type 0) (out : OverSink) (end : Ending) →
     ((texts : List (List ℕ)) (status : Status) (line : List ℕ) → C texts status line → D texts status line) →
     Writes C out end → Writes D out end
 writes_as C D out end f w = record {
-  settled =
-      on_settled (status_of end) (λ (e : EndsBy C out.old out.new (status_of end) (line_of end)). record {
-        texts = e.texts;
-        course = f e.texts (status_of end) (line_of end) e.course;
-        written = e.written;
-      }) w.settled;
+  settled = on_settled (status_of end) (ends_as C D out.old out.new (status_of end) (line_of end) f) w.settled;
   write = w.write;
-  front =
-      on_write_fault (status_of end) (λ (b : BeginsBy C out.old out.new). record {
-        texts = b.texts;
-        end = b.end;
-        line = b.line;
-        course = f b.texts b.end b.line b.course;
-        front = b.front;
-      }) w.front;
+  front = on_write_fault (status_of end) (begins_as C D out.old out.new f) w.front;
   memory = w.memory;
   no_read = w.no_read;
   no_usage = w.no_usage;
@@ -118,25 +136,26 @@ failed_write C old new before after text end course front rose = record {
   no_usage = λ e. absurd (cc);
 }
 
-appends_none : (old : Option (List ℕ)) → Appends old old []
+pub appends_none : (old : Option (List ℕ)) → Appends old old []
 appends_none None = tt
 appends_none (Some xs) = sym (append-nil xs)
 
-keeps_all : (old : Option (List ℕ)) → Keeps old old
+pub keeps_all : (old : Option (List ℕ)) → Keeps old old
 keeps_all None = tt
 keeps_all (Some xs) = refl
 
-few_test : (a b : ℕ) → a ≤ b → nat_le a b ≡ true
+pub few_test : (a b : ℕ) → a ≤ b → nat_le a b ≡ true
 few_test a b few = grind (arith, nat_tests)
 
 many_test : (a b : ℕ) → b < a → nat_le a b ≡ false
 many_test a b many = grind (arith, nat_tests)
 
--- a galley without a list of floats is refused, or memory ran out
-pub no_floats : (style : StyleValue) (galley : GalleyValue) (old : Option (List ℕ)) (before : ℕ)
-    (fault : FloatFault) → MakesList (Err fault) galley.blocks style →
-    Writes (RunGalley style galley) (over_sink old old before before) (ending_of fault)
-no_floats style galley old before (float_fault.Class number) unknown = record {
+-- a galley without a list of floats is refused, whatever is done with others, or memory ran out
+pub no_floats : (C : List (List ℕ) → Status → List ℕ → Type 0) (style : StyleValue) (galley : GalleyValue)
+    (old : Option (List ℕ)) (before : ℕ) (fault : FloatFault) → MakesList (Err fault) galley.blocks style →
+    Writes (λ texts end line. OnTaken style galley texts end line (C texts end line))
+    (over_sink old old before before) (ending_of fault)
+no_floats C style galley old before (float_fault.Class number) unknown = record {
   settled = record { texts = []; course = rw unknown (refl, refl, refl); written = appends_none old };
   write = tt;
   front = tt;
@@ -144,7 +163,7 @@ no_floats style galley old before (float_fault.Class number) unknown = record {
   no_read = tt;
   no_usage = λ e. absurd (cc);
 }
-no_floats style galley old before (float_fault.Limit count) many = record {
+no_floats C style galley old before (float_fault.Limit count) many = record {
   settled =
       record {
         texts = [];
@@ -162,7 +181,7 @@ no_floats style galley old before (float_fault.Limit count) many = record {
   no_read = tt;
   no_usage = λ e. absurd (cc);
 }
-no_floats style galley old before float_fault.Memory known = record {
+no_floats C style galley old before float_fault.Memory known = record {
   settled = tt;
   write = tt;
   front = tt;
@@ -172,38 +191,38 @@ no_floats style galley old before float_fault.Memory known = record {
 }
 
 -- a galley whose classes the style has and whose floats are few is paginated
-pub taken_writes : (style : StyleValue) (galley : GalleyValue) (out : OverSink) (end : Ending) →
+pub taken_writes : (labels : Bool) (style : StyleValue) (galley : GalleyValue) (out : OverSink) (end : Ending) →
     unknown_class galley.blocks style ≡ None → float_total galley.blocks style ≤ 2 ^ 12 →
-    Writes (PaginateGalley style galley) out end → Writes (RunGalley style galley) out end
-taken_writes style galley out end known few w =
+    Writes (PaginateGalley labels style galley) out end → Writes (RunGalley labels style galley) out end
+taken_writes labels style galley out end known few w =
     let test : nat_le (float_total galley.blocks style) (2 ^ 12) ≡ true =
     few_test (float_total galley.blocks style) (2 ^ 12) few in
-    writes_as (PaginateGalley style galley) (RunGalley style galley) out end
+    writes_as (PaginateGalley labels style galley) (RunGalley labels style galley) out end
     (λ texts status line course. rw (known, test) course) w
 
--- a fact of a galley, where it was opened, is one of what the shelf tells
-pub when_opened : (F : Result GalleyValue Stop → Type 0) (told : Option Held) (name : List ℕ) (wrap : Option ℕ)
-    (galley : GalleyValue) → IfSome told (λ held. opened name wrap (held name) ≡ Ok galley) → F (Ok galley) →
-    IfSome told (λ held. F (opened name wrap (held name)))
-when_opened F None name wrap galley says h = tt
-when_opened F (Some held) name wrap galley says h = subst F (sym says) h
+-- a fact of what was read is one of what the shelf tells
+pub when_said : {A : Type 0} (F : Result A Stop → Type 0) (told : Option Held) (said : Held → Result A Stop) (x : A) →
+    IfSome told (λ held. said held ≡ Ok x) → F (Ok x) → IfSome told (λ held. F (said held))
+when_said F None said x says h = tt
+when_said F (Some held) said x says h = subst F (sym says) h
 
-styled : (told : Option Held) (chosen : StyleName) (style : StyleValue) (name : List ℕ) (wrap : Option ℕ)
-    (old new : Option (List ℕ)) → IfSome told (λ held. opened_style chosen held ≡ Ok style) →
-    IfSome told (λ held. BeginsBy (RunCourse style (opened name wrap (held name))) old new) →
-    IfSome told (λ held. EndedBefore (Some (run chosen name wrap)) held old new)
-styled None chosen style name wrap old new says h = tt
-styled (Some held) chosen style name wrap old new says h =
-    subst (λ (said : Result StyleValue Stop). BeginsBy (StyledCourse said (opened name wrap (held name))) old new)
-    (sym says) h
+styled : (told : Option Held) (chosen : StyleName) (style : StyleValue) (name : List ℕ) (labels : Bool)
+    (wrap : Option ℕ) (old new : Option (List ℕ)) → IfSome told (λ held. opened_style chosen held ≡ Ok style) →
+    IfSome told (λ held. BeginsBy (RunCourse labels style (opened name wrap (held name))) old new) →
+    IfSome told (λ held. EndedBefore (Some (run chosen name labels wrap)) held old new)
+styled None chosen style name labels wrap old new says h = tt
+styled (Some held) chosen style name labels wrap old new says h =
+    subst (λ (said : Result StyleValue Stop).
+    BeginsBy (StyledCourse labels said (opened name wrap (held name))) old new) (sym says) h
 
 -- the style of a file, and a galley of whose text a front was written
 pub styled_begins : (told mid : Option Held) (chosen : StyleName) (style : StyleValue) (name : List ℕ)
-    (wrap : Option ℕ) (old new : Option (List ℕ)) (status : Status) →
+    (labels : Bool) (wrap : Option ℕ) (old new : Option (List ℕ)) (status : Status) →
     IfSome told (λ held. opened_style chosen held ≡ Ok style) → mid ≡ told →
-    OnWriteFault status (IfSome mid (λ held. BeginsBy (RunCourse style (opened name wrap (held name))) old new)) →
-    OnWriteFault status (IfSome told (λ held. EndedBefore (Some (run chosen name wrap)) held old new))
-styled_begins told mid chosen style name wrap old new status says same h =
-    on_write_fault status (λ front. styled told chosen style name wrap old new says
-    (subst (λ (t : Option Held). IfSome t (λ held. BeginsBy (RunCourse style (opened name wrap (held name))) old
+    OnWriteFault status (IfSome mid (λ held.
+    BeginsBy (RunCourse labels style (opened name wrap (held name))) old new)) →
+    OnWriteFault status (IfSome told (λ held. EndedBefore (Some (run chosen name labels wrap)) held old new))
+styled_begins told mid chosen style name labels wrap old new status says same h =
+    on_write_fault status (λ front. styled told chosen style name labels wrap old new says
+    (subst (λ (t : Option Held). IfSome t (λ held. BeginsBy (RunCourse labels style (opened name wrap (held name))) old
     new)) same front)) h

@@ -1,17 +1,21 @@
 -- What the function of a command promises, over any shelf and any sink.
-use Rattle.std.specs.Prelude.{◌≡◌, ◌≢◌, ◌↔◌, ℕ, List, Option, Some, None, Result, Err, IfSome}
+use Rattle.std.specs.Prelude.{◌≡◌, ◌≢◌, ◌↔◌, ℕ, List, Option, Some, None, Result, Ok, Err, IfSome}
 use Rattle.std.specs.Io.KnownBytes.{Keeps}
 use Rattle.pg_floats.specs.declared.fault.FloatFault.{FloatFault}
 use Rattle.pg_floats.specs.declared.fault.FloatFault.TheVariants as fault
+use Rattle.pg_list.specs.GalleyValue.{GalleyValue}
+use Rattle.pg_style.specs.Values.{StyleValue}
+use Rattle.pg_check_laws.specs.declared.answers.No.{No}
+use Rattle.pg_check_laws.specs.declared.answers.No.TheVariants as fails
 use Rattle.pg_outside.specs.Outside.{Held, Rose}
 use Rattle.pg_command.specs.declared.ending.Ending.{Ending}
 use Rattle.pg_command.specs.declared.ending.Ending.TheVariants as ending
 use Rattle.pg_command.specs.declared.status.Status.{Status}
 use Rattle.pg_command.specs.declared.status.Status.TheVariants.{Usage}
-use Rattle.pg_command.specs.Words.{Command, StyleName, run, show, make}
+use Rattle.pg_command.specs.Words.{Command, StyleName, named, run, show, make, check}
 use Rattle.pg_command.specs.Lines.{status_of, line_of}
 use Rattle.pg_course.specs.Course.{Ended, EndedBefore, EndsBy, BeginsBy, OnSettled, OnReadFault, OnWriteFault}
-use Rattle.pg_course.specs.Course.{OnMemory, ReadLine, Stop, UnreadFile, UnreadStyle, stop}
+use Rattle.pg_course.specs.Course.{OnMemory, ReadLine, Stop, UnreadFile, UnreadStyle, opened, opened_style, stop}
 
 -- a shelf over a call: what it tells, how many faults it counted before and after, and its last failed name after
 pub record OverShelf : Type 0 where
@@ -39,16 +43,18 @@ over_sink old new before after = record { old = old; new = new; before = before;
 -- writes more they are the whole texts of the shows before
 abbrev pub WroteWhole : Option Command → OverSink → Type 0
 WroteWhole None out = Keeps out.old out.new
-WroteWhole (Some (run style galley wrap)) out = Keeps out.old out.new
+WroteWhole (Some (run style galley labels wrap)) out = Keeps out.old out.new
 WroteWhole (Some (show galley wrap)) out = Keeps out.old out.new
 WroteWhole (Some (make count)) out = Keeps out.old out.new
+WroteWhole (Some (check style galley output wrap)) out = Keeps out.old out.new
 
 -- words that name no file: they are no command, or one that makes its galley
 abbrev pub NamesNoFile : Option Command → Type 0
 NamesNoFile None = Unit {0}
-NamesNoFile (Some (run style galley wrap)) = ⊥
+NamesNoFile (Some (run style galley labels wrap)) = ⊥
 NamesNoFile (Some (show galley wrap)) = ⊥
 NamesNoFile (Some (make count)) = Unit {0}
+NamesNoFile (Some (check style galley output wrap)) = ⊥
 
 -- why the file of a name was not read, and the line that tells it
 abbrev pub NoFile : List ℕ → OverShelf → List ℕ → Type 0
@@ -72,6 +78,16 @@ abbrev pub ending_of : FloatFault → Ending
 ending_of (fault.Class number) = ending.UnknownClass number
 ending_of (fault.Limit count) = ending.TooManyFloats count
 ending_of fault.Memory = ending.Memory
+
+-- how a run ends where a check says no
+abbrev pub no_ending : No → Ending
+no_ending fails.Memory = ending.Memory
+no_ending fault = ending.NotProved fault
+
+-- the files of these names say this style and this galley
+abbrev pub AreRead : List ℕ → List ℕ → Option ℕ → StyleValue → GalleyValue → Held → Type 0
+AreRead style galley wrap s g held =
+    (opened_style (named style) held ≡ Ok s) × (opened galley wrap (held galley) ≡ Ok g)
 
 -- the promise of a function that writes what a course says of files that were read, by its ending
 pub record Writes (C : List (List ℕ) → Status → List ℕ → Type 0) (out : OverSink) (ending : Ending) : Type 0 where

@@ -1,7 +1,7 @@
 -- What the program does when nothing fails and memory is ample: the texts that it writes, how it ends, and its
 -- line for the user.
-use Rattle.std.specs.Prelude.{◌≡◌, ◌^◌, ℕ, List, [], ◌∷◌, length, ◌⊎◌, nat_lt, nat_le, ⊤, Option, Some, None, Result}
-use Rattle.std.specs.Prelude.{Ok, Err, MatchBool, MatchOption, IsSomeAnd, if◌then◌else◌}
+use Rattle.std.specs.Prelude.{◌≡◌, ◌^◌, ℕ, Bool, List, [], ◌∷◌, length, ◌⊎◌, nat_lt, nat_le, ⊤, Option, Some, None}
+use Rattle.std.specs.Prelude.{Result, Ok, Err, MatchBool, MatchOption, IsSomeAnd, if◌then◌else◌}
 use Rattle.std.specs.List.{concat}
 use Rattle.std.specs.Io.KnownBytes.{Appends}
 use Rattle.pg_list.specs.GalleyValue.{GalleyValue}
@@ -12,14 +12,21 @@ use Rattle.pg_stylefile.specs.Style.{style_of_text}
 use Rattle.pg_showbox.specs.declared.kinds.ListFault.{ListFault}
 use Rattle.pg_showbox.specs.Reading.{galley_of}
 use Rattle.pg_showbox.specs.Text.{galley_text}
+use Rattle.pg_labels.specs.declared.output.Output.{Output}
+use Rattle.pg_labels.specs.Reading.{output_of}
+use Rattle.pg_check_laws.specs.declared.answers.No.{No}
+use Rattle.pg_check_laws.specs.declared.answers.Proved.{Proved}
 use Rattle.pg_outside.specs.Outside.{Held, Rose, AppendsFront}
 use Rattle.pg_command.specs.declared.status.Status.{Status}
 use Rattle.pg_command.specs.declared.status.Status.TheVariants.{Done, Usage, Refused, ReadFault, WriteFault, Memory}
-use Rattle.pg_command.specs.Words.{Command, StyleName, named, plain, run, show, make}
+use Rattle.pg_command.specs.declared.status.Status.TheVariants.{NotProved}
+use Rattle.pg_command.specs.Words.{Command, StyleName, named, plain, run, show, make, check}
 use Rattle.pg_floats.specs.AreFloats.{unknown_class, float_total}
 use Rattle.pg_command.specs.Lines.{usage_line, long_line, list_line, style_line, class_line, many_line, unread_line}
-use Rattle.pg_course.specs.Out.{Out}
+use Rattle.pg_command.specs.Lines.{no_output_line, no_line}
+use Rattle.pg_course.specs.Out.{RunOut}
 use Rattle.pg_course.specs.Made.{MadeOut}
+use Rattle.pg_course.specs.Verdict.{Answers, yes_line}
 
 -- ---- the course of a command
 
@@ -46,6 +53,11 @@ abbrev pub said_style : List ℕ → Result StyleValue StyleFault → Result Sty
 said_style name (Ok style) = Ok style
 said_style name (Err fault) = Err (stop Refused (style_line name fault))
 
+-- the output text that a text says; a fault is named by its line
+abbrev pub said_output : List ℕ → Result Output ℕ → Result Output Stop
+said_output name (Ok output) = Ok output
+said_output name (Err line) = Err (stop Refused (no_output_line name line))
+
 -- the bytes of a file: one that is not there cannot be read, and one of more than 2^26 bytes is too long
 abbrev pub fetched : List ℕ → Option (List ℕ) → Result (List ℕ) Stop
 fetched name None = Err (stop ReadFault (unread_line name))
@@ -65,32 +77,42 @@ abbrev pub opened_style : StyleName → Held → Result StyleValue Stop
 opened_style (named name) held = read_by (λ bytes. said_style name (style_of_text bytes)) (fetched name (held name))
 opened_style (plain height) held = Ok (plain_values.plain height)
 
+-- the output text of a file
+abbrev pub opened_output : List ℕ → Option (List ℕ) → Result Output Stop
+opened_output name file = read_by (λ bytes. said_output name (output_of bytes)) (fetched name file)
+
 -- this text alone is written, and it ends so
 abbrev pub OneText : List ℕ → Status → List (List ℕ) → Status → List ℕ → Type 0
 OneText text status texts end line = (texts ≡ text ∷ []) × (end ≡ status) × (line ≡ [])
 
 -- one text is written for a galley
-abbrev pub PaginateGalley : StyleValue → GalleyValue → List (List ℕ) → Status → List ℕ → Type 0
-PaginateGalley style galley texts end line =
-    (text : List ℕ) × Out galley style text end × (texts ≡ text ∷ []) × (line ≡ [])
+abbrev pub PaginateGalley : Bool → StyleValue → GalleyValue → List (List ℕ) → Status → List ℕ → Type 0
+PaginateGalley labels style galley texts end line =
+    (text : List ℕ) × RunOut labels galley style text end × (texts ≡ text ∷ []) × (line ≡ [])
 
 -- a galley is refused for the class of its first insert of a class that the style does not have, and then for more
--- than 2^12 floats
-abbrev pub RunGalley : StyleValue → GalleyValue → List (List ℕ) → Status → List ℕ → Type 0
-RunGalley style galley texts end line = MatchOption (unknown_class galley.blocks style)
-    (MatchBool (nat_le (float_total galley.blocks style) (2 ^ 12)) (PaginateGalley style galley texts end line)
+-- than 2^12 floats; else this is done
+abbrev pub OnTaken : StyleValue → GalleyValue → List (List ℕ) → Status → List ℕ → Type 0 → Type 0
+OnTaken style galley texts end line Goes = MatchOption (unknown_class galley.blocks style)
+    (MatchBool (nat_le (float_total galley.blocks style) (2 ^ 12)) Goes
     (Stops texts end line (stop Refused (many_line (float_total galley.blocks style)))))
     (λ class. Stops texts end line (stop Refused (class_line class)))
 
+-- a galley that is taken is paginated
+abbrev pub RunGalley : Bool → StyleValue → GalleyValue → List (List ℕ) → Status → List ℕ → Type 0
+RunGalley labels style galley texts end line =
+    OnTaken style galley texts end line (PaginateGalley labels style galley texts end line)
+
 -- the galley is read behind the style
-abbrev pub RunCourse : StyleValue → Result GalleyValue Stop → List (List ℕ) → Status → List ℕ → Type 0
-RunCourse style (Err stop) texts end line = Stops texts end line stop
-RunCourse style (Ok galley) texts end line = RunGalley style galley texts end line
+abbrev pub RunCourse : Bool → StyleValue → Result GalleyValue Stop → List (List ℕ) → Status → List ℕ → Type 0
+RunCourse labels style (Err stop) texts end line = Stops texts end line stop
+RunCourse labels style (Ok galley) texts end line = RunGalley labels style galley texts end line
 
 -- the style is read first
-abbrev pub StyledCourse : Result StyleValue Stop → Result GalleyValue Stop → List (List ℕ) → Status → List ℕ → Type 0
-StyledCourse (Err stop) galley texts end line = Stops texts end line stop
-StyledCourse (Ok style) galley texts end line = RunCourse style galley texts end line
+abbrev pub StyledCourse : Bool → Result StyleValue Stop → Result GalleyValue Stop → List (List ℕ) → Status → List ℕ
+    → Type 0
+StyledCourse labels (Err stop) galley texts end line = Stops texts end line stop
+StyledCourse labels (Ok style) galley texts end line = RunCourse labels style galley texts end line
 
 -- the galley is printed
 abbrev pub ShowGalley : GalleyValue → List (List ℕ) → Status → List ℕ → Type 0
@@ -105,13 +127,44 @@ ShowCourse (Ok galley) texts end line = ShowGalley galley texts end line
 abbrev pub MakeCourse : ℕ → List (List ℕ) → Status → List ℕ → Type 0
 MakeCourse count texts end line = (text : List ℕ) × MadeOut count text end × (texts ≡ text ∷ []) × (line ≡ [])
 
+-- a yes is written, and a no is said
+abbrev pub TellAnswer : Result Proved No → List (List ℕ) → Status → List ℕ → Type 0
+TellAnswer (Ok proved) texts end line = OneText (yes_line proved) Done texts end line
+TellAnswer (Err fault) texts end line = Stops texts end line (stop NotProved (no_line fault))
+
+-- the output text is tested
+abbrev pub CheckOutput : StyleValue → GalleyValue → Output → List (List ℕ) → Status → List ℕ → Type 0
+CheckOutput style galley output texts end line =
+    (answer : Result Proved No) × Answers galley style output answer × TellAnswer answer texts end line
+
+-- the output text is read last
+abbrev pub CheckText : StyleValue → GalleyValue → Result Output Stop → List (List ℕ) → Status → List ℕ → Type 0
+CheckText style galley (Err stop) texts end line = Stops texts end line stop
+CheckText style galley (Ok output) texts end line = CheckOutput style galley output texts end line
+
+-- the galley is read behind the style, and has to be taken before the output text is read
+abbrev pub CheckGalley : StyleValue → Result GalleyValue Stop → Result Output Stop → List (List ℕ) → Status → List ℕ
+    → Type 0
+CheckGalley style (Err stop) output texts end line = Stops texts end line stop
+CheckGalley style (Ok galley) output texts end line =
+    OnTaken style galley texts end line (CheckText style galley output texts end line)
+
+-- the style is read first
+abbrev pub CheckCourse : Result StyleValue Stop → Result GalleyValue Stop → Result Output Stop → List (List ℕ)
+    → Status → List ℕ → Type 0
+CheckCourse (Err stop) galley output texts end line = Stops texts end line stop
+CheckCourse (Ok style) galley output texts end line = CheckGalley style galley output texts end line
+
 -- the course of a command, over the files that are held
 abbrev pub Course : Option Command → Held → List (List ℕ) → Status → List ℕ → Type 0
 Course None held texts end line = Stops texts end line (stop Usage usage_line)
-Course (Some (run style galley wrap)) held texts end line =
-    StyledCourse (opened_style style held) (opened galley wrap (held galley)) texts end line
+Course (Some (run style galley labels wrap)) held texts end line =
+    StyledCourse labels (opened_style style held) (opened galley wrap (held galley)) texts end line
 Course (Some (show galley wrap)) held texts end line = ShowCourse (opened galley wrap (held galley)) texts end line
 Course (Some (make count)) held texts end line = MakeCourse count texts end line
+Course (Some (check style galley output wrap)) held texts end line =
+    CheckCourse (opened_style (named style) held) (opened galley wrap (held galley))
+    (opened_output output (held output)) texts end line
 
 -- ---- facts for some ends
 
@@ -170,9 +223,10 @@ IsStyleFile (plain height) name = ⊥
 -- a name is a file of the command
 abbrev pub IsFileOf : Option Command → List ℕ → Type 0
 IsFileOf None name = ⊥
-IsFileOf (Some (run style galley wrap)) name = IsStyleFile style name ⊎ (name ≡ galley)
+IsFileOf (Some (run style galley labels wrap)) name = IsStyleFile style name ⊎ (name ≡ galley)
 IsFileOf (Some (show galley wrap)) name = name ≡ galley
 IsFileOf (Some (make count)) name = ⊥
+IsFileOf (Some (check style galley output wrap)) name = (name ≡ style) ⊎ ((name ≡ galley) ⊎ (name ≡ output))
 
 -- the shelf failed in this call, at a file of the command, and the line says so
 abbrev pub FailedAt : Option Command → ℕ → ℕ → Option (List ℕ) → List ℕ → Type 0

@@ -1,4 +1,5 @@
 pub mod Out
 pub mod Made
+pub mod Verdict
 pub mod Course
 pub mod Calls

@@ -1,12 +1,15 @@
 -- What is written for a galley.
-use Rattle.std.specs.Prelude.{◌≡◌, ℕ, List}
+use Rattle.std.specs.Prelude.{◌≡◌, ◌==◌, ℕ, Bool, true, false, List, ◌++◌}
 use Rattle.pg_list.specs.GalleyValue.{GalleyValue}
 use Rattle.pg_plan.specs.declared.pages.Pagination.{Pagination}
+use Rattle.pg_plan.specs.declared.states.Label.{Label}
 use Rattle.pg_style.specs.Values.{StyleValue}
 use Rattle.pg_rules.specs.Best.{Best}
 use Rattle.pg_rules.specs.Cost.{cost}
+use Rattle.pg_rules.specs.Frontier.{Frontier}
 use Rattle.pg_rules.specs.Legal.{Legal}
 use Rattle.pg_pages.specs.PageText.{page_text, none_text}
+use Rattle.pg_labels.specs.LabelText.{label_text}
 use Rattle.pg_text_laws.specs.Texts.{EachOnce}
 use Rattle.pg_command.specs.declared.status.Status.{Status}
 use Rattle.pg_command.specs.declared.status.Status.TheVariants.{Done, NoLegal}
@@ -30,6 +33,23 @@ abbrev pub Out : GalleyValue → StyleValue → List ℕ → Status → Type 0
 Out galley style text Done = IsBestText galley style text
 Out galley style text NoLegal = IsNoneText galley style text
 Out galley style text end = ⊥
+
+-- labels tell their fitness where the style has version 2
+abbrev pub tells_fitness : StyleValue → Bool
+tells_fitness style = style.version == 2
+
+-- that text with the text of the frontier's labels behind it
+pub record IsLabelledText (galley : GalleyValue) (style : StyleValue) (text : List ℕ) (end : Status) : Type 0 where
+  pub pages : List ℕ
+  pub out : Out galley style pages end
+  pub labels : List Label
+  pub frontier : Frontier galley style labels
+  pub written : text ≡ pages ++ label_text (tells_fitness style) labels
+
+-- what a run writes for a galley, with labels or without
+abbrev pub RunOut : Bool → GalleyValue → StyleValue → List ℕ → Status → Type 0
+RunOut false galley style text end = Out galley style text end
+RunOut true galley style text end = IsLabelledText galley style text end
 
 -- how a run with this text ends
 abbrev pub end_of : PageText → Status

@@ -1,10 +1,13 @@
 //! The course of each command: what is read, what is written, and how it ends.
 //!
 //! Proved: each command does what its course says (`Goes` in `specs/Calls`, over `specs/Course`). A text that `run`
-//! writes is that of the best pagination, or the line for none where none is legal (`specs/Out`); `make` tells of the
-//! galley that it makes how many pages and labels it has and what they cost (`specs/Made`).
+//! writes is that of the best pagination, or the line for none where none is legal, and where it is asked for labels
+//! behind it that of the frontier's labels (`specs/Out`); `make` tells of the galley that it makes how many pages and
+//! labels it has and what they cost (`specs/Made`); a yes of `check` shows that what the output text tells is true, and
+//! a no names the first test that fails (`specs/Verdict`).
 #![tactic(auto)]
 
+mod check;
 mod line;
 mod make;
 mod open;
@@ -13,6 +16,7 @@ mod run;
 mod show;
 mod write;
 
+pub use check::check_course;
 pub use make::make_course;
 pub use run::run_course;
 pub use show::show_course;

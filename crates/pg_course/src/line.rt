@@ -1,4 +1,4 @@
-//! The line of a galley that is made.
+//! The line of a galley that is made, and of a check that says yes.
 ghost use Rattle.std.specs.Prelude.{◌≡◌, ◌++◌, OnOk, IfOk, length};
 ghost use Rattle.pg_list.specs.Counts.{item_count};
 ghost use Rattle.pg_make.specs.Generated.{made_blocks, made_galley};
@@ -8,9 +8,11 @@ ghost use Rattle.pg_space.specs.Solves.{HasFrontier, Solves};
 ghost use Rattle.pg_course.specs.Made.{MadeOut, made_front, made_labels, made_none, made_pages, numbered};
 ghost use Rattle.pg_course.specs.Made.{none_line, pages_line};
 ghost use Rattle.pg_course.specs.Out.{bytes_of, end_of};
+ghost use Rattle.pg_course.specs.Verdict.{proved_cost, proved_none, proved_text, yes_line};
 
 use crate::paginate::PageText;
 use itoa::Buffer;
+use pg_labelcheck::Proved;
 use pg_space::{Counted, Outcome};
 use std::alloc::{AllocError, Global};
 
@@ -32,6 +34,14 @@ fn print_whole(number: i128, out: &mut Vec<u8>) -> Result<(), AllocError>
         out.push(b'-')?;
     }
     out.extend_from_slice(buffer.format(number.unsigned_abs()).as_bytes())
+}
+
+// A name, and a number behind it, with a minus in front of a negative one.
+fn print_signed(name: &[u8], number: i128, out: &mut Vec<u8>) -> Result<(), AllocError>
+    ensures { OnOk result (out.new.items ≡ out.old.items ++ (name.now ++ whole_text number)) }
+{
+    out.extend_from_slice(name)?;
+    print_whole(number, out)
 }
 
 // The paragraphs and the items.
@@ -128,4 +138,40 @@ pub fn line_of(
             Ok(PageText::NoLegal(line))
         }
     }
+}
+
+// That this cost is proved.
+#[tactic(auto, unfolding(crate::specs::Verdict::proved_cost))]
+fn print_proved_cost(cost: i128, out: &mut Vec<u8>) -> Result<(), AllocError>
+    ensures { OnOk result (out.new.items ≡ out.old.items ++ proved_cost cost) }
+{
+    print_signed(b"proved cost ", cost, out)
+}
+
+// That it is proved that no pagination is legal.
+#[tactic(auto, unfolding(crate::specs::Verdict::proved_none))]
+fn print_proved_none(out: &mut Vec<u8>) -> Result<(), AllocError>
+    ensures { OnOk result (out.new.items ≡ out.old.items ++ proved_none) }
+{
+    out.extend_from_slice(b"proved no legal pagination")
+}
+
+// What is proved.
+fn print_proved(cost: Option<i128>, out: &mut Vec<u8>) -> Result<(), AllocError>
+    ensures { OnOk result (out.new.items ≡ out.old.items ++ proved_text cost) }
+{
+    match cost {
+        Some(cost) => print_proved_cost(cost, out),
+        None => print_proved_none(out),
+    }
+}
+
+/// The line of a check that says yes.
+pub fn yes_line_of(alloc: Global, proved: Proved) -> Result<Vec<u8>, AllocError>
+    ensures { IfOk result (λ text. text.items ≡ yes_line proved) }
+{
+    let mut text = Vec::new(alloc);
+    print_proved(proved.cost, &mut text)?;
+    print_labels(proved.labels as usize, &mut text)?;
+    Ok(text)
 }

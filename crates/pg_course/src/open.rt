@@ -5,10 +5,12 @@ ghost use Rattle.pg_command.specs.Words.{style_name, IsStyle};
 ghost use Rattle.pg_command.specs.Lines.{status_of, line_of};
 ghost use Rattle.pg_course.specs.Calls.{NoFile, NoStyle, Stopped, over_shelf};
 ghost use Rattle.pg_course.specs.Course.{OnSettled, OnReadFault, OnWriteFault, fetched, opened, opened_style};
-ghost use Rattle.pg_course.specs.Course.{said_style, read_by, stop};
+ghost use Rattle.pg_course.specs.Course.{said_style, read_by, stop, opened_output};
+ghost use Rattle.pg_labels.specs.Reading.{IsFew};
 ghost use Rattle.pg_stylefile.specs.Style.{style_of_text};
 
 use pg_command::{Ending, StyleWord};
+use pg_labels::{Output, OutputFault, read_output};
 use pg_list::Galley;
 use pg_outside::{Fetch, Shelf};
 use pg_showbox::{ListKind, read_galley};
@@ -121,5 +123,27 @@ pub fn open_style<'a, H: Shelf>(
     match word {
         StyleWord::Plain(height) => Ok(plain_style(alloc, height)),
         StyleWord::Named(name) => open_style_file(alloc, name, shelf),
+    }
+}
+
+/// Fetches the file of this name and reads its output text, or answers what ends the run.
+pub fn open_output<'a, H: Shelf>(
+    alloc: Global,
+    name: &'a str,
+    shelf: &mut H,
+) -> Result<Output, Ending<'a>>
+    ensures output { IfOk result (λ output. IfSome (H.held shelf.old) (λ held.
+        opened_output name.now (held name.now) ≡ Ok output)) }
+    ensures few { IfOk result IsFew }
+    ensures stopped { IfErr result (Stopped (λ held. opened_output name.now (held name.now)) (NoFile name.now)
+        (over_shelf (H.held shelf.old) (H.faults shelf.old) (H.faults shelf.new) (H.last_failed shelf.new))) }
+    ensures same { H.held shelf.new ≡ H.held shelf.old }
+    ensures later { H.faults shelf.old ≤ H.faults shelf.new }
+{
+    let bytes = fetch_file(alloc, name, shelf)?;
+    match read_output(alloc, &bytes) {
+        Ok(output) => Ok(output),
+        Err(OutputFault::BadText { line }) => Err(Ending::BadOutput(name, line)),
+        Err(OutputFault::Memory) => Err(Ending::Memory),
     }
 }

@@ -17,27 +17,28 @@ use pg_style::Style;
 use std::alloc::Global;
 use std::sync::ledger::Ledger;
 
-// Writes the text for a galley in one piece, and answers how that ends the run.
+// Writes the text for a galley in one piece, where `labels` is true with its labels, and answers how that ends the run.
 fn write_pages<'a, O: Sink, L: Ledger>(
     alloc: Global,
     galley: &Galley,
     style: &Style,
     floats: &FloatList,
+    labels: bool,
     out: &mut O,
     steps: &mut Steps<L>,
 ) -> Ending<'a>
     requires { AreFloats galley.now.blocks style.now floats.now }
-    ensures writes { Writes (PaginateGalley style.now galley.now)
+    ensures writes { Writes (PaginateGalley labels style.now galley.now)
         (over_sink (O.written out.old) (O.written out.new) (O.faults out.old) (O.faults out.new)) result }
 {
-    match page_text_of(alloc, galley, style, floats, steps) {
+    match page_text_of(alloc, galley, style, floats, labels, steps) {
         Err(_) => Ending::Memory,
         Ok(text) => write_text(&text, out),
     }
 }
 
-// How a run ends where a galley has no list of floats.
-fn float_ending<'a>(fault: FloatFault) -> Ending<'a>
+/// How a run ends where a galley has no list of floats.
+pub fn float_ending<'a>(fault: FloatFault) -> Ending<'a>
     ensures { result ≡ ending_of fault }
 {
     match fault {
@@ -52,15 +53,16 @@ fn run_galley<'a, O: Sink, L: Ledger>(
     alloc: Global,
     galley: &Galley,
     style: &Style,
+    labels: bool,
     out: &mut O,
     steps: &mut Steps<L>,
 ) -> Ending<'a>
-    ensures writes { Writes (RunGalley style.now galley.now)
+    ensures writes { Writes (RunGalley labels style.now galley.now)
         (over_sink (O.written out.old) (O.written out.new) (O.faults out.old) (O.faults out.new)) result }
 {
     match FloatList::of(alloc, galley, style) {
         Err(fault) => float_ending(fault),
-        Ok(floats) => write_pages(alloc, galley, style, &floats, out, steps),
+        Ok(floats) => write_pages(alloc, galley, style, &floats, labels, out, steps),
     }
 }
 
@@ -69,39 +71,41 @@ fn run_file<'a, H: Shelf, O: Sink, L: Ledger>(
     alloc: Global,
     style: &Style,
     name: &'a str,
+    labels: bool,
     wrap: Option<u32>,
     shelf: &mut H,
     out: &mut O,
     steps: &mut Steps<L>,
 ) -> Ending<'a>
-    ensures goes { GoesOn (λ held. RunCourse style.now (opened name.now wrap (held name.now))) name.now
+    ensures goes { GoesOn (λ held. RunCourse labels style.now (opened name.now wrap (held name.now))) name.now
         (over_shelf (H.held shelf.old) (H.faults shelf.old) (H.faults shelf.new) (H.last_failed shelf.new))
         (over_sink (O.written out.old) (O.written out.new) (O.faults out.old) (O.faults out.new)) result }
 {
     match open_galley(alloc, name, wrap, shelf) {
         Err(ending) => ending,
-        Ok(galley) => run_galley(alloc, &galley, style, out, steps),
+        Ok(galley) => run_galley(alloc, &galley, style, labels, out, steps),
     }
 }
 
 /// Paginates the galley of this name with the style of this word, which is read first, and writes the text in one
-/// piece.
+/// piece, where `labels` is true with the labels of the search behind the pages.
 pub fn run_course<'a, H: Shelf, O: Sink, L: Ledger>(
     alloc: Global,
     style: StyleWord<'a>,
     name: &'a str,
+    labels: bool,
     wrap: Option<u32>,
     shelf: &mut H,
     out: &mut O,
     steps: &mut Steps<L>,
 ) -> Ending<'a>
     requires { IsStyle style }
-    ensures goes { Goes (Some (run_command (style_name style.entry) name.now wrap))
+    ensures goes { Goes (Some (run_command (style_name style.entry) name.now labels wrap))
         (over_shelf (H.held shelf.old) (H.faults shelf.old) (H.faults shelf.new) (H.last_failed shelf.new))
         (over_sink (O.written out.old) (O.written out.new) (O.faults out.old) (O.faults out.new)) result }
 {
     match open_style(alloc, style, shelf) {
         Err(ending) => ending,
-        Ok(style) => run_file(alloc, &style, name, wrap, shelf, out, steps),
+        Ok(style) => run_file(alloc, &style, name, labels, wrap, shelf, out, steps),
     }
 }

@@ -1,11 +1,11 @@
 -- Pages one after another: how many columns stand before one.
 use Rattle.std.proofs.Common.{◌≡◌, refl, sym, ap, ◌∙◌, ℕ, zero, suc, ◌+◌, ◌<◌, ◌≤◌, arith, List, [], ◌∷◌, ◌++◌, length, length-append, take, drop, get_or}
 use Rattle.std.specs.Prelude.{reverse}
-use Rattle.std.proofs.lemmas.List.{length-map, reverse-append}
+use Rattle.std.proofs.lemmas.List.{reverse-append}
 use Rattle.std.proofs.Math.Seq.{take-suc}
 use Rattle.pg_plan.specs.declared.pages.Page.{Page}
-use Rattle.pg_plan.specs.declared.pages.Column.{Column}
-use Rattle.pg_plan.specs.Order.{columns_of, no_floats, page_moves}
+use Rattle.pg_plan.specs.Order.{columns_of, page_moves}
+use Rattle.pg_plan.proofs.BackwardsLemmas.{moves_long}
 
 -- one more page in front of those before it
 pub next_page_is : (pages : List Page) (i : ℕ) (page : Page) → i < length pages → get_or pages i page ≡ page →
@@ -21,14 +21,6 @@ reverse_long [] = refl
 reverse_long (x ∷ xs) =
     ap length (reverse-append (x ∷ []) xs) ∙ (length-append (reverse xs) (x ∷ [])
     ∙ (let r = reverse_long xs in omega (arith, r)))
-
-moves_long : (page : Page) (columns : List Column) → length (page_moves page columns) ≡ length columns
-moves_long page [] = refl
-moves_long page (column ∷ columns) = ap suc (length-map columns (λ (later : Column). record {
-  column = later;
-  run = page.run;
-  wide = no_floats page.wide;
-}))
 
 pub columns_more : (page : Page) (pages : List Page) →
     length (columns_of (page ∷ pages)) ≡ length page.columns + length (columns_of pages)

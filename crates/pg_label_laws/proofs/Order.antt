@@ -32,12 +32,13 @@ use Rattle.pg_lemmas.proofs.Bools.{both_of}
 use Rattle.std.proofs.lemmas.Bool.{eqb-true}
 use Rattle.pg_rules.specs.Ranges.{AreInRange}
 use Rattle.pg_beginning_laws.proofs.Contracts.{facts, some}
+use Rattle.pg_beginning_laws.proofs.StateOrder.{int_equal}
 use Rattle.pg_plan.proofs.OrderLaws.{column_equal, list_equal, place_equal}
 use Rattle.pg_lemmas.proofs.Orders.{nat_equal}
 use Rattle.pg_space_laws.specs.PageSpace.{wide_meaning}
 use Rattle.pg_space_laws.proofs.Bounds.{pages_lawful}
 use Rattle.pg_space_laws.proofs.Solve.{prefix_run}
-use Rattle.pg_label_laws.proofs.WellFounded.{IsWell, equal_int, ints_well, lists_well, nats_well, on_well, then_well}
+use Rattle.pg_label_laws.proofs.WellFounded.{IsWell, ints_well, lists_well, nats_well, on_well, then_well}
 
 -- ---- places, counts, columns
 
@@ -175,7 +176,7 @@ module _ (g : GalleyValue) (s : StyleValue) (range : AreInRange g s) where
       under a b h = omega arith
 
   pub plans_well : IsWell plan_order (Prefix g s)
-  plans_well = then_well (cost g s) int_cmp (λ c. low ≤ℤ c) equal_int plan_cmp (Prefix g s) high (ints_well low)
+  plans_well = then_well (cost g s) int_cmp (λ c. low ≤ℤ c) int_equal plan_cmp (Prefix g s) high (ints_well low)
       (on_well columns (slice_cmp column_cmp)
       (λ ms. (length ms ≤ 2 ^ 32) × AllByRecursion (IsShort (longest (document g s))) ms) (Prefix g s)
       (λ plan p. (

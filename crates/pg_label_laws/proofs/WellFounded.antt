@@ -19,10 +19,6 @@ less_int : (a b : ℤ) → int_cmp a b ≡ Less → a <ℤ b
 less_int a b e = by_ranked (a <ℤ b) (a ≡ b) (b <ℤ a) (int_cmp a b) (int_ranked a b (int_cmp a b) refl)
     (λ _ p. p) (λ o _. absurd cc) (λ o _. absurd cc)
 
-pub equal_int : (a b : ℤ) → int_cmp a b ≡ Equal → a ≡ b
-equal_int a b e = by_ranked (a <ℤ b) (a ≡ b) (b <ℤ a) (int_cmp a b) (int_ranked a b (int_cmp a b) refl)
-    (λ o _. absurd cc) (λ _ p. p) (λ o _. absurd cc)
-
 pub nats_well : IsWell nat_cmp (λ _. Unit {0})
 nats_well P step x q = below (suc x) x (omega arith)
   where

@@ -3,8 +3,9 @@ use Rattle.std.proofs.Common.{◌≡◌, refl, ap, subst, ◌∙◌, ℕ, suc, �
 use Rattle.std.specs.Prelude.{is_some, ◌==◌, ◌&&◌, ◌||◌, not, nat_le, nat_lt, if◌then◌else◌, codes, Result, Ok, Err, ℤ}
 use Rattle.std.specs.Option.{option_map, option_map_or}
 use Rattle.std.specs.Str.{bytes_eq}
-use Rattle.std.proofs.lemmas.List.{length-reverse, length-map, reverse-append}
-use Rattle.pg_plan.specs.Order.{columns_of, no_floats, page_moves}
+use Rattle.std.proofs.lemmas.List.{length-reverse, reverse-append}
+use Rattle.pg_plan.specs.Order.{columns_of, page_moves}
+use Rattle.pg_plan.proofs.BackwardsLemmas.{moves_long}
 use Rattle.pg_plan.specs.declared.pages.Column.{Column}
 use Rattle.pg_plan.specs.declared.pages.Page.{Page}
 use Rattle.pg_plan.specs.declared.states.Label.{Label}
@@ -21,14 +22,6 @@ use Rattle.pg_labels.specs.declared.draft.Stands.{Stands}
 use Rattle.pg_labels.specs.declared.draft.Stands.TheVariants.{Start, NoneLegal, Head, Begun, ColumnBegun, GoesOn, Labels}
 
 -- ---- pages and columns
-
-moves_long : (page : Page) (columns : List Column) → length (page_moves page columns) ≡ length columns
-moves_long page [] = refl
-moves_long page (column ∷ columns) = ap suc (length-map columns (λ (later : Column). record {
-  column = later;
-  run = page.run;
-  wide = no_floats page.wide;
-}))
 
 abbrev column_count : List Page → ℕ
 column_count pages = length (columns_of (reverse pages))

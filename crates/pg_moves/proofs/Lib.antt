@@ -1,3 +1,4 @@
 pub mod AllSteps
 pub mod Standing
 pub mod Stepped
+pub mod Built

@@ -261,6 +261,7 @@ pub fn add_ends(
         steps.new ≡ steps.old
         ++ listed_with (doc_of sources.now) state.now (λ layout. ends.now) laid.now.layout) }
 {
+    steps.reserve(ends.len())?;
     for end in ends {
         add_end(sources, state, laid, end, settled, steps)?;
     }

@@ -10,15 +10,14 @@ use Rattle.pg_beginning_laws.proofs.Faults.{sound_of}
 use Rattle.pg_rules.specs.Ranges.{AreInRange}
 use Rattle.pg_floats.specs.AreFloats.{float_total}
 use Rattle.pg_output_laws.specs.Laws.{PagesReadBack, StatesAreInRange}
-use Rattle.pg_output_laws.specs.GalleyRanges.{HavePenaltiesInRange}
 use Rattle.pg_output_laws.proofs.Moves.{moves_printed}
 use Rattle.pg_output_laws.proofs.States.{labels_printed}
 use Rattle.pg_output_laws.proofs.PagesRead.{pages_read}
 
 pub pages_read_back : (galley : GalleyValue) (style : StyleValue) → AreInRange galley style →
-    nat_abs galley.width < 2 ^ 30 → HavePenaltiesInRange galley.blocks → PagesReadBack galley style
+    nat_abs galley.width < 2 ^ 30 → PagesReadBack galley style
 unfolding breach
-pages_read_back galley style range width penalties plan cost fitness labels legal wide few small each =
+pages_read_back galley style range width plan cost fitness labels legal wide few small each =
     let doc = document galley style in
     let s = sound_of doc (reverse plan.pages) (columns plan)
     (unless (ends_spent doc (columns plan)) (length (columns plan)))
@@ -28,7 +27,7 @@ pages_read_back galley style range width penalties plan cost fitness labels lega
       pages = omega (arith, few);
       cost_in = wide;
       width = omega (arith, width);
-      moves = moves_printed doc range.style_in range.blocks range.limit penalties (columns plan) s.stand;
+      moves = moves_printed doc range.style_in range.blocks range.limit (columns plan) s.stand;
     }) small each
 
 pub states_are_in_range : (galley : GalleyValue) (style : StyleValue) → AreInRange galley style →

@@ -1,7 +1,6 @@
 -- The items of a column, and its size, in range.
-use Rattle.std.proofs.Common.{◌≡◌, refl, sym, subst, ◌<◌, ◌≤◌, ◌+◌, ◌*◌, ◌^◌, ℕ, zero, suc, Bool, true, false, List, [], ◌∷◌, ◌++◌, length, map, drop, arith, length-append}
+use Rattle.std.proofs.Common.{◌≡◌, refl, sym, subst, ◌<◌, ◌≤◌, ◌+◌, ◌*◌, ◌^◌, ℕ, Bool, true, false, List, [], ◌∷◌, ◌++◌, length, map, drop, arith}
 use Rattle.std.proofs.lemmas.Int.{ints}
-use Rattle.std.proofs.lemmas.List.Sums.{sum_by-cons}
 use Rattle.std.proofs.lemmas.List.{reverse-append}
 use Rattle.std.specs.Prelude.{◌==◌, slice_get, unwrap_or, option_map, reverse, Option, Some, None, if◌then◌else◌, cond, ℤ, pos, ◌+ℤ◌, ◌-ℤ◌, nat_abs, int_lt}
 use Rattle.std.specs.Int.{int_min, int_max}
@@ -13,23 +12,23 @@ use Rattle.pg_list.specs.declared.item.Item.TheVariants.{BoxItem, Rule, Glue, Ke
 use Rattle.pg_list.specs.declared.blocks.Block.{Block}
 use Rattle.pg_list.specs.declared.blocks.Block.TheVariants.{One, Choice}
 use Rattle.pg_list.specs.declared.variants.Variant.{Variant}
-use Rattle.pg_list.specs.Counts.{block_size, item_count}
 use Rattle.pg_list.specs.Places.{picked_items, items_around}
 use Rattle.pg_list.specs.Ranges.{IsItemInRange}
-use Rattle.pg_list.specs.Shapes.{IsBlock, is_box, is_discardable}
+use Rattle.pg_list.specs.Shapes.{IsBlock, is_box}
 use Rattle.pg_flat.specs.Flat.{FlatItem, variant_flat_items, later_flat_items, flat_items_from, flat_items_at}
-use Rattle.pg_flat.specs.Totals.{trimmed, full_size, height_of, depth_of, has_size, top_glue, depth, total}
+use Rattle.pg_flat.specs.Totals.{full_size, height_of, depth_of, has_size, top_glue, depth, total}
 use Rattle.pg_flat.specs.Whole.{whole_sum_by}
 use Rattle.pg_bound_laws.proofs.Prices.{add_few}
 use Rattle.pg_column_laws.proofs.StyleFacts.{find_all}
-use Rattle.pg_output_laws.specs.GalleyRanges.{AllIn}
 use Rattle.pg_output_laws.proofs.Ranges.{all_drop}
 use Rattle.pg_output_laws.proofs.Places.{all_at}
 pub use Rattle.pg_lemmas.proofs.Lists.{all_append, all_take}
 pub use Rattle.pg_reach_laws.proofs.Lengths.{trimmed_all}
-use Rattle.pg_breaks.proofs.Walk.{variant_length}
-use Rattle.pg_pages.proofs.Printed.{map_length}
-use Rattle.pg_list.proofs.Sizes.{items_around_le, picked_le}
+
+-- each item of a block
+abbrev pub AllIn : (Item → Type 0) → Block → Type 0
+AllIn P (One item) = P item
+AllIn P (Choice variants) = AllByRecursion (λ (variant : Variant). AllByRecursion P variant.items) variants
 
 pub block_items : (block : Block) → IsBlock block → AllIn IsItemInRange block
 block_items (One item) h = h
@@ -110,74 +109,7 @@ at_all P blocks at picks a = all_map P (flat_items_at blocks at picks) (by (at.i
         (variant_all P at.block at.variant (items_around blocks at) (around_all P blocks at a)))
         (from_all P (at.block + 1) (drop (at.block + 1) blocks) picks (all_drop (AllIn P) (at.block + 1) blocks a))
 
--- ---- how many
-
-from_long : (n : ℕ) (blocks : List Block) (picks : List ℕ) → length (flat_items_from n blocks picks) ≤ item_count blocks
-from_long n [] picks = omega arith
-from_long n (One item ∷ blocks) picks =
-    let r = from_long (n + 1) blocks picks in let c = sum_by-cons block_size (One item) blocks in omega (arith, r, c)
-from_long n (Choice variants ∷ blocks) [] =
-    let r = from_long (n + 1) blocks [] in
-    let c = sum_by-cons block_size (Choice variants) blocks in
-    let p = picked_le (Choice variants) 0 in
-    let v = variant_length n 0 (picked_items (Choice variants) 0) in
-    let l = length-append (variant_flat_items n 0 (picked_items (Choice variants) 0))
-    (flat_items_from (n + 1) blocks []) in
-    omega (arith, r, c, p, v, l)
-from_long n (Choice variants ∷ blocks) (pick ∷ picks) =
-    let r = from_long (n + 1) blocks picks in
-    let c = sum_by-cons block_size (Choice variants) blocks in
-    let p = picked_le (Choice variants) pick in
-    let v = variant_length n pick (picked_items (Choice variants) pick) in
-    let l = length-append (variant_flat_items n pick (picked_items (Choice variants) pick))
-    (flat_items_from (n + 1) blocks picks) in
-    omega (arith, r, c, p, v, l)
-
-drop_count : (n : ℕ) (blocks : List Block) → item_count (drop n blocks) ≤ item_count blocks
-drop_count zero blocks = omega arith
-drop_count (suc n) [] = omega arith
-drop_count (suc n) (b ∷ bs) = let r = drop_count n bs in let c = sum_by-cons block_size b bs in omega (arith, r, c)
-
-drop_long : {X : Type 0} (n : ℕ) (xs : List X) → length (drop n xs) ≤ length xs
-drop_long zero xs = omega arith
-drop_long (suc n) [] = omega arith
-drop_long (suc n) (x ∷ xs) = let r = drop_long n xs in omega (arith, r)
-
-pub at_long : (blocks : List Block) (at : Place) (picks : List ℕ) →
-    length (map (λ (flat_item : FlatItem). flat_item.item) (flat_items_at blocks at picks)) ≤ 2 * item_count blocks
-at_long blocks at picks = let m = map_length (flat_items_at blocks at picks) in let b = by (at.index == 0) in
-    omega (arith, m, b)
-  where
-    around : List FlatItem
-    around = variant_flat_items at.block at.variant (items_around blocks at)
-
-    by : (b : Bool) → length (if b then flat_items_from at.block (drop at.block blocks) picks
-        else drop at.index around ++ flat_items_from (at.block + 1) (drop (at.block + 1) blocks)
-        picks) ≤ 2 * item_count blocks
-    by true =
-        let f = from_long at.block (drop at.block blocks) picks in
-        let d = drop_count at.block blocks in omega (arith, f, d)
-    by false =
-        let f = from_long (at.block + 1) (drop (at.block + 1) blocks) picks in
-        let d = drop_count (at.block + 1) blocks in
-        let g = drop_long at.index around in
-        let v = variant_length at.block at.variant (items_around blocks at) in
-        let a = items_around_le blocks at in
-        let l = length-append (drop at.index around) (flat_items_from (at.block + 1) (drop (at.block + 1) blocks)
-        picks) in
-        omega (arith, f, d, g, v, a, l)
-
 -- ---- the size
-
-pub trimmed_long : (items : List Item) → length (trimmed items) ≤ length items
-trimmed_long [] = omega arith
-trimmed_long (x ∷ xs) = by (is_box x) (is_discardable x) (trimmed_long xs)
-  where
-    by : (b c : Bool) → length (trimmed xs) ≤ length xs →
-        length (if b then x ∷ xs else (if c then trimmed xs else x ∷ trimmed xs)) ≤ suc (length xs)
-    by true c h = omega arith
-    by false true h = omega arith
-    by false false h = omega arith
 
 size_few : (x : Item) → IsItemInRange x → nat_abs (full_size x) ≤ 2 ^ 31
 size_few (BoxItem h d body) a = add_few h d (2 ^ 30) (2 ^ 30) (omega (arith, a.0)) (omega (arith, a.1))

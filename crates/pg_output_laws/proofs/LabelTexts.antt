@@ -24,14 +24,14 @@ use Rattle.pg_word_laws.proofs.Equal.{same_bytes, bytes_same}
 use Rattle.pg_word_laws.proofs.Numbers.{numeral_reads}
 use Rattle.pg_word_laws.proofs.Words.{decimal_lacks, whole_lacks, scaled_lacks, counts_lack, side_lacks, option_lacks}
 use Rattle.pg_output_laws.proofs.Runs.{Reads, reads_none, reads_then, reads_line, reads_as, reads_to}
-use Rattle.pg_output_laws.proofs.Labels.{printed_words, fit_words, rest_words, label_line_is, label_reads}
+use Rattle.pg_output_laws.proofs.Labels.{fit_words, rest_words, label_line_is, label_reads}
 
 -- ---- no word of a label has a blank or a line feed
 
-printed_words_lack : (s : ℕ) → s ≤ 32 → (fitness : Bool) (number : ℕ) → number < 10 ^ 64 → (label : Label) →
+label_words_lack : (s : ℕ) → s ≤ 32 → (fitness : Bool) (number : ℕ) → number < 10 ^ 64 → (label : Label) →
     IsPrintedLabel fitness label →
-    AllLack s (printed_words fitness number label)
-printed_words_lack s low fitness number small label h =
+    AllLack s (codes "label" ∷ rest_words fitness number label)
+label_words_lack s low fitness number small label h =
     let u = label.state in
     let end : AllLack s (counts_text u.placed ∷ counts_text u.ages ∷ whole_text label.cost ∷ []) = (
       counts_lack s (2 ^ 16) u.placed (omega arith) (omega arith) h.state.placed,
@@ -100,7 +100,7 @@ labelled fitness total d labels = record d { stands = Labels fitness; count = de
 
 label_step : (fitness : Bool) (total : ℕ) (d : Draft) (done : List Label) (label : Label) → length done < total →
     total < 2 ^ 64 → IsPrintedLabel fitness label →
-    step (labelled fitness total d done) (joined 32 (printed_words fitness (length done + 1) label))
+    step (labelled fitness total d done) (joined 32 (codes "label" ∷ rest_words fitness (length done + 1) label))
     ≡ Some (labelled fitness total d (done ++ label ∷ []))
 unfolding step label_line
 label_step fitness total d done label less small h =
@@ -108,7 +108,7 @@ label_step fitness total d done label less small h =
     rw (
       other_number (length done) total less (omega arith),
       joined_parts 32 (codes "label") (rest_words fitness (length done + 1) label)
-          (printed_words_lack 32 (omega arith) fitness (length done + 1) small_here label h),
+          (label_words_lack 32 (omega arith) fitness (length done + 1) small_here label h),
       label_reads fitness (length done + 1) label h,
     ) refl
 
@@ -119,12 +119,13 @@ label_line_reads : (fitness : Bool) (total : ℕ) (d : Draft) (done : List Label
 label_line_reads fitness total d done label less small h =
     let small_here : length done + 1 < 10 ^ 64 = omega arith in
     reads_as (labelled fitness total d done) (labelled fitness total d (done ++ label ∷ []))
-    (line (joined 32 (printed_words fitness (length done + 1) label))) (printed_label fitness (length done + 1) label)
+    (line (joined 32 (codes "label" ∷ rest_words fitness (length done + 1) label)))
+    (printed_label fitness (length done + 1) label)
     (sym (label_line_is fitness (length done + 1) label))
     (reads_line (labelled fitness total d done) (labelled fitness total d (done ++ label ∷ []))
-    (joined 32 (printed_words fitness (length done + 1) label))
-    (joined_lacks 10 32 (printed_words fitness (length done + 1) label) refl
-    (printed_words_lack 10 (omega arith) fitness (length done + 1) small_here label h))
+    (joined 32 (codes "label" ∷ rest_words fitness (length done + 1) label))
+    (joined_lacks 10 32 (codes "label" ∷ rest_words fitness (length done + 1) label) refl
+    (label_words_lack 10 (omega arith) fitness (length done + 1) small_here label h))
     (label_step fitness total d done label less small h))
 
 pub labels_read : (fitness : Bool) (total : ℕ) (d : Draft) (done rest : List Label) →

@@ -24,6 +24,7 @@ abbrev pub fit_words : Bool → State → List (List ℕ) → List (List ℕ)
 fit_words false u words = words
 fit_words true u words = option_text decimal u.fitness ∷ words
 
+-- the words of a label's line behind the first
 abbrev pub rest_words : Bool → ℕ → Label → List (List ℕ)
 rest_words fitness number label =
     decimal number ∷ decimal label.state.place.block ∷ decimal label.state.place.variant
@@ -32,9 +33,6 @@ rest_words fitness number label =
     ∷ fit_words fitness label.state (counts_text label.state.placed ∷ counts_text label.state.ages ∷ whole_text
     label.cost ∷ [])
 
-abbrev pub printed_words : Bool → ℕ → Label → List (List ℕ)
-printed_words fitness number label = codes "label" ∷ rest_words fitness number label
-
 -- the pieces of a label's line, regrouped
 regrouped : (l n b v i c s r w f p a z e : List ℕ) →
     ((l ++ n ++ (b ++ v ++ i)) ++ (c ++ s ++ r)) ++ ((w ++ f) ++ (p ++ a)) ++ (z ++ e)
@@ -42,7 +40,7 @@ regrouped : (l n b v i c s r w f p a z e : List ℕ) →
 regrouped l n b v i c s r w f p a z e = simp append_assoc
 
 pub label_line_is : (fitness : Bool) (number : ℕ) (label : Label) →
-    label_line fitness number label ≡ line (joined 32 (printed_words fitness number label))
+    label_line fitness number label ≡ line (joined 32 (codes "label" ∷ rest_words fitness number label))
 unfolding label_place label_page label_room label_floats front_text rest_text label_line
 label_line_is false number label = regrouped (codes "label ") (decimal number) (32 ∷ decimal label.state.place.block)
     (32 ∷ decimal label.state.place.variant) (32 ∷ decimal label.state.place.index) (32 ∷ decimal label.state.column)
@@ -103,7 +101,7 @@ wide_reads o h = option_reads scaled_word scaled_text o
     (λ (z : ℤ) (e : o ≡ Some z). (scaled_no_dash z (h z e), scaled_reads z (h z e)))
 
 pub label_reads : (fitness : Bool) (number : ℕ) (label : Label) → IsPrintedLabel fitness label →
-    label_of fitness number (printed_words fitness number label) ≡ Some label
+    label_of fitness number (codes "label" ∷ rest_words fitness number label) ≡ Some label
 unfolding label_of label_front label_rest label_from
 label_reads false number label h =
     let u = label.state in

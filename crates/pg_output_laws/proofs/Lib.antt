@@ -11,7 +11,6 @@ pub mod Ranges
 pub mod Places
 pub mod Items
 pub mod Rooms
-pub mod Penalties
 pub mod Placed
 pub mod States
 pub mod Moves

@@ -18,18 +18,19 @@ use Rattle.pg_flat.specs.Break.{break_penalty, item_break, follows_solid, has_at
 use Rattle.pg_rules.specs.ColumnRules.{text_goal, text_total, text_badness, segment}
 use Rattle.pg_rules.specs.Cost.{text_demerits}
 use Rattle.pg_rules.specs.History.{next_column, next_run, place_of, context}
-use Rattle.pg_rules.specs.Room.{Document, ColumnContext, items_of, is_top_allowed, is_bottom_allowed}
+use Rattle.pg_rules.specs.Room.{Document, ColumnContext, flat_items_of, items_of, is_top_allowed, is_bottom_allowed}
 use Rattle.pg_pages.specs.PageText.{end_penalty}
-use Rattle.pg_bound_laws.proofs.Prices.{page_badness_few}
+use Rattle.pg_pages.proofs.Printed.{map_length}
+use Rattle.pg_pages.proofs.TextColumn.{trimmed_few}
+use Rattle.pg_bound_laws.proofs.Prices.{page_badness_few, text_few}
+use Rattle.pg_column.proofs.Spans.{ahead_few}
 use Rattle.pg_column_laws.specs.Stands.{Stand}
 use Rattle.pg_column_laws.proofs.GalleyFacts.{stand_place}
 use Rattle.pg_word_laws.specs.Ranges.{IsPrintedPlace, is_wide}
 use Rattle.pg_output_laws.specs.PageRanges.{IsPrintedNumbers, IsPrintedMove, ArePrintedMoves}
-use Rattle.pg_output_laws.specs.GalleyRanges.{HasPenaltyInRange, HavePenaltiesInRange}
-use Rattle.pg_output_laws.proofs.Penalties.{text_few}
 use Rattle.pg_output_laws.proofs.Ranges.{wide_few, top_few, bottom_few, run_few, column_picks_few, size_there}
 use Rattle.pg_output_laws.proofs.Places.{all_at, place_printed}
-use Rattle.pg_output_laws.proofs.Items.{at_all, at_long, all_take, trimmed_all, trimmed_long, blocks_items, total_few}
+use Rattle.pg_output_laws.proofs.Items.{at_all, all_take, trimmed_all, blocks_items, total_few}
 use Rattle.pg_output_laws.proofs.Rooms.{goal_few, wide_height_few}
 
 pub few_is_wide : (z : ℤ) → nat_abs z ≤ 2 ^ 126 → is_wide z ≡ true
@@ -57,7 +58,7 @@ none_few = omega arith
 zero_few : IsFew (Some (pos 0))
 zero_few = omega arith
 
-item_few : (flat : List Item) (k : ℕ) (item : Item) → HasPenaltyInRange item → IsFew (item_break flat k item)
+item_few : (flat : List Item) (k : ℕ) (item : Item) → IsItemInRange item → IsFew (item_break flat k item)
 item_few flat k (BoxItem h d body) a = none_few
 item_few flat k (Rule h d body) a = none_few
 item_few flat k (Glue w s o t body) a = few_if (follows_solid flat k) (Some (pos 0)) None zero_few none_few
@@ -66,31 +67,34 @@ item_few flat k (Penalty value body) a = few_if (int_lt value (pos 10000)) (Some
 item_few flat k (Insert c s body) a = none_few
 item_few flat k (Carry body) a = none_few
 
-break_few : (flat : List Item) (k : ℕ) → AllByRecursion HasPenaltyInRange flat → IsFew (break_penalty flat k)
+break_few : (flat : List Item) (k : ℕ) → AllByRecursion IsItemInRange flat → IsFew (break_penalty flat k)
 break_few flat k a = few_if (k == length flat) (Some (pos 0)) _ zero_few (by (slice_get flat k) refl)
   where
     by : (o : Option Item) → o ≡ slice_get flat k → IsFew (option_map_or (item_break flat k) o None)
     by None e = none_few
-    by (Some item) e = item_few flat k item (all_at HasPenaltyInRange flat k item a (sym e))
+    by (Some item) e = item_few flat k item (all_at IsItemInRange flat k item a (sym e))
 
 -- ---- one column
 
 module _ (doc : Document) (range : IsStyle doc.style) (a : AllByRecursion IsBlock doc.blocks)
-    (limit : item_count doc.blocks ≤ item_limit) (penalties : HavePenaltiesInRange doc.blocks) where
+    (limit : item_count doc.blocks ≤ item_limit) where
   segment_long : (it : ColumnContext) → it.document ≡ doc → (n : ℕ) → length (segment it n) ≤ 2 ^ 21
   segment_long it is n =
-      let t = trimmed_long (take n (items_of it)) in
+      let t = trimmed_few (take n (items_of it)) in
       let l = length-take n (items_of it) in
-      let m = at_long it.document.blocks it.column.from it.column.picks in
+      let m = map_length (flat_items_of it) in
+      let f = ahead_few it.document.blocks it.column.from it.column.picks in
       let c : item_count it.document.blocks ≤ item_limit =
       subst (λ (d : Document). item_count d.blocks ≤ item_limit) (sym is) limit in
-      omega (arith, t, l, m, c)
+      omega (arith, t, l, m, f, c)
+
+  items_all : (m : PageMove) (ms : List PageMove) → AllByRecursion IsItemInRange (items_of (context doc m ms))
+  items_all m ms = at_all IsItemInRange doc.blocks m.column.from m.column.picks (blocks_items doc.blocks a)
 
   segment_all : (m : PageMove) (ms : List PageMove) (n : ℕ) →
       AllByRecursion IsItemInRange (segment (context doc m ms) n)
   segment_all m ms n = trimmed_all IsItemInRange (take n (items_of (context doc m ms)))
-      (all_take IsItemInRange n (items_of (context doc m ms))
-      (at_all IsItemInRange doc.blocks m.column.from m.column.picks (blocks_items doc.blocks a)))
+      (all_take IsItemInRange n (items_of (context doc m ms)) (items_all m ms))
 
   numbers_printed : (m : PageMove) (ms : List PageMove) (n : ℕ) → let it = context doc m ms in
       IsPrintedNumbers (text_goal it n) (text_total it n) (text_badness it n) (end_penalty it n) (text_demerits it n)
@@ -98,7 +102,7 @@ module _ (doc : Document) (range : IsStyle doc.style) (a : AllByRecursion IsBloc
       let it = context doc m ms in
       let long = segment_long it refl n in
       let b = page_badness_few (is_spent (items_of it) n) (text_goal it n) (text_total it n) (segment it n) in
-      let p = break_few (items_of it) n (at_all HasPenaltyInRange doc.blocks m.column.from m.column.picks penalties) in
+      let p = break_few (items_of it) n (items_all m ms) in
       let d = text_few it range.line_in n in
       record {
         goal_in = goal_few it range a (wide_height_few doc (m ∷ ms) range.wide_in a) n (segment_all m ms n) long;

@@ -1,7 +1,7 @@
 -- No more floats of a class are placed than there are floats.
-use Rattle.std.proofs.Common.{◌≡◌, subst, ℕ, zero, suc, ◌+◌, ◌≤◌, ◌<◌, ◌^◌, List, [], ◌∷◌, length, map, inl, inr, arith}
+use Rattle.std.proofs.Common.{◌≡◌, subst, ℕ, zero, suc, ◌+◌, ◌≤◌, ◌<◌, ◌^◌, List, [], ◌∷◌, length, map, arith}
 use Rattle.std.specs.Prelude.{nat_le, ℤ}
-use Rattle.std.specs.List.{AllByRecursion, range_with_len, sum_by}
+use Rattle.std.specs.List.{AllByRecursion, sum_by}
 use Rattle.std.proofs.lemmas.Bool.{leb-true}
 use Rattle.std.proofs.lemmas.List.Sums.{sum_by-cons}
 use Rattle.pg_list.specs.declared.item.Item.{Item}
@@ -15,6 +15,7 @@ use Rattle.pg_rules.specs.Room.{Document}
 use Rattle.pg_place_laws.proofs.Among.{Among, all_at}
 use Rattle.pg_place_laws.proofs.Callouts.{called_total}
 use Rattle.pg_floats.specs.AreFloats.{float_total}
+use Rattle.pg_space_laws.proofs.Bounds.{slot_among}
 use Rattle.pg_word_laws.specs.Ranges.{AllBelow}
 
 -- one class has no more than all together
@@ -33,13 +34,6 @@ class_few before all (number ∷ numbers) (suc slot) h =
     let sum = sum_by-cons (λ (sizes : List ℤ). length sizes) (sizes_of number all)
     (map (λ (n : ℕ). sizes_of n all) numbers) in
     omega (arith, rest, sum)
-
-slot_among : (first count i : ℕ) → i < count → Among (first + i) (range_with_len first count)
-slot_among first zero i h = absurd (omega arith)
-slot_among first (suc count) zero h = inl (let e : first ≡ first + 0 = omega arith in e)
-slot_among first (suc count) (suc i) h =
-    inr (let e : first + 1 + i ≡ first + suc i = omega arith in
-    subst (λ (z : ℕ). Among z (range_with_len (first + 1) count)) e (slot_among (first + 1) count i (omega arith)))
 
 all_entries : (bound : ℕ) (counts : List ℕ) → ((i : ℕ) → i < length counts → entry counts i < bound) →
     AllBelow bound counts

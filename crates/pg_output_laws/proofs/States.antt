@@ -24,7 +24,7 @@ use Rattle.pg_style.specs.declared.style.Area.{Area}
 use Rattle.pg_column_laws.proofs.StyleFacts.{class_table}
 use Rattle.pg_word_laws.specs.Ranges.{AllBelow}
 use Rattle.pg_output_laws.specs.Ranges.{IsPrintedState, ArePrintedLabels}
-use Rattle.pg_output_laws.specs.GalleyRanges.{AreStatesInRange}
+use Rattle.pg_output_laws.specs.StateRanges.{AreStatesInRange}
 use Rattle.pg_output_laws.proofs.Ranges.{some_within}
 use Rattle.pg_output_laws.proofs.Places.{place_printed}
 use Rattle.pg_output_laws.proofs.Placed.{placed_below}

@@ -11,7 +11,7 @@ use Rattle.pg_labels.specs.Reading.{output_of}
 use Rattle.pg_labels.specs.declared.output.Output.{Output}
 use Rattle.pg_labels.specs.declared.output.Shown.TheVariants.{Pages, NoLegal}
 use Rattle.pg_word_laws.specs.Ranges.{is_wide}
-use Rattle.pg_output_laws.specs.GalleyRanges.{AreStatesInRange}
+use Rattle.pg_output_laws.specs.StateRanges.{AreStatesInRange}
 use Rattle.pg_output_laws.specs.Ranges.{ArePrintedLabels}
 
 -- what is read of the text of a pagination and of labels

@@ -1,4 +1,4 @@
 pub mod Ranges
 pub mod PageRanges
-pub mod GalleyRanges
+pub mod StateRanges
 pub mod Laws

@@ -15,7 +15,7 @@ use Rattle.pg_lemmas.proofs.Bools.{both_of}
 use Rattle.pg_lemmas.proofs.Numbers.{less_of}
 use Rattle.pg_pages.specs.Sheets.{columns_from, is_any, placed_from, sheet_behind, sheet_text}
 use Rattle.pg_pages.specs.PageText.{area, float_bodies, floats_text, page_line}
-use Rattle.pg_pages.specs.Printed.{dealt_text}
+use Rattle.pg_pages.specs.Printed.{dealt_text, wide_by}
 use Rattle.pg_pages.proofs.Grown.{two_parts}
 
 any_step : (n m : ℕ) (b : Bool) → b ≡ nat_lt 0 m → (nat_lt 0 n || b) ≡ nat_lt 0 (n + m)
@@ -62,9 +62,9 @@ pub sheet_is : (doc : Document) (number : ℕ) (placed : List ℕ) (page : Page)
     wide ≡ made_wide doc placed page.wide → (before : List ℕ) → before ≡ plus_counts doc.style placed page.wide →
     (columns : List Column) → columns ≡ page.columns → (old mid new : List ℕ) →
     mid ≡ old ++ (page_line number (side_of doc.style.first number) page.run page.wide
-    ++ area (codes "wide") (dealt_text bodies placed page.wide)) → new ≡ mid ++ columns_from doc run wide 1 before columns →
+    ++ wide_by bodies placed page.wide) → new ≡ mid ++ columns_from doc run wide 1 before columns →
     new ≡ old ++ sheet_text doc number placed page
-unfolding floats_text
+unfolding floats_text wide_by
 sheet_is doc number placed page bodies b run r wide w before p columns c old mid new m n =
     let front = page_line number (side_of doc.style.first number) page.run page.wide in
     let floats = area (codes "wide") (dealt_text (float_bodies doc) placed page.wide) in

@@ -33,12 +33,12 @@ use Rattle.pg_column.proofs.Passing.{InRange, at_ranges}
 use Rattle.pg_column.proofs.Spans.{ahead_few}
 use Rattle.pg_lemmas.proofs.Bools.{both_of, if_false}
 use Rattle.pg_lemmas.proofs.Lists.{all_take}
-use Rattle.pg_pages.specs.PageText.{area, bottom_area, column_body, column_line, float_column, float_bodies, floats_text, inserted, items_text, set_line, text_area, text_column, top_area}
+use Rattle.pg_pages.specs.PageText.{area, bottom_area, column_body, column_line, float_column, float_bodies, floats_text, inserted, items_text, notes_text, set_line, text_area, text_column, top_area}
 use Rattle.pg_words.specs.Written.{line}
 use Rattle.pg_pages.specs.Seated.{seated}
 use Rattle.pg_pages.specs.Sheets.{seat_text}
 use Rattle.pg_pages.specs.declared.seats.Seat.{Seat}
-use Rattle.pg_pages.specs.Printed.{bare_text, dealt_text, items_to, numbers_text, read_text, text_by}
+use Rattle.pg_pages.specs.Printed.{bare_text, bottom_by, dealt_text, items_to, numbers_text, read_above, read_below, read_text, text_by, top_by}
 use Rattle.pg_pages.proofs.ColumnText.{notes_are, widths_are}
 use Rattle.pg_pages.proofs.Excess.{excess_small}
 use Rattle.pg_pages.proofs.Numbers.{printed}
@@ -68,7 +68,7 @@ fewer_by true d item items h = omega arith
 fewer_by false true item items h = omega (arith, h)
 fewer_by false false item items h = omega (arith, h)
 
-trimmed_few : (items : List Item) → length (trimmed items) ≤ length items
+pub trimmed_few : (items : List Item) → length (trimmed items) ≤ length items
 trimmed_few [] = omega arith
 trimmed_few (item ∷ items) = fewer_by (is_box item) (is_discardable item) item items (trimmed_few items)
 
@@ -205,7 +205,7 @@ module _ (it : ColumnContext) (all : AllByRecursion IsBlock it.document.blocks) 
           (ap (λ (o : Option ℤ). option_map_or (λ (penalty : ℤ). penalty) o (pos 0)) are.penalty) are.demerits
 
       text_is : text_by it.document.style (segment it n) numbers.goal numbers.total spent ≡ text_area it n
-      unfolding text_area
+      unfolding text_area text_by
       text_is = rw (are.goal, are.total, spent_is)
           (ap (λ (widths : List ℤ). line (codes "area text")
           ++ items_text it.document.style.topskip (segment it n) widths)
@@ -218,14 +218,15 @@ module _ (it : ColumnContext) (all : AllByRecursion IsBlock it.document.blocks) 
 
       column_is : read_text it.document.style (float_bodies it.document) it.before (before_bottom it) it.column
           (segment it n) numbers spent ≡ text_column it n
-      unfolding read_text
+      unfolding bottom_by read_above read_below read_text top_by
       column_is = rw (
         line_is,
         text_is,
         dealt_is it.before it.column.top,
         dealt_is (before_bottom it) it.column.bottom,
         notes_are it.document.style (segment it n) style.classes_in,
-      ) refl
+      ) (ap (λ (text : List ℕ). text ++ area (codes "notes") (notes_text it.document.style (segment it n)))
+          (sym (append_assoc (set_line it n ++ top_area it) (text_area it n) (bottom_area it))))
 
       pub column_text_is : (bodies : List (List (List ℕ))) (before below : List ℕ) (items : List Item) →
           bodies ≡ float_bodies it.document → before ≡ it.before → below ≡ before_bottom it → items ≡ segment it n →

@@ -114,6 +114,10 @@ lent bodies = map (λ own. behind own.items) bodies
 abbrev pub dealt_text : List (List (List ℕ)) → List ℕ → List ℕ → List ℕ
 dealt_text bodies before counts = flat_map body_text (dealt_from 0 bodies before counts)
 
+-- the wide area of a page
+unfoldable pub wide_by : List (List (List ℕ)) → List ℕ → List ℕ → List ℕ
+wide_by bodies before counts = area (codes "wide") (dealt_text bodies before counts)
+
 -- ---- numbers
 
 -- the goal and the total
@@ -139,16 +143,32 @@ abbrev pub FitTogether : List ℕ → List ℕ → Type 0
 FitTogether a b = (slot : ℕ) → entry a slot + entry b slot < 2 ^ 16
 
 -- the text area of these items
-abbrev pub text_by : StyleValue → List Item → ℤ → ℤ → Bool → List ℕ
+unfoldable pub text_by : StyleValue → List Item → ℤ → ℤ → Bool → List ℕ
 text_by style items goal total is_spent =
     line (codes "area text") ++ items_text style.topskip items (widths_by items goal total is_spent)
 
+-- the area at the top of a column, behind so many placed floats
+unfoldable pub top_by : List (List (List ℕ)) → List ℕ → Column → List ℕ
+top_by bodies before column = area (codes "top") (dealt_text bodies before column.top)
+
+-- the area at its bottom
+unfoldable pub bottom_by : List (List (List ℕ)) → List ℕ → Column → List ℕ
+bottom_by bodies below column = area (codes "bottom") (dealt_text bodies below column.bottom)
+
+-- the numbers of a column of text, and its top area
+unfoldable pub read_above : List (List (List ℕ)) → List ℕ → Column → TextCost → List ℕ
+read_above bodies before column numbers = numbers_text numbers ++ top_by bodies before column
+
+-- the text area of these items, and the bottom area below it
+unfoldable pub read_below : StyleValue → List (List (List ℕ)) → List ℕ → Column → List Item → TextCost → Bool → List ℕ
+read_below style bodies below column items numbers is_spent =
+    text_by style items numbers.goal numbers.total is_spent ++ bottom_by bodies below column
+
 -- the text of a column whose text has these items and numbers
-unfoldable pub read_text : StyleValue → List (List (List ℕ)) → List ℕ → List ℕ → Column → List Item → TextCost → Bool → List ℕ
+unfoldable pub read_text : StyleValue → List (List (List ℕ)) → List ℕ → List ℕ → Column → List Item → TextCost → Bool →
+    List ℕ
 read_text style bodies before below column items numbers is_spent =
-    numbers_text numbers ++ area (codes "top") (dealt_text bodies before column.top)
-    ++ text_by style items numbers.goal numbers.total is_spent
-    ++ area (codes "bottom") (dealt_text bodies below column.bottom)
+    read_above bodies before column numbers ++ read_below style bodies below column items numbers is_spent
     ++ area (codes "notes") (notes_by style.classes items)
 
 -- a column without text, with these floats at the top and at the bottom

@@ -17,7 +17,7 @@ ghost use Rattle.pg_scaled.specs.Scaled.{Grows};
 ghost use Rattle.pg_pages.specs.PageText.{area, column_body, column_line, float_bodies, float_column, items_text, text_column};
 ghost use Rattle.pg_pages.specs.Seated.{MayPrint, seated};
 ghost use Rattle.pg_words.specs.Written.{line};
-ghost use Rattle.pg_pages.specs.Printed.{IsPrintable, behind, dealt_text, items_to, bare_text, lent, notes_by, read_text, text_by};
+ghost use Rattle.pg_pages.specs.Printed.{IsPrintable, behind, dealt_text, items_to, bare_text, bottom_by, lent, notes_by, read_above, read_below, read_text, text_by, top_by};
 
 use crate::areas::{close_area, open_area, print_dealt, print_notes};
 use crate::glue::widths_of;
@@ -130,15 +130,31 @@ struct Placed<'a> {
     below: &'a [u16],
 }
 
-// The bottom area of a column.
-fn print_bottom(
+// The top area of a column.
+#[tactic(auto, unfolding(crate::specs::Printed::top_by))]
+fn print_top_area(
     bodies: &[Vec<&[u8]>],
     placed: &Placed<'_>,
     column: &Column,
     out: &mut Vec<u8>,
 ) -> Result<(), AllocError>
     ensures ok { OnOk result (out.new.items ≡ out.old.items
-        ++ area (codes "bottom") (dealt_text (lent bodies.now) placed.now.below.now column.now.bottom)) }
+        ++ top_by (lent bodies.now) placed.now.before.now column.now) }
+    ensures grows { Grows out.old.items out.new.items }
+{
+    print_floats(b"top", bodies, placed.before, column.top.as_slice(), out)
+}
+
+// The bottom area of a column.
+#[tactic(auto, unfolding(crate::specs::Printed::bottom_by))]
+fn print_bottom_area(
+    bodies: &[Vec<&[u8]>],
+    placed: &Placed<'_>,
+    column: &Column,
+    out: &mut Vec<u8>,
+) -> Result<(), AllocError>
+    ensures ok { OnOk result (out.new.items ≡ out.old.items
+        ++ bottom_by (lent bodies.now) placed.now.below.now column.now) }
     ensures grows { Grows out.old.items out.new.items }
 {
     print_floats(
@@ -148,6 +164,48 @@ fn print_bottom(
         column.bottom.as_slice(),
         out,
     )
+}
+
+// The numbers of a column of text, and its top area.
+#[tactic(auto, unfolding(crate::specs::Printed::read_above))]
+fn print_above(
+    bodies: &[Vec<&[u8]>],
+    placed: &Placed<'_>,
+    column: &Column,
+    numbers: &TextCost,
+    out: &mut Vec<u8>,
+) -> Result<(), AllocError>
+    ensures ok { OnOk result (out.new.items ≡ out.old.items
+        ++ read_above (lent bodies.now) placed.now.before.now column.now numbers.now) }
+    ensures grows { Grows out.old.items out.new.items }
+{
+    print_numbers(numbers, out)?;
+    print_top_area(bodies, placed, column, out)
+}
+
+// The text area of a column with these items and numbers, and the bottom area below it.
+#[tactic(auto, unfolding(crate::specs::Printed::read_below))]
+fn print_below(
+    style: &Style,
+    bodies: &[Vec<&[u8]>],
+    placed: &Placed<'_>,
+    column: &Column,
+    items: &[&Item],
+    numbers: &TextCost,
+    is_spent: bool,
+    out: &mut Vec<u8>,
+) -> Result<(), AllocError>
+    requires few { length items.now ≤ item_limit }
+    requires ranges { AllByRecursion IsItemInRange (behind items.now) }
+    requires excess { nat_abs (numbers.now.goal -ℤ numbers.now.total) < 2 ^ 52 }
+    ensures ok { OnOk result (out.new.items ≡ out.old.items
+        ++ read_below style.now (lent bodies.now) placed.now.below.now column.now
+        (behind items.now) numbers.now is_spent) }
+    ensures grows { Grows out.old.items out.new.items }
+{
+    print_text_area(style, items, numbers, is_spent, out)?;
+    print_bottom_area(bodies, placed, column, out)?;
+    Ok(())
 }
 
 // A column whose text has these items and numbers.
@@ -170,10 +228,8 @@ fn print_read(
         (behind items.now) numbers.now is_spent) }
     ensures grows { Grows out.old.items out.new.items }
 {
-    print_numbers(numbers, out)?;
-    print_floats(b"top", bodies, placed.before, column.top.as_slice(), out)?;
-    print_text_area(style, items, numbers, is_spent, out)?;
-    print_bottom(bodies, placed, column, out)?;
+    print_above(bodies, placed, column, numbers, out)?;
+    print_below(style, bodies, placed, column, items, numbers, is_spent, out)?;
     print_note_area(style.classes.as_slice(), items, out)
 }
 
@@ -254,6 +310,7 @@ fn print_number_line(name: &[u8], number: u128, out: &mut Vec<u8>) -> Result<(),
 }
 
 // The floats of a column without text.
+#[tactic(auto, unfolding(crate::specs::Printed::top_by, crate::specs::Printed::bottom_by))]
 fn print_areas(
     bodies: &[Vec<&[u8]>],
     placed: &Placed<'_>,
@@ -265,8 +322,8 @@ fn print_areas(
         ++ area (codes "bottom") (dealt_text (lent bodies.now) placed.now.below.now column.now.bottom))) }
     ensures grows { Grows out.old.items out.new.items }
 {
-    print_floats(b"top", bodies, placed.before, column.top.as_slice(), out)?;
-    print_bottom(bodies, placed, column, out)
+    print_top_area(bodies, placed, column, out)?;
+    print_bottom_area(bodies, placed, column, out)
 }
 
 // What a column without text costs.

@@ -1,13 +1,13 @@
 //! Pages in reading order.
-ghost use Rattle.std.specs.Prelude.{◌≡◌, ◌++◌, [], List, OnOk, OnErr, IfOk, codes, length, true};
+ghost use Rattle.std.specs.Prelude.{◌≡◌, ◌++◌, [], List, OnOk, OnErr, IfOk, length, true};
 ghost use Rattle.pg_rules.specs.Floats.{float_numbers, is_area_allowed, plus_counts, takes_wide};
 ghost use Rattle.pg_list.specs.declared.blocks.Block.{Block as ABlock};
 ghost use Rattle.pg_rules.specs.History.{made_wide as made_wide_of, placed_of, side_of as side_in};
 ghost use Rattle.pg_rules.specs.Legal.{Legal, document};
 ghost use Rattle.pg_floats.specs.AreFloats.{AreFloats};
 ghost use Rattle.pg_scaled.specs.Scaled.{Grows};
-ghost use Rattle.pg_pages.specs.PageText.{area, float_bodies as bodies_in, page_line, page_text};
-ghost use Rattle.pg_pages.specs.Printed.{FitTogether, dealt_text, lent};
+ghost use Rattle.pg_pages.specs.PageText.{float_bodies as bodies_in, page_line, page_text};
+ghost use Rattle.pg_pages.specs.Printed.{FitTogether, lent, wide_by};
 ghost use Rattle.pg_pages.specs.Sheets.{AreFilled, MayFrom, MaySheet, MaySheets, columns_from, is_any, placed_behind, placed_from, sheet_behind, sheet_text, sheets_text};
 
 use crate::areas::float_bodies;
@@ -110,6 +110,26 @@ fn made_wide(floats: &FloatList, style: &Style, placed: &Counts, counts: &Counts
     }
 }
 
+// The wide area of a page, behind so many placed floats.
+#[tactic(auto, unfolding(crate::specs::Printed::wide_by))]
+fn print_wide_area(
+    bodies: &[Vec<&[u8]>],
+    placed: &Counts,
+    page: &Page,
+    out: &mut Vec<u8>,
+) -> Result<(), AllocError>
+    ensures ok { OnOk result (out.new.items ≡ out.old.items ++ wide_by (lent bodies.now) placed.now page.now.wide) }
+    ensures grows { Grows out.old.items out.new.items }
+{
+    print_floats(
+        b"wide",
+        bodies,
+        placed.as_slice(),
+        page.wide.as_slice(),
+        out,
+    )
+}
+
 // The line of a page and its wide area.
 fn print_page_head(
     style: &Style,
@@ -121,17 +141,11 @@ fn print_page_head(
 ) -> Result<(), AllocError>
     ensures ok { OnOk result (out.new.items ≡ out.old.items
         ++ (page_line number (side_in style.now.first number) page.now.run page.now.wide
-        ++ area (codes "wide") (dealt_text (lent bodies.now) placed.now page.now.wide))) }
+        ++ wide_by (lent bodies.now) placed.now page.now.wide)) }
     ensures grows { Grows out.old.items out.new.items }
 {
     print_side_line(number, side_of(style.first, number), page, out)?;
-    print_floats(
-        b"wide",
-        bodies,
-        placed.as_slice(),
-        page.wide.as_slice(),
-        out,
-    )
+    print_wide_area(bodies, placed, page, out)
 }
 
 // Where the first column of a page stands.

@@ -1,7 +1,7 @@
 -- The last column of a front.
-use Rattle.std.proofs.Common.{◌≡◌, ◌∙◌, refl, sym, ap, arith, ℕ, ◌-◌, ◌<◌, List, [], ◌∷◌, ◌++◌, length, take, get_or, Bool, true, false}
+use Rattle.std.proofs.Common.{◌≡◌, ◌∙◌, refl, sym, ap, arith, ℕ, suc, ◌-◌, ◌<◌, List, [], ◌∷◌, ◌++◌, length, take, get_or, Bool, true, false}
 use Rattle.std.specs.Prelude.{reverse, map}
-use Rattle.std.proofs.lemmas.List.{map-id, map-append, reverse-append}
+use Rattle.std.proofs.lemmas.List.{length-map, map-id, map-append, reverse-append}
 use Rattle.pg_plan.specs.declared.pages.Column.{Column}
 use Rattle.pg_plan.specs.declared.pages.Page.{Page}
 use Rattle.pg_plan.specs.declared.pages.PageMove.{PageMove}
@@ -24,6 +24,15 @@ moves run wide (column ∷ columns) =
 page_is : (page : Page) (columns : List Column) → page_moves page columns ≡ moves page.run page.wide columns
 page_is page [] = refl
 page_is page (column ∷ columns) = refl
+
+-- a page has a move for each of its columns
+pub moves_long : (page : Page) (columns : List Column) → length (page_moves page columns) ≡ length columns
+moves_long page [] = refl
+moves_long page (column ∷ columns) = ap suc (length-map columns (λ (later : Column). record {
+  column = later;
+  run = page.run;
+  wide = no_floats page.wide;
+}))
 
 abbrev seated : ℕ → List ℕ → Bool → Column → PageMove
 seated run wide is_first column = record { column = column; run = run; wide = wide_of is_first wide }

@@ -1,10 +1,11 @@
 -- What is kept of a place.
 use Rattle.std.proofs.Common.{◌≡◌, refl, sym, ap, subst, ◌∙◌, ℕ, zero, suc, ◌+◌, ◌<◌, true, false, Bool, ℤ, arith, get_or}
-use Rattle.std.specs.Prelude.{List, [], ◌∷◌, ◌++◌, length, take, if◌then◌else◌, Contains}
+use Rattle.std.specs.Prelude.{List, [], ◌∷◌, ◌++◌, ◌≤ℤ◌, length, take, if◌then◌else◌, Contains}
 use Rattle.std.specs.List.{AllByRecursion}
 use Rattle.std.specs.Ordering.{int_eq}
 use Rattle.std.proofs.Math.Seq.{take-length}
 use Rattle.std.proofs.lemmas.Bool.Decides.{Decides-int_eq}
+use Rattle.std.proofs.lemmas.Int.{ints}
 use Rattle.pg_ends.specs.Ends.{AreEnds}
 use Rattle.pg_ends.specs.declared.end.End.{End}
 use Rattle.pg_lemmas.proofs.Bools.{by_bool, if_false, if_true}
@@ -12,11 +13,10 @@ use Rattle.pg_lemmas.proofs.Lists.{all_append, none_among}
 use Rattle.pg_laid.specs.declared.laid.Laid.{Laid}
 use Rattle.pg_list.specs.declared.galley.Place.{Place}
 use Rattle.pg_rules.specs.Room.{Document}
-use Rattle.pg_walk.specs.declared.place.PlaceWalk.{PlaceWalk}
-use Rattle.pg_walk_laws.specs.Candidates.{AreCandidates}
+use Rattle.pg_style.specs.Values.{StyleValue}
 use Rattle.pg_walk_laws.specs.Reached.{tallest}
 use Rattle.pg_rooms.proofs.Grouped.{all_more}
-use Rattle.pg_rooms.specs.PlaceEnds.{AreGroups, ArePlaceEnds, AreRoomEnds, ends_in, groups_in, has_room}
+use Rattle.pg_rooms.specs.PlaceEnds.{AreGroups, ArePlaceEnds, AreRoomEnds, IsWithin, ends_in, groups_in, has_room}
 use Rattle.pg_rooms.specs.declared.grouping.Group.{Group}
 use Rattle.pg_rooms.specs.declared.place_ends.PlaceEnds.{PlaceEnds}
 use Rattle.pg_rooms.specs.declared.place_ends.RoomEnds.{RoomEnds}
@@ -56,15 +56,11 @@ pub has_still : (rooms now : List RoomEnds) (it : RoomEnds) (room : ℤ) → now
 has_still rooms now it room push h =
     subst (λ (xs : List RoomEnds). has_room xs room ≡ true) (sym push) (has_front rooms (it ∷ []) room h)
 
--- what is kept with it is right
-pub right_added : (doc : Document) (from : Place) (old now : PlaceEnds) (it : RoomEnds) → now.walk ≡ old.walk →
-    now.rooms.items ≡ old.rooms.items ++ it ∷ [] → ArePlaceEnds doc from old → AreRoomEnds doc from it →
-    ArePlaceEnds doc from now
-right_added doc from old now it walk push are own = record {
-  found = subst (λ (w : PlaceWalk). AreCandidates doc from (tallest doc.style) w.found) (sym walk) are.found;
-  rooms = subst (AllByRecursion (AreRoomEnds doc from)) (sym push)
-      (all_append (AreRoomEnds doc from) old.rooms.items (it ∷ []) are.rooms (own, tt));
-}
+-- with it all ends are right
+pub rooms_added : (doc : Document) (from : Place) (old now : List RoomEnds) (it : RoomEnds) → now ≡ old ++ it ∷ [] →
+    AllByRecursion (AreRoomEnds doc from) old → AreRoomEnds doc from it → AllByRecursion (AreRoomEnds doc from) now
+rooms_added doc from old now it push are own = subst (AllByRecursion (AreRoomEnds doc from)) (sym push)
+    (all_append (AreRoomEnds doc from) old (it ∷ []) are (own, tt))
 
 -- ---- the rooms of layouts
 
@@ -95,6 +91,32 @@ pub has_each : (rooms : List RoomEnds) (laid : List Laid) (i : ℕ) → i ≡ le
 has_each rooms laid i done all it c = all_contain (λ (x : Laid). has_room rooms x.room ≡ true) laid it
     (subst (AllByRecursion (λ (x : Laid). has_room rooms x.room ≡ true))
     (ap (λ (n : ℕ). take n laid) done ∙ take-length laid) all) c
+
+-- one room more is kept
+pub has_next : (rooms : List RoomEnds) (laid : List Laid) (i : ℕ) (it : Laid) → i < length laid →
+    it ≡ get_or laid i it → AllByRecursion (λ (x : Laid). has_room rooms x.room ≡ true) (take i laid) →
+    has_room rooms it.room ≡ true → AllByRecursion (λ (x : Laid). has_room rooms x.room ≡ true) (take (i + 1) laid)
+has_next rooms laid i it less is all own =
+    has_more rooms rooms laid i it less is all own (λ room h. h)
+
+-- a number that is no greater than the least room, and not than one room more
+pub least_more : (least now : ℤ) (laid : List Laid) (i : ℕ) (it : Laid) → i < length laid → it ≡ get_or laid i it →
+    AllByRecursion (λ (x : Laid). least ≤ℤ x.room) (take i laid) → now ≤ℤ least → now ≤ℤ it.room →
+    AllByRecursion (λ (x : Laid). now ≤ℤ x.room) (take (i + 1) laid)
+least_more least now laid i it less is all low own =
+    all_more (λ (x : Laid). now ≤ℤ x.room) laid i it less is (still (take i laid) all) own
+  where
+    still : (xs : List Laid) → AllByRecursion (λ (x : Laid). least ≤ℤ x.room) xs →
+        AllByRecursion (λ (x : Laid). now ≤ℤ x.room) xs
+    still [] a = tt
+    still (x ∷ xs) a = (omega (arith, ints, low, a.0), still xs a.1)
+
+-- the rooms of layouts are from the least one on, and none is above the tallest
+pub all_within : (style : StyleValue) (least : ℤ) (laid : List Laid) →
+    AllByRecursion (λ (x : Laid). least ≤ℤ x.room) laid → AllByRecursion (λ (x : Laid). x.room ≤ℤ tallest style) laid →
+    AllByRecursion (λ (x : Laid). IsWithin style least x.room) laid
+all_within style least [] a b = tt
+all_within style least (x ∷ xs) a b = ((a.0, b.0), all_within style least xs a.1 b.1)
 
 -- ---- for callers
 

@@ -3,17 +3,16 @@ ghost use Rattle.std.specs.Prelude.{◌≡◌, ◌<◌, ◌^◌, ◌≤ℤ◌, [
 ghost use Rattle.std.specs.List.{AllByRecursion};
 ghost use Rattle.std.specs.Ordering.{int_eq};
 ghost use Rattle.pg_list.specs.declared.galley.Place.{Place as APlace};
-ghost use Rattle.pg_walk_laws.specs.Candidates.{AreCandidates};
 ghost use Rattle.pg_walk_laws.specs.Reached.{tallest};
 ghost use Rattle.pg_laid.specs.declared.laid.Laid.{Laid as ALaid};
 ghost use Rattle.pg_sources.specs.Document.{doc_of};
-ghost use Rattle.pg_rooms.specs.PlaceEnds.{ArePlaceEnds, AreRoomEnds, ends_in, groups_in, has_room};
+ghost use Rattle.pg_rooms.specs.PlaceEnds.{AreNearFrom, ArePlaceEnds, AreRoomEnds, IsWithin, ends_in, groups_in, has_room};
 
 use crate::grouping::{Group, group_ends};
 use pg_ends::{End, EndList};
 use pg_laid::Laid;
 use pg_sources::Sources;
-use pg_walk::PlaceWalk;
+use pg_walk::{NearList, PlaceWalk};
 use std::alloc::{AllocError, Global};
 
 /// The ends in a room in scaled points, and their groups.
@@ -40,6 +39,125 @@ pub struct PlaceEnds {
     pub rooms: Vec<RoomEnds>,
 }
 
+// What is kept of a room.
+fn kept(rooms: &[RoomEnds], room: i64) -> Option<&RoomEnds>
+    ensures has { has_room rooms.now room ≡ is_some result }
+    ensures ends { MatchOption result (ends_in rooms.now room ≡ []) (λ it. ends_in rooms.now room ≡ it.now.ends) }
+    ensures groups { MatchOption result (groups_in rooms.now room ≡ [])
+        (λ it. groups_in rooms.now room ≡ it.now.groups.items) }
+{
+    let mut rest = rooms;
+    'rooms: while let [first, after @ ..] = rest {
+        if first.is_of(room) {
+            return Some(first);
+        }
+        rest = after;
+    }
+    None
+}
+
+// Whether the room of each layout is kept.
+fn has_all(rooms: &[RoomEnds], laid: &[Laid]) -> bool
+    ensures { result ≡ true → (it : ALaid) → Contains laid.now it → has_room rooms.now it.room ≡ true }
+{
+    for it in laid {
+        if kept(rooms, it.room).is_none() {
+            return false;
+        }
+    }
+    true
+}
+
+// A room of two that is above neither.
+fn lesser(a: i64, b: i64) -> i64
+    requires a { nat_abs a < 2 ^ 40 }
+    requires b { nat_abs b < 2 ^ 40 }
+    ensures first { result ≤ℤ a }
+    ensures second { result ≤ℤ b }
+    ensures size { nat_abs result < 2 ^ 40 }
+{
+    if b < a { b } else { a }
+}
+
+// The room of the first layout, or 0 where there is none.
+fn first_room(laid: &[Laid]) -> i64
+    requires { AllByRecursion (λ (it : ALaid). nat_abs it.room < 2 ^ 40) laid.now }
+    ensures { nat_abs result < 2 ^ 40 }
+{
+    match laid {
+        [first, ..] => first.room,
+        [] => 0,
+    }
+}
+
+// The least room of layouts, or 0 where there are none.
+fn least_room(laid: &[Laid]) -> i64
+    requires { AllByRecursion (λ (it : ALaid). nat_abs it.room < 2 ^ 40) laid.now }
+    ensures size { nat_abs result < 2 ^ 40 }
+    ensures least { AllByRecursion (λ (it : ALaid). result ≤ℤ it.room) laid.now }
+{
+    let mut least = first_room(laid);
+    for it in laid {
+        least = lesser(least, it.room);
+    }
+    least
+}
+
+// The ends in a room, in groups.
+fn room_ends(sources: &Sources<'_>, near: &NearList<'_>, room: i64) -> Result<RoomEnds, AllocError>
+    requires { nat_abs room < 2 ^ 40 }
+    ensures room { IfOk result (λ it. it.room ≡ room) }
+    ensures right { IfOk result (λ it. (from : APlace) (least : ℤ) → AreNearFrom (doc_of sources.now) from least near.now →
+        IsWithin sources.now.style.now least room → AreRoomEnds (doc_of sources.now) from it) }
+{
+    let ends = near.ends_in(sources.alloc, sources.galley, sources.style, room)?;
+    let groups = group_ends(sources, ends.as_slice())?;
+    Ok(RoomEnds { room, ends, groups })
+}
+
+// Works out the ends in a room, where they are not kept yet.
+fn add_room(
+    sources: &Sources<'_>,
+    near: &NearList<'_>,
+    room: i64,
+    rooms: &mut Vec<RoomEnds>,
+) -> Result<(), AllocError>
+    requires { nat_abs room < 2 ^ 40 }
+    ensures has { OnOk result (has_room rooms.new.items room ≡ true) }
+    ensures keeps { OnOk result ((other : ℤ) → has_room rooms.old.items other ≡ true →
+        has_room rooms.new.items other ≡ true) }
+    ensures right { OnOk result ((from : APlace) (least : ℤ) → AreNearFrom (doc_of sources.now) from least near.now →
+        IsWithin sources.now.style.now least room → AllByRecursion (AreRoomEnds (doc_of sources.now) from) rooms.old.items →
+        AllByRecursion (AreRoomEnds (doc_of sources.now) from) rooms.new.items) }
+{
+    if kept(rooms.as_slice(), room).is_some() {
+        return Ok(());
+    }
+    let ends = room_ends(sources, near, room)?;
+    rooms.push(ends)?;
+    Ok(())
+}
+
+// Works out the ends in the rooms of layouts, where they are not kept yet.
+fn add_rooms(
+    sources: &Sources<'_>,
+    near: &NearList<'_>,
+    laid: &[Laid],
+    rooms: &mut Vec<RoomEnds>,
+) -> Result<(), AllocError>
+    requires small { AllByRecursion (λ (it : ALaid). nat_abs it.room < 2 ^ 40) laid.now }
+    ensures has { OnOk result ((it : ALaid) → Contains laid.now it → has_room rooms.new.items it.room ≡ true) }
+    ensures right { OnOk result ((from : APlace) (least : ℤ) → AreNearFrom (doc_of sources.now) from least near.now →
+        AllByRecursion (λ (it : ALaid). IsWithin sources.now.style.now least it.room) laid.now →
+        AllByRecursion (AreRoomEnds (doc_of sources.now) from) rooms.old.items →
+        AllByRecursion (AreRoomEnds (doc_of sources.now) from) rooms.new.items) }
+{
+    for it in laid {
+        add_room(sources, near, it.room, rooms)?;
+    }
+    Ok(())
+}
+
 impl PlaceEnds {
     /// A walk, with no room asked for. No memory is taken.
     pub fn new(alloc: Global, walk: PlaceWalk) -> PlaceEnds
@@ -50,57 +168,6 @@ impl PlaceEnds {
             walk,
             rooms: Vec::new(alloc),
         }
-    }
-
-    // What is kept of a room.
-    fn kept(&self, room: i64) -> Option<&RoomEnds>
-        ensures has { has_room self.now.rooms.items room ≡ is_some result }
-        ensures ends { MatchOption result (ends_in self.now.rooms.items room ≡ [])
-            (λ it. ends_in self.now.rooms.items room ≡ it.now.ends) }
-        ensures groups { MatchOption result (groups_in self.now.rooms.items room ≡ [])
-            (λ it. groups_in self.now.rooms.items room ≡ it.now.groups.items) }
-    {
-        let mut rest = self.rooms.as_slice();
-        'rooms: while let [first, after @ ..] = rest {
-            if first.is_of(room) {
-                return Some(first);
-            }
-            rest = after;
-        }
-        None
-    }
-
-    // The ends in a room, in groups.
-    fn room_ends(&self, sources: &Sources<'_>, room: i64) -> Result<RoomEnds, AllocError>
-        requires { nat_abs room < 2 ^ 40 }
-        ensures room { IfOk result (λ it. it.room ≡ room) }
-        ensures right { IfOk result (λ it. (from : APlace) → room ≤ℤ tallest sources.now.style.now →
-            AreCandidates (doc_of sources.now) from (tallest sources.now.style.now) self.now.walk.found →
-            AreRoomEnds (doc_of sources.now) from it) }
-    {
-        let ends = self
-            .walk
-            .ends_in(sources.alloc, sources.galley, sources.style, room)?;
-        let groups = group_ends(sources, ends.as_slice())?;
-        Ok(RoomEnds { room, ends, groups })
-    }
-
-    // Works out the ends in a room, where they are not kept yet.
-    fn ask(&mut self, sources: &Sources<'_>, room: i64) -> Result<(), AllocError>
-        requires { nat_abs room < 2 ^ 40 }
-        ensures walk { OnOk result (self.new.walk ≡ self.old.walk) }
-        ensures has { OnOk result (has_room self.new.rooms.items room ≡ true) }
-        ensures keeps { OnOk result ((other : ℤ) → has_room self.old.rooms.items other ≡ true →
-            has_room self.new.rooms.items other ≡ true) }
-        ensures right { OnOk result ((from : APlace) → room ≤ℤ tallest sources.now.style.now →
-            ArePlaceEnds (doc_of sources.now) from self.old → ArePlaceEnds (doc_of sources.now) from self.new) }
-    {
-        if self.kept(room).is_some() {
-            return Ok(());
-        }
-        let ends = self.room_ends(sources, room)?;
-        self.rooms.push(ends)?;
-        Ok(())
     }
 
     /// Works out the ends in the rooms of layouts, where they are not kept yet.
@@ -114,17 +181,21 @@ impl PlaceEnds {
             AllByRecursion (λ (it : ALaid). it.room ≤ℤ tallest sources.now.style.now) laid.now →
             ArePlaceEnds (doc_of sources.now) from self.old → ArePlaceEnds (doc_of sources.now) from self.new) }
     {
-        for it in laid {
-            self.ask(sources, it.room)?;
+        if has_all(self.rooms.as_slice(), laid) {
+            return Ok(());
         }
-        Ok(())
+        let least = least_room(laid);
+        let near = self
+            .walk
+            .near(sources.alloc, sources.galley, sources.style, least)?;
+        add_rooms(sources, &near, laid, &mut self.rooms)
     }
 
     /// The ends in a room of so many scaled points, and none where they are not kept.
     pub fn ends_in(&self, room: i64) -> &[End]
         ensures { result.now ≡ ends_in self.now.rooms.items room }
     {
-        match self.kept(room) {
+        match kept(self.rooms.as_slice(), room) {
             Some(it) => it.ends.as_slice(),
             None => &[],
         }
@@ -134,7 +205,7 @@ impl PlaceEnds {
     pub fn groups_in(&self, room: i64) -> &[Group]
         ensures { result.now ≡ groups_in self.now.rooms.items room }
     {
-        match self.kept(room) {
+        match kept(self.rooms.as_slice(), room) {
             Some(it) => it.groups.as_slice(),
             None => &[],
         }

@@ -1,6 +1,5 @@
--- What a filled table tells, and the steps of filling it, told of the galley and the style.
-use Rattle.std.proofs.Common.{◌≡◌, ◌∙◌, ◌+◌, ℕ, List, [], ◌∷◌, length, map, ap, refl, suc, subst}
-use Rattle.std.specs.Prelude.{Result, Ok, Err, IfOk}
+-- What a filled table tells, told of the galley and the style.
+use Rattle.std.proofs.Common.{◌≡◌, ◌∙◌, List, [], ◌∷◌, length, map, ap, refl, suc, subst}
 use Rattle.pg_list.specs.GalleyValue.{GalleyValue}
 use Rattle.pg_plan.specs.declared.pages.PageMove.{PageMove}
 use Rattle.pg_plan.specs.declared.states.State.{State}
@@ -10,9 +9,8 @@ use Rattle.pg_space_laws.specs.PageSpace.{page_meaning}
 use Rattle.pg_table.specs.Label.{IsTable}
 use Rattle.pg_table.specs.declared.table.Entry.{Entry}
 use Rattle.std.proofs.lemmas.List.Sorted.{length_permutation}
-use Rattle.pg_plan.specs.declared.states.Label.{Label}
 use Rattle.pg_space_laws.specs.Laws.{TellsAll, label_of}
-use Rattle.pg_space.specs.Solves.{HasFrontier, TakesSteps}
+use Rattle.pg_space.specs.Solves.{HasFrontier}
 use Rattle.pg_space.proofs.Sorting.{sorted, sorted_moves, sorted_rises}
 
 -- the frontier has as many labels as the table
@@ -29,19 +27,15 @@ has_frontier galley style es tells = record {
     as_many [] = refl
     as_many (e ∷ es) = ap suc (as_many es)
 
--- a table of a space is one of its galley and style
-pub takes_steps : (kept galley : GalleyValue) (held style : StyleValue) (labels : List (Entry State PageMove))
-    (before after : ℕ) → kept ≡ galley → held ≡ style → IsTable (page_meaning (document kept held)) labels →
-    after ≡ before + length labels → TakesSteps galley style before after
-takes_steps kept galley held style labels before after same alike table counted = record {
-  labels = labels;
-  filled =
-      subst (λ (g : GalleyValue). IsTable (page_meaning (document g style)) labels) same
-      (subst (λ (s : StyleValue). IsTable (page_meaning (document kept s)) labels) alike table);
-  taken = counted;
-}
+-- what is told of a galley and a style is told of equal ones
+pub of_equal : (P : GalleyValue → StyleValue → Type 0) (g h : GalleyValue) (s t : StyleValue) → g ≡ h → s ≡ t →
+    P g s → P h t
+of_equal P g h s t same alike told =
+    subst (λ (a : GalleyValue). P a t) same (subst (λ (b : StyleValue). P g b) alike told)
 
--- what holds whatever the answer
-pub whatever : {T E P : Type 0} → (r : Result T E) → P → IfOk r (λ (x : T). P)
-whatever (Ok x) p = p
-whatever (Err e) p = tt
+-- what a table tells of its galley and style it tells of equal ones
+pub tells_of_equal : (g h : GalleyValue) (s t : StyleValue) → g ≡ h → s ≡ t →
+    ((es : List (Entry State PageMove)) → IsTable (page_meaning (document g s)) es → TellsAll g s es) →
+    (es : List (Entry State PageMove)) → IsTable (page_meaning (document h t)) es → TellsAll h t es
+tells_of_equal = of_equal (λ (galley : GalleyValue) (style : StyleValue). (es : List (Entry State PageMove)) →
+    IsTable (page_meaning (document galley style)) es → TellsAll galley style es)

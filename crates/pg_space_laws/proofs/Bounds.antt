@@ -70,7 +70,7 @@ entry_map_few f n [] slot h = omega arith
 entry_map_few f n (x ∷ xs) zero h = h x
 entry_map_few f n (x ∷ xs) (suc k) h = entry_map_few f n xs k h
 
-slot_among : (f k i : ℕ) → i < k → Among (f + i) (range_with_len f k)
+pub slot_among : (f k i : ℕ) → i < k → Among (f + i) (range_with_len f k)
 slot_among f zero i h = absurd (omega arith)
 slot_among f (suc k) zero h = inl (let e : f ≡ f + 0 = omega arith in e)
 slot_among f (suc k) (suc i) h =

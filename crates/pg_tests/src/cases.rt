@@ -49,6 +49,20 @@ impl World {
     }
 }
 
+impl World {
+    /// The same with an output text of the name `o`.
+    pub fn with_output(
+        alloc: Global,
+        style: Vec<u8>,
+        galley: Vec<u8>,
+        output: Vec<u8>,
+    ) -> Result<World, AllocError> {
+        let mut world = World::with_style(alloc, style, galley)?;
+        world.files.push((String::from_str(alloc, "o")?, output))?;
+        Ok(world)
+    }
+}
+
 // The words of a line, between its spaces; of an empty line none.
 fn words_of(alloc: Global, line: &str) -> Result<Vec<String>, AllocError> {
     let mut words = Vec::new(alloc);

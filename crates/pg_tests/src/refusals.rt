@@ -23,15 +23,31 @@ run --wrap 79 g
 run --height 58.0 --height 58.0 g
 run --height 58.0 --wrap 7.9 g
 run --height --wrap 79 g
-run --labels --height 58.0 g
+run --labels --labels --height 58.0 g
+run --labels --height 58.0 style g
+run --height 58.0 g --labels
+run --wrap --labels --height 58.0 g
+run --labels g
+run --labels
 run style
 run style g more
 run --height 58.0 style g
-run --labels style g
+run --labels --wrap 79 --labels style g
+show --labels g
+make --labels 1
 run -style g
 run style -g
 edit style g script
-check style g output
+check
+check style g
+check style g output more
+check --labels style g output
+check --height 58.0 g output
+check --height 58.0 style g output
+check --wrap 0 style g output
+check style g output --wrap 79
+check -style g output
+check style g -output
 make
 make x
 make 2001
@@ -173,7 +189,11 @@ fn a_text_is_written_in_one_piece(rt: HostRuntime) -> Result<(), Fail> {
     assert_eq!(rt; end.out.as_slice(), b"\\vbox(0.".as_slice());
     assert_eq!(rt; end.say.as_slice(), b"pg: output failed\n".as_slice());
 
-    for words in ["show g", "run --height 58.0 g"] {
+    for words in [
+        "show g",
+        "run --height 58.0 g",
+        "run --labels --height 58.0 g",
+    ] {
         let mut failing = World::of(alloc, TWO_LINES.to_vec(alloc)?)?;
         failing.failing_writes.push((2, 0))?;
         let end = call(alloc, words, failing)?;

@@ -15,6 +15,26 @@ RB.\glue 3.0 plus 1.0~
 RB.\glue 3.0 minus 1.0~
 RB.\glue 3.0 plus 1.0fil~";
 
+/// Two lines on pages of 10 points, one on each. The labels are the start, the first page's end and the end of all.
+pub const LABELLED: &str = r"pages 2 cost 200 width 345.0
+page 1 side S run 0 wide -
+column 1 from 0 0 0 to 1 0 0 top - bottom - picks -
+set goal 10.0 total 10.0 badness 0 penalty 0 demerits 100
+area text
+.\glue(\topskip) 3.0
+.\hbox(7.0+2.0)x345.0
+page 2 side S run 0 wide -
+column 1 from 1 0 0 to 3 0 0 top - bottom - picks -
+set goal 10.0 total 10.0 badness 0 penalty 0 demerits 100
+area text
+.\glue(\topskip) 3.0
+.\hbox(7.0+2.0)x345.0
+labels 3
+label 1 0 0 0 1 S - - - - 0
+label 2 1 0 0 1 S - - - - 100
+label 3 3 0 0 1 S - - - - 200
+";
+
 // Lines of 7 points above and 2 below the baseline, with glue of 3 points between.
 pub fn equal_lines(alloc: Global, count: u32) -> Result<Vec<u8>, AllocError> {
     let mut galley = b"\\vbox(0.0+0.0)x345.0\n".to_vec(alloc)?;
@@ -169,6 +189,35 @@ fn a_box_higher_than_the_page_has_no_legal_pagination(rt: HostRuntime) -> Result
     let end = call(alloc, "run --height 550.0 g", World::of(alloc, galley)?)?;
     assert_eq!(rt; end.status, Status::NoLegal);
     assert_eq!(rt; end.out.as_slice(), b"no legal pagination\n".as_slice());
+    assert_eq!(rt; end.say.as_slice(), b"".as_slice());
+    Ok(())
+}
+
+#[test]
+fn labels_stand_behind_the_pages(rt: HostRuntime) -> Result<(), Fail> {
+    let alloc = rt.alloc();
+    for words in [
+        "run --labels --height 10.0 g",
+        "run --height 10.0 --wrap 79 --labels g",
+    ] {
+        let end = call(alloc, words, World::of(alloc, equal_lines(alloc, 2)?)?)?;
+        assert_eq!(rt; end.status, Status::Done, "of {words}");
+        assert_eq!(rt; end.out.as_slice(), LABELLED.as_bytes(), "of {words}");
+        assert_eq!(rt; end.say.as_slice(), b"".as_slice(), "of {words}");
+    }
+    Ok(())
+}
+
+// Where no pagination is legal the start alone is a label.
+#[test]
+fn labels_stand_behind_the_line_for_none(rt: HostRuntime) -> Result<(), Fail> {
+    let alloc = rt.alloc();
+    let galley = b"\\vbox(0.0+0.0)x345.0\n.\\hbox(700.0+0.0)x345.0\n".to_vec(alloc)?;
+    let words = "run --labels --height 550.0 g";
+    let end = call(alloc, words, World::of(alloc, galley)?)?;
+    let want = b"no legal pagination\nlabels 1\nlabel 1 0 0 0 1 S - - - - 0\n".as_slice();
+    assert_eq!(rt; end.status, Status::NoLegal);
+    assert_eq!(rt; end.out.as_slice(), want);
     assert_eq!(rt; end.say.as_slice(), b"".as_slice());
     Ok(())
 }

@@ -5,8 +5,8 @@ use pg_top::Status;
 use std::alloc::{AllocError, Global};
 use std::test::Fail;
 
-// One column of 58 points, any badness tolerated, no floats and no notes.
-const PLAIN: &str = r#"version = 1
+/// One column of 58 points, any badness tolerated, no floats and no notes.
+pub const PLAIN: &str = r#"version = 1
 columns = 1
 first = "single"
 height = "58.0"
@@ -36,6 +36,14 @@ count = 0
 demerits = 1000
 "#;
 
+// The labels of two lines with a forced break between them. A page of one line is very loose, the last one is decent,
+// which are two steps apart.
+const FITNESS: &str = "labels 3 fitness
+label 1 0 0 0 1 S - - - - - 0
+label 2 1 0 0 1 S - - 0 - - 100200100
+label 3 3 0 0 1 S - - 2 - - 100205200
+";
+
 // A line of that file, what stands in its place, and the line for the user. The new text may be several lines, parted by
 // `~`. A file that is not there comes last.
 const REFUSED: &str = r#"tolerance = 10000|tolerance = "x"|style fault 4 at tolerance
@@ -60,11 +68,11 @@ demerits = 1000|demerits = 1000~[[classes]]~number = 200~kind = "note"~skip = "4
 demerits = 1000|demerits = 1000~[[classes]]~number = 100~kind = "float"~area = "top"~distance = [0, 5]
 version = 1|version = 2~fitness = 1"#;
 
-// The file with a text in place of a line.
-fn changed(alloc: Global, line: &str, by: &str) -> Result<Vec<u8>, AllocError> {
+/// A file with another text in place of the first that is this one, with line feeds for `~`.
+pub fn changed(alloc: Global, file: &str, line: &str, by: &str) -> Result<Vec<u8>, AllocError> {
     let mut text = Vec::new(alloc);
-    match PLAIN.split_once(line) {
-        None => text.extend_from_slice(PLAIN.as_bytes())?,
+    match file.split_once(line) {
+        None => text.extend_from_slice(file.as_bytes())?,
         Some((front, back)) => {
             text.extend_from_slice(front.as_bytes())?;
             for letter in by.as_bytes() {
@@ -83,7 +91,11 @@ fn the_style_of_a_file_is_taken(rt: HostRuntime) -> Result<(), Fail> {
         ("version = 1", "version = 1"),
         ("version = 1", "version = 2~fitness = 0"),
     ] {
-        let world = World::with_style(alloc, changed(alloc, line, by)?, equal_lines(alloc, 10)?)?;
+        let world = World::with_style(
+            alloc,
+            changed(alloc, PLAIN, line, by)?,
+            equal_lines(alloc, 10)?,
+        )?;
         let end = call(alloc, "run --wrap 79 s g", world)?;
         assert_eq!(rt; end.status, Status::Done, "of {by}");
         assert_eq!(rt;
@@ -105,7 +117,7 @@ fn styles_of_every_kind_are_taken(rt: HostRuntime) -> Result<(), Fail> {
         let Some((line, by)) = row.split_once('|') else {
             continue;
         };
-        let style = changed(alloc, line, by)?;
+        let style = changed(alloc, PLAIN, line, by)?;
         let end = call(
             alloc,
             "run s g",
@@ -115,6 +127,23 @@ fn styles_of_every_kind_are_taken(rt: HostRuntime) -> Result<(), Fail> {
         assert!(rt; end.out.as_slice().starts_with(head), "of {row}");
         assert_eq!(rt; end.say.as_slice(), b"".as_slice(), "of {row}");
     }
+    Ok(())
+}
+
+#[test]
+fn labels_tell_their_fitness(rt: HostRuntime) -> Result<(), Fail> {
+    let alloc = rt.alloc();
+    let style = changed(alloc, PLAIN, "version = 1", "version = 2~fitness = 5000")?;
+    let galley = galley(alloc, "RB.\\penalty -10000~B")?;
+    let end = call(
+        alloc,
+        "run --labels s g",
+        World::with_style(alloc, style, galley)?,
+    )?;
+    let head = b"pages 2 cost 100205200 width 345.0\n".as_slice();
+    assert_eq!(rt; end.status, Status::Done);
+    assert!(rt; end.out.as_slice().starts_with(head));
+    assert!(rt; end.out.as_slice().ends_with(FITNESS.as_bytes()));
     Ok(())
 }
 
@@ -136,7 +165,7 @@ fn the_style_decides(rt: HostRuntime) -> Result<(), Fail> {
         let end = call(
             alloc,
             "run s g",
-            World::with_style(alloc, changed(alloc, line, by)?, text)?,
+            World::with_style(alloc, changed(alloc, PLAIN, line, by)?, text)?,
         )?;
         assert_eq!(rt; end.status, status, "of {by}");
     }
@@ -153,7 +182,7 @@ fn styles_that_are_refused(rt: HostRuntime) -> Result<(), Fail> {
         let Some((by, said)) = rest.split_once('|') else {
             continue;
         };
-        let style = changed(alloc, line, by)?;
+        let style = changed(alloc, PLAIN, line, by)?;
         let end = call(
             alloc,
             "run s g",

@@ -21,3 +21,5 @@ headline_of words shelf out say (ending.TooManyFloats count) goes says = search 
 headline_of words shelf out say (ending.Unread name) goes says = search rules
 headline_of words shelf out say ending.WriteFault goes says = search rules
 headline_of words shelf out say ending.Memory goes says = search rules
+headline_of words shelf out say (ending.BadOutput name line) goes says = search rules
+headline_of words shelf out say (ending.NotProved fault) goes says = search rules

@@ -4,7 +4,8 @@
 //! pg_walk_laws), and `ends` lists each place and fitness at which a column of text from the place, in a room of a
 //! height, keeps the rules on one column, with its numbers and its best picks, in order, and nothing else (`AreEnds` of
 //! pg_ends); `ends_many` does so for several rooms from one walk; `reach_of` tells how far columns from a place may go
-//! (`IsReach` of pg_rules); `walk_from` does both from one place for all rooms. This holds for every galley and style.
+//! (`IsReach` of pg_rules); `walk_from` does both from one place for all rooms, and `PlaceWalk::near` keeps of it what
+//! several rooms share (`AreNear` of pg_candidates). This holds for every galley and style.
 #![tactic(auto)]
 
 mod place;
@@ -12,7 +13,7 @@ mod reach;
 mod rooms;
 mod walking;
 
-pub use pg_candidates::CandidateList;
+pub use pg_candidates::{CandidateList, NearList};
 pub use pg_column::TextCost;
 pub use pg_ends::{End, EndList, EndLists};
 pub use place::{PlaceWalk, walk_from};

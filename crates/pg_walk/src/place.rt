@@ -1,17 +1,15 @@
 //! One walk for all columns of text from a place.
-ghost use Rattle.std.specs.Prelude.{◌<◌, ◌≤ℤ◌, ◌^◌, IfOk, nat_abs, ℤ};
-ghost use Rattle.pg_ends.specs.Ends.{AreEnds};
-ghost use Rattle.pg_list.specs.declared.galley.Place.{Place as APlace};
+ghost use Rattle.std.specs.Prelude.{◌<◌, ◌^◌, IfOk, nat_abs};
 ghost use Rattle.pg_rules.specs.IsState.{IsPlace};
 ghost use Rattle.pg_rules.specs.Legal.{document};
 ghost use Rattle.pg_rules.specs.Reach.{IsReach};
 ghost use Rattle.pg_walk_laws.specs.Candidates.{AreCandidates};
 ghost use Rattle.pg_walk_laws.specs.Reached.{tallest as tallest_of};
+ghost use Rattle.pg_candidates.specs.Nears.{AreNear};
 
 use crate::reach::{reach_of, tallest};
 use crate::walking::candidates;
-use pg_candidates::CandidateList;
-use pg_ends::EndList;
+use pg_candidates::{CandidateList, NearList};
 use pg_list::{Galley, Place};
 use pg_style::Style;
 use std::alloc::{AllocError, Global};
@@ -25,22 +23,21 @@ pub struct PlaceWalk {
 }
 
 impl PlaceWalk {
-    /// The ends in a room of so many scaled points.
+    /// What rooms from a least one of so many scaled points on share: the places where columns may end with what no
+    /// room changes, without those that are too short for all of these rooms.
     ///
-    /// Condition: the room is below 2^40 in size. The one refusal is want of memory.
-    pub fn ends_in(
+    /// Condition: the least room is below 2^40 in size. The one refusal is want of memory.
+    pub fn near(
         &self,
         alloc: Global,
         galley: &Galley,
         style: &Style,
-        room: i64,
-    ) -> Result<EndList, AllocError>
-        requires { nat_abs room < 2 ^ 40 }
-        ensures { IfOk result (λ ends. (from : APlace) (top : ℤ) → room ≤ℤ top →
-            AreCandidates (document galley.now style.now) from top self.now.found →
-            AreEnds (document galley.now style.now) from room ends) }
+        least: i64,
+    ) -> Result<NearList<'_>, AllocError>
+        requires { nat_abs least < 2 ^ 40 }
+        ensures { IfOk result (AreNear (document galley.now style.now) least self.now.found) }
     {
-        self.found.ends_in(alloc, galley, style, room)
+        self.found.near(alloc, galley, style, least)
     }
 }
 

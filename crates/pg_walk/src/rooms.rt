@@ -1,16 +1,17 @@
 //! The ends in one room or in several.
-ghost use Rattle.std.specs.Prelude.{◌≡◌, ◌<◌, ◌^◌, IfOk, nat_abs, ℤ};
+ghost use Rattle.std.specs.Prelude.{◌≡◌, ◌<◌, ◌^◌, IfOk, List, nat_abs, ℤ};
 ghost use Rattle.std.specs.List.{AllByRecursion};
 ghost use Rattle.pg_rules.specs.IsState.{IsPlace};
 ghost use Rattle.pg_rules.specs.Legal.{document};
 ghost use Rattle.pg_list.specs.declared.galley.Place.{Place as APlace};
 ghost use Rattle.pg_ends.specs.Ends.{AreEnds};
-ghost use Rattle.pg_walk_laws.specs.Candidates.{AreCandidates};
+ghost use Rattle.pg_walk_laws.specs.Candidates.{AreCandidates, Candidate as ACandidate};
 ghost use Rattle.pg_walk_laws.specs.Laws.{AreEndsInEach, AreUpTo};
-ghost use Rattle.pg_walk.specs.Rooms.{greatest_room};
+ghost use Rattle.pg_candidates.specs.Nears.{AreNear};
+ghost use Rattle.pg_walk.specs.Rooms.{AreFrom, greatest_room, smallest_room};
 
 use crate::walking::candidates;
-use pg_candidates::CandidateList;
+use pg_candidates::{CandidateList, NearList};
 use pg_ends::{EndList, EndLists};
 use pg_list::{Galley, Place};
 use pg_style::Style;
@@ -59,6 +60,59 @@ fn top_of(rooms: &[i64]) -> i64
     }
 }
 
+// The least of a room and those of a list.
+fn smallest_of(first: i64, rooms: &[i64]) -> i64
+    requires first { nat_abs first < 2 ^ 40 }
+    requires each { AllByRecursion (λ (room : ℤ). nat_abs room < 2 ^ 40) rooms.now }
+    ensures value { result ≡ smallest_room first rooms.now }
+    ensures size { nat_abs result < 2 ^ 40 }
+{
+    let mut least = first;
+    let mut left = rooms;
+    'rooms: while let [room, after @ ..] = left {
+        if *room < least {
+            least = *room;
+        }
+        left = after;
+    }
+    least
+}
+
+// A room that none of these is below.
+fn least_of(rooms: &[i64]) -> i64
+    requires { AllByRecursion (λ (room : ℤ). nat_abs room < 2 ^ 40) rooms.now }
+    ensures from { AreFrom result rooms.now }
+    ensures size { nat_abs result < 2 ^ 40 }
+{
+    match rooms {
+        [room, ..] => smallest_of(*room, rooms),
+        [] => 0,
+    }
+}
+
+// The ends in each of these rooms of candidates with what these rooms share.
+fn ends_near(
+    alloc: Global,
+    galley: &Galley,
+    style: &Style,
+    nears: &NearList<'_>,
+    rooms: &[i64],
+) -> Result<EndLists, AllocError>
+    requires { AllByRecursion (λ (room : ℤ). nat_abs room < 2 ^ 40) rooms.now }
+    ensures { IfOk result (λ lists. (from : APlace) (least top : ℤ) (cs : List ACandidate) →
+        AreNear (document galley.now style.now) least cs nears.now → AreFrom least rooms.now → AreUpTo top rooms.now →
+        AreCandidates (document galley.now style.now) from top cs →
+        AreEndsInEach (document galley.now style.now) from rooms.now lists) }
+{
+    let mut lists = EndLists::new(alloc);
+    let mut left = rooms;
+    'rooms: while let [room, after @ ..] = left {
+        lists.push(nears.ends_in(alloc, galley, style, *room)?)?;
+        left = after;
+    }
+    Ok(lists)
+}
+
 // The ends in each of these rooms of the candidates of a place.
 fn ends_each(
     alloc: Global,
@@ -72,13 +126,8 @@ fn ends_each(
         AreCandidates (document galley.now style.now) from top found.now →
         AreEndsInEach (document galley.now style.now) from rooms.now lists) }
 {
-    let mut lists = EndLists::new(alloc);
-    let mut left = rooms;
-    'rooms: while let [room, after @ ..] = left {
-        lists.push(found.ends_in(alloc, galley, style, *room)?)?;
-        left = after;
-    }
-    Ok(lists)
+    let nears = found.near(alloc, galley, style, least_of(rooms))?;
+    ends_near(alloc, galley, style, &nears, rooms)
 }
 
 /// The ends in each of these rooms in scaled points, in order, from one walk: for each what `ends` gives.

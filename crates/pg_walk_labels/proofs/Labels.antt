@@ -1,9 +1,10 @@
 -- One label more.
-use Rattle.std.proofs.Common.{◌≡◌, refl, sym, ap, ◌∙◌, subst, ℕ, zero, suc, ◌<◌, ◌^◌, inl, inr, Some, Result, Ok, Err, IfOk, OnOk, List, [], ◌∷◌, ◌++◌, length, arith, ℤ}
+use Rattle.std.proofs.Common.{◌≡◌, refl, sym, ap, ◌∙◌, subst, ℕ, zero, suc, ◌<◌, ◌^◌, inl, inr, Some, Result, Ok, Err, IfOk, OnOk, List, [], ◌∷◌, ◌++◌, ◌+◌, length, take, arith, ℤ}
 use Rattle.std.specs.Prelude.{Contains, get_or, nat_abs, reverse, slice_get}
 use Rattle.std.proofs.lemmas.Option.{slice_get-get_or}
 use Rattle.std.proofs.lemmas.List.{reverse-reverse}
 use Rattle.std.proofs.lemmas.Int.{ints}
+use Rattle.pg_lemmas.proofs.Lists.{one_more}
 use Rattle.pg_rules.specs.Legal.{document}
 use Rattle.pg_rules.specs.Ranges.{AreInRange}
 use Rattle.pg_rules.specs.Room.{Document}
@@ -40,7 +41,7 @@ module _ (doc : Document) (top : ℤ) (es : List (Entry State ℕ)) where
     labels = λ c l. absurd (contains_among [] l.entry l.listed);
   }
 
-  pub one_label : (xs : List (Entry State ℕ)) (e : Entry State ℕ) (picks : List ℕ) (old mid new : List Candidate) →
+  one_label : (xs : List (Entry State ℕ)) (e : Entry State ℕ) (picks : List ℕ) (old mid new : List Candidate) →
       HasEnds doc top es xs old mid → RunOf es e (reverse picks) → new ≡ mid ++ label_ends doc top e picks →
       HasEnds doc top es (xs ++ e ∷ []) old new
   one_label xs e picks old mid new h run is = record {
@@ -76,6 +77,15 @@ module _ (doc : Document) (top : ℤ) (es : List (Entry State ℕ)) where
           subst (λ (ms : List ℕ). IsAmong c (label_ends doc top e ms)) (ap reverse same ∙ reverse-reverse picks)
           (subst (λ (x : Entry State ℕ). IsAmong c (label_ends doc top x (reverse l.picks))) (sym p) l.among)
       last c l (inr a) = absurd a
+
+  -- the labels up to and including the next
+  pub next_label : (index : ℕ) (e : Entry State ℕ) (picks : List ℕ) (old mid new : List Candidate) →
+      index < length es → e ≡ get_or es index e → HasEnds doc top es (take index es) old mid →
+      RunOf es e (reverse picks) → new ≡ mid ++ label_ends doc top e picks →
+      HasEnds doc top es (take (index + 1) es) old new
+  next_label index e picks old mid new less is h run added =
+      subst (λ (xs : List (Entry State ℕ)). HasEnds doc top es xs old new) (sym (one_more es index e less is))
+      (one_label (take index es) e picks old mid new h run added)
 
 small_abs : (c : ℤ) → Small c → nat_abs c < 2 ^ 62
 small_abs c s = omega (arith, ints, s.above, s.below)

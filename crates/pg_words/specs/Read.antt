@@ -36,6 +36,7 @@ if_digits word = if_true (digit_count word == length word) word
 unfoldable pub numeral : List ℕ → Option (List ℕ)
 numeral word = if_true (has_no_zero_in_front word) word >>= if_digits
 
+-- the number, where it is below the bound
 abbrev pub if_below : ℕ → ℕ → Option ℕ
 if_below bound n = if_true (nat_lt n bound) n
 
@@ -52,6 +53,7 @@ behind_minus (c ∷ cs) = if_true (c == 45) cs
 abbrev pub if_wide : ℤ → Option ℤ
 if_wide z = if_true (int_le (negsuc (2 ^ 127 - 1)) z && int_lt z (pos (2 ^ 127))) z
 
+-- the number, where it is below 0
 abbrev pub if_below_zero : ℤ → Option ℤ
 if_below_zero z = if_true (int_lt z (pos 0)) z
 
@@ -59,6 +61,7 @@ if_below_zero z = if_true (int_lt z (pos 0)) z
 unfoldable pub negative_word : List ℕ → Option ℤ
 negative_word word = numeral word >>= (λ digits. if_below_zero (signed true (digits_value 10 digits)) >>= if_wide)
 
+-- digits alone
 unfoldable pub positive_word : List ℕ → Option ℤ
 positive_word word = numeral word >>= (λ digits. if_wide (pos (digits_value 10 digits)))
 
@@ -107,6 +110,7 @@ option_word says word = if bytes_eq word (codes "-") then Some None else option_
 
 -- ---- letters
 
+-- the letter of a side
 unfoldable pub side_word : List ℕ → Option Side
 side_word word =
     if bytes_eq word (codes "L") then Some L
@@ -114,6 +118,7 @@ side_word word =
     else if bytes_eq word (codes "S") then Some S
     else None
 
+-- the number of a column: 1 or 2
 unfoldable pub column_word : List ℕ → Option ℕ
 column_word word =
     if bytes_eq word (codes "1") then Some 1

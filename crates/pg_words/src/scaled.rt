@@ -2,34 +2,18 @@
 ghost use Rattle.std.specs.Prelude.{◌≡◌, ◌≤◌, ◌<◌, ◌^◌, nat_abs, IfOk, IfSome};
 ghost use Rattle.std.specs.Option.{option_map};
 ghost use Rattle.std.specs.Str.{bytes_eq};
-ghost use Rattle.pg_scaled.specs.Digits.{AllAsciiDigits, fraction_of, size_of};
+ghost use Rattle.pg_scaled.specs.Digits.{AllAsciiDigits, size_of};
 ghost use Rattle.pg_scaled.specs.Scaled.{after_point, scaled_text, signed as signed_of};
 ghost use Rattle.pg_words.specs.Read.{if_small, size_behind as size_behind_word, size_word as size_of_word, value_word, scaled_word, option_word};
 
 use crate::numbers::{behind_minus, capped_size, digits};
-use pg_scaled::{print_scaled, split_digits};
+use pg_scaled::{fraction, print_scaled, split_digits};
 use std::alloc::{AllocError, Global};
 
 /// 2^44 points are more than 2^60 units.
 const MOST_POINTS: u128 = 17592186044416;
 
 const MOST_UNITS: u64 = 1152921504606846976;
-
-// The fraction that these digits say, in units; the first 17 count.
-fn fraction(digits: &[u8]) -> u32
-    requires { AllAsciiDigits digits.now }
-    ensures value { result ≡ fraction_of digits.now }
-    ensures bound { result ≤ 65536 }
-{
-    let counted = &digits[..digits.len().min(17)];
-    let mut place = counted.len();
-    let mut doubled = 0u32;
-    while place > 0 {
-        place -= 1;
-        doubled = (doubled + (counted[place] - b'0') as u32 * 131072) / 10;
-    }
-    (doubled + 1) / 2
-}
 
 // The size with so many points and this fraction, where it is at most 2^60 units.
 fn small_size(whole: &[u8], fraction_digits: &[u8]) -> Option<u64>

@@ -1,9 +1,10 @@
 use Rattle.std.proofs.Common.{rules}
 use Rattle.std.specs.Prelude.{Result}
+use Rattle.pg_outside.specs.Outside.{Held}
 use Rattle.pg_list.specs.GalleyValue.{GalleyValue}
 use Rattle.pg_command.specs.Lines.{line_of, status_of}
-use Rattle.pg_course.specs.Course.{BeginsBy, EndsBy, RunCourse, Stop}
-use Rattle.pg_course.proofs.Runs.{on_settled, on_write_fault, when_opened}
+use Rattle.pg_course.specs.Course.{BeginsBy, EndsBy, RunCourse, Stop, opened}
+use Rattle.pg_course.proofs.Runs.{on_settled, on_write_fault, when_said}
 use Rattle.pg_course.proofs.run.run_file.Goals as goal
 
 pub returns-in-Ok : goal.returns-in-Ok
@@ -15,17 +16,21 @@ returns-in-Ok g c =
       goes =
           record {
             settled =
-                on_settled (status_of end) (when_opened (λ (said : Result GalleyValue Stop).
-                EndsBy (RunCourse c.args.style.now said) old new (status_of end) (line_of end))
-                (g.H.Shelf.held c.args.shelf.now) c.args.name.now c.args.wrap c.in-Ok.galley c.in-Ok.ensures.galley)
+                on_settled (status_of end) (when_said (λ (said : Result GalleyValue Stop).
+                EndsBy (RunCourse c.args.labels c.args.style.now said) old new (status_of end) (line_of end))
+                (g.H.Shelf.held c.args.shelf.now)
+                (λ (held : Held). opened c.args.name.now c.args.wrap (held c.args.name.now)) c.in-Ok.galley
+                c.in-Ok.ensures.galley)
                 c.run_galley.ensures.writes.settled;
             read = search rules;
             read_keeps = search rules;
             write = search rules;
             front =
-                on_write_fault (status_of end) (when_opened (λ (said : Result GalleyValue Stop).
-                BeginsBy (RunCourse c.args.style.now said) old new)
-                (g.H.Shelf.held c.args.shelf.now) c.args.name.now c.args.wrap c.in-Ok.galley c.in-Ok.ensures.galley)
+                on_write_fault (status_of end) (when_said (λ (said : Result GalleyValue Stop).
+                BeginsBy (RunCourse c.args.labels c.args.style.now said) old new)
+                (g.H.Shelf.held c.args.shelf.now)
+                (λ (held : Held). opened c.args.name.now c.args.wrap (held c.args.name.now)) c.in-Ok.galley
+                c.in-Ok.ensures.galley)
                 c.run_galley.ensures.writes.front;
             memory = search rules;
             no_usage = search rules;

@@ -8,8 +8,8 @@ use Rattle.pg_course.proofs.run.write_pages.Goals as goal
 pub returns-in-Ok : goal.returns-in-Ok
 returns-in-Ok g c = record {
   writes =
-      one_text (PaginateGalley c.args.style.now c.args.galley.now) (bytes_of c.in-Ok.text) (end_of c.in-Ok.text)
-      (over_sink (g.O.Sink.written c.args.out.now) (g.O.Sink.written c.write_text.new.out)
+      one_text (PaginateGalley c.args.labels c.args.style.now c.args.galley.now) (bytes_of c.in-Ok.text)
+      (end_of c.in-Ok.text) (over_sink (g.O.Sink.written c.args.out.now) (g.O.Sink.written c.write_text.new.out)
       (g.O.Sink.faults c.args.out.now) (g.O.Sink.faults c.write_text.new.out)) c.write_text.result
       (bytes_of c.in-Ok.text, c.in-Ok.ensures, refl, refl) c.write_text.ensures.writes;
 }

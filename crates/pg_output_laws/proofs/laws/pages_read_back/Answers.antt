@@ -4,5 +4,10 @@ use Rattle.pg_output_laws.proofs.Contracts.{pages_read_back}
 use Rattle.pg_output_laws.proofs.laws.pages_read_back.Goals as goal
 
 pub returns : goal.returns
-returns c = pages_read_back _ _ c.requires.range
-    (subst (λ (z : ℤ). nat_abs z < 2 ^ 30) c.width.ensures.width c.width.ensures.in_range) c.requires.penalties
+returns c = pages_read_back _ _
+    (record {
+      blocks = c.blocks_of.ensures.shape;
+      limit = c.blocks_of.ensures.count;
+      style_in = c.stays_in_range.ensures;
+    })
+    (subst (λ (z : ℤ). nat_abs z < 2 ^ 30) c.width.ensures.width c.width.ensures.in_range)

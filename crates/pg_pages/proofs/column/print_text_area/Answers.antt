@@ -4,7 +4,7 @@ use Rattle.std.specs.List.{AllByRecursion}
 use Rattle.std.proofs.lemmas.Int.{to_z-of_z}
 use Rattle.pg_words.specs.Written.{line}
 use Rattle.pg_pages.specs.PageText.{items_text}
-use Rattle.pg_pages.specs.Printed.{IsPrintable, behind, widths_by}
+use Rattle.pg_pages.specs.Printed.{IsPrintable, behind, text_by, widths_by}
 use Rattle.pg_pages.proofs.Printed.{behind_long}
 use Rattle.pg_pages.proofs.Grown.{on_ok}
 use Rattle.pg_pages.proofs.Widths.{by_printable}
@@ -26,6 +26,7 @@ print_set_text-requires c =
     (omega (arith, long, c.requires.few)) c.requires.excess)
 
 pub returns-clause-ok : goal.returns-clause-ok
+unfolding text_by
 returns-clause-ok c =
     let items = behind c.args.items.now in
     let goal = to_z-of_z w64 c.args.numbers.now.goal (record { sfits = search rules }) in

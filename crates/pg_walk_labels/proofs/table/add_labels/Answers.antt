@@ -1,12 +1,8 @@
-use Rattle.std.proofs.Common.{rules, sym, subst, take, List, ℕ, ℤ, w64, to_z, of_z, arith}
+use Rattle.std.proofs.Common.{rules, sym, subst, ℤ, w64, to_z, of_z, arith}
 use Rattle.std.proofs.lemmas.Int.{to_z-of_z}
-use Rattle.pg_lemmas.proofs.Lists.{one_more}
 use Rattle.pg_rules.specs.Legal.{document}
-use Rattle.pg_stretch.specs.declared.passing.State.{State}
-use Rattle.pg_table.specs.declared.table.Entry.{Entry}
 use Rattle.pg_walk_space.specs.Meaning.{IsOwn}
-use Rattle.pg_walk_labels.specs.Collected.{HasEnds}
-use Rattle.pg_walk_labels.proofs.Labels.{contains_at, got_at, one_label}
+use Rattle.pg_walk_labels.proofs.Labels.{contains_at, got_at, next_label}
 use Rattle.pg_walk_labels.proofs.table.add_labels.Goals as goal
 
 pub add_label-requires-clause-own : goal.add_label-requires-clause-own
@@ -19,16 +15,26 @@ add_label-requires-clause-own c =
 
 pub labels-preserved : goal.labels-preserved
 labels-preserved c =
-    let doc = document c.args.galley.now c.args.style.now in
-    let top = to_z w64 (of_z w64 c.args.top) in
     let labels = c.args.labels.now in
     let entry = c.index-labels-index.result in
     record {
       within = omega (arith, c.labels-test.true);
-      ends = subst (λ (xs : List (Entry State ℕ)). HasEnds doc top labels xs c.args.found.now c.add_label.new.found)
-          (sym (one_more labels c.labels.index entry c.labels-test.true c.index-labels-index.is))
-          (one_label doc top labels (take c.labels.index labels) entry c.in_ok-picks.picks c.args.found.now
-          c.labels.found c.add_label.new.found c.labels.invariant.ends
+      ends = next_label (document c.args.galley.now c.args.style.now) (to_z w64 (of_z w64 c.args.top)) labels
+          c.labels.index entry c.in_ok-picks.picks c.args.found.now c.labels.found c.add_label.new.found
+          c.labels-test.true c.index-labels-index.is c.labels.invariant.ends
           (c.in_ok-picks.ensures entry (got_at labels c.labels.index entry c.labels-test.true c.index-labels-index.is))
-          c.in_ok-add_label.ensures);
+          c.in_ok-add_label.ensures;
+    }
+
+pub labels-preserved-in_ok-add_label : goal.labels-preserved-in_ok-add_label
+labels-preserved-in_ok-add_label c =
+    let labels = c.args.labels.now in
+    let entry = c.index-labels-index.result in
+    record {
+      within = omega (arith, c.labels-test.true);
+      ends = next_label (document c.args.galley.now c.args.style.now) (to_z w64 (of_z w64 c.args.top)) labels
+          c.labels.index entry c.in_ok-picks.picks c.args.found.now c.labels.found c.add_label.new.found
+          c.labels-test.true c.index-labels-index.is c.labels.invariant.ends
+          (c.in_ok-picks.ensures entry (got_at labels c.labels.index entry c.labels-test.true c.index-labels-index.is))
+          c.in_ok-add_label.ensures;
     }

@@ -1,23 +1,25 @@
-use Rattle.std.proofs.Common.{rules, ◌≡◌, sym, subst, ◌∙◌, true, ℤ, w64}
-use Rattle.std.specs.Prelude.{◌≤ℤ◌}
+use Rattle.std.proofs.Common.{rules, refl, subst, ℤ, w64}
 use Rattle.std.proofs.lemmas.Int.{to_z-of_z}
-use Rattle.pg_laid.specs.declared.laid.Laid.{Laid}
-use Rattle.pg_walk_laws.specs.Reached.{tallest}
-use Rattle.pg_rooms.specs.PlaceEnds.{has_room}
-use Rattle.pg_rooms.proofs.Kept.{all_contain, has_more}
+use Rattle.std.proofs.lemmas.Result.{on_ok_weaker}
+use Rattle.pg_candidates.specs.Nears.{AreNear}
+use Rattle.pg_sources.specs.Document.{doc_of}
+use Rattle.pg_rooms.proofs.Kept.{all_within}
 use Rattle.pg_rooms.proofs.place_ends.PlaceEnds.ask_all.Goals as goal
 
-pub loop-it-preserved : goal.loop-it-preserved
-loop-it-preserved c = record {
-  walk = c.in_ok-ask.ensures.walk ∙ c.loop-it.invariant.walk;
-  has = has_more c.loop-it.self.rooms.items c.ask.new.self.rooms.items c.args.laid.now c.loop-it.it-index
-      c.it-item.result c.loop-it-test.true c.it-item.is c.loop-it.invariant.has
-      (subst (λ (z : ℤ). has_room c.ask.new.self.rooms.items z ≡ true)
-      (to_z-of_z w64 c.it-item.result.room (record { sfits = search rules })) c.in_ok-ask.ensures.has)
-      c.in_ok-ask.ensures.keeps;
-  right = λ from low are. c.in_ok-ask.ensures.right from
-      (subst (λ (z : ℤ). z ≤ℤ tallest c.args.sources.now.style.now)
-      (sym (to_z-of_z w64 c.it-item.result.room (record { sfits = search rules })))
-      (all_contain (λ (it : Laid). it.room ≤ℤ tallest c.args.sources.now.style.now) c.args.laid.now c.it-item.result low
-      (c.loop-it.it-index, c.loop-it-test.true, sym c.it-item.is))) (c.loop-it.invariant.right from low are);
-}
+pub returns-clause-walk : goal.returns-clause-walk
+returns-clause-walk c = on_ok_weaker c.add_rooms.result (λ _. refl) c.add_rooms.ensures.has
+
+pub returns-clause-right : goal.returns-clause-right
+returns-clause-right c =
+    let doc = doc_of c.args.sources.now in
+    let least = c.least_room-least.result in
+    let found = c.args.self.now.walk.found in
+    let same = to_z-of_z w64 least (record { sfits = search rules }) in
+    on_ok_weaker c.add_rooms.result (λ right from low are. record {
+      found = are.found;
+      rooms = right from least (record {
+        candidates = found;
+        found = are.found;
+        near = subst (λ (z : ℤ). AreNear doc z found c.in_ok-near.near) same c.in_ok-near.ensures;
+      }) (all_within doc.style least c.args.laid.now c.least_room-least.ensures.least low) are.rooms;
+    }) c.add_rooms.ensures.right

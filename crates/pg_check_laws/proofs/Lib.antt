@@ -1,0 +1,4 @@
+mod Sound
+mod Passing
+mod Failing
+mod BestPicks

@@ -1,0 +1,36 @@
+use Rattle.std.proofs.Common.{rules}
+use Rattle.std.specs.Prelude.{Result}
+use Rattle.pg_labels.specs.declared.output.Output.{Output}
+use Rattle.pg_outside.specs.Outside.{Held}
+use Rattle.pg_command.specs.Lines.{line_of, status_of}
+use Rattle.pg_course.specs.Course.{BeginsBy, CheckText, EndsBy, Stop, opened_output}
+use Rattle.pg_course.proofs.Runs.{on_settled, on_write_fault, when_said}
+use Rattle.pg_course.proofs.check.check_file.Goals as goal
+
+pub returns-in-Ok : goal.returns-in-Ok
+returns-in-Ok g c =
+    let old = g.O.Sink.written c.args.out.now in
+    let new = g.O.Sink.written c.check_output.new.out in
+    let end = c.check_output.result in
+    record {
+      goes =
+          record {
+            settled =
+                on_settled (status_of end) (when_said (λ (said : Result Output Stop).
+                EndsBy (CheckText c.args.style.now c.args.galley.now said) old new (status_of end) (line_of end))
+                (g.H.Shelf.held c.args.shelf.now)
+                (λ (held : Held). opened_output c.args.name.now (held c.args.name.now)) c.in-Ok.output
+                c.in-Ok.ensures.output) c.check_output.ensures.writes.settled;
+            read = search rules;
+            read_keeps = search rules;
+            write = search rules;
+            front =
+                on_write_fault (status_of end) (when_said (λ (said : Result Output Stop).
+                BeginsBy (CheckText c.args.style.now c.args.galley.now said) old new)
+                (g.H.Shelf.held c.args.shelf.now)
+                (λ (held : Held). opened_output c.args.name.now (held c.args.name.now)) c.in-Ok.output
+                c.in-Ok.ensures.output) c.check_output.ensures.writes.front;
+            memory = search rules;
+            no_usage = search rules;
+          };
+    }

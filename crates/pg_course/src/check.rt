@@ -1,0 +1,150 @@
+//! The command `check`.
+ghost use Rattle.std.specs.Prelude.{◌≡◌, ℕ, List, Option, Ok, Some, IfSome};
+ghost use Rattle.pg_floats.specs.AreFloats.{AreFloats};
+ghost use Rattle.pg_labels.specs.Reading.{IsFew};
+ghost use Rattle.pg_command.specs.declared.status.Status.TheVariants.{Done};
+ghost use Rattle.pg_command.specs.Words.{check as check_command, named};
+ghost use Rattle.pg_course.specs.Course.{CheckOutput, CheckText, OneText, opened_output, opened_style};
+ghost use Rattle.pg_course.specs.Calls.{AreRead, Goes, GoesOn, Writes, no_ending, over_shelf, over_sink};
+ghost use Rattle.pg_course.specs.Verdict.{yes_line};
+
+use crate::line::yes_line_of;
+use crate::open::{open_galley, open_output, open_style};
+use crate::run::float_ending;
+use pg_command::{Ending, StyleWord};
+use pg_floats::FloatList;
+use pg_labelcheck::{No, Proved, check};
+use pg_labels::Output;
+use pg_list::Galley;
+use pg_outside::{Shelf, Sink};
+use pg_style::Style;
+use std::alloc::Global;
+
+// Writes the line of a yes in one piece.
+fn write_yes<'a, O: Sink>(alloc: Global, proved: Proved, out: &mut O) -> Ending<'a>
+    ensures writes { Writes (OneText (yes_line proved) Done)
+        (over_sink (O.written out.old) (O.written out.new) (O.faults out.old) (O.faults out.new)) result }
+{
+    match yes_line_of(alloc, proved) {
+        Err(_) => Ending::Memory,
+        Ok(line) => match out.write(&line) {
+            Err(_) => Ending::WriteFault,
+            Ok(()) => Ending::Done,
+        },
+    }
+}
+
+// How a run ends where a check says no.
+fn ending_of_no<'a>(fault: No) -> Ending<'a>
+    ensures { result ≡ no_ending fault }
+{
+    match fault {
+        No::Memory => Ending::Memory,
+        _ => Ending::NotProved(fault),
+    }
+}
+
+// Tests an output text, and writes a yes.
+fn check_output<'a, O: Sink>(
+    alloc: Global,
+    galley: &Galley,
+    style: &Style,
+    floats: &FloatList,
+    output: &Output,
+    out: &mut O,
+) -> Ending<'a>
+    requires floats { AreFloats galley.now.blocks style.now floats.now }
+    requires few { IsFew output.now }
+    ensures writes { Writes (CheckOutput style.now galley.now output.now)
+        (over_sink (O.written out.old) (O.written out.new) (O.faults out.old) (O.faults out.new)) result }
+{
+    match check(alloc, galley, style, floats, output) {
+        Err(fault) => ending_of_no(fault),
+        Ok(proved) => write_yes(alloc, proved, out),
+    }
+}
+
+// Tests the output text of the file of this name.
+fn check_file<'a, H: Shelf, O: Sink>(
+    alloc: Global,
+    galley: &Galley,
+    style: &Style,
+    floats: &FloatList,
+    name: &'a str,
+    shelf: &mut H,
+    out: &mut O,
+) -> Ending<'a>
+    requires { AreFloats galley.now.blocks style.now floats.now }
+    ensures goes { GoesOn (λ held. CheckText style.now galley.now (opened_output name.now (held name.now))) name.now
+        (over_shelf (H.held shelf.old) (H.faults shelf.old) (H.faults shelf.new) (H.last_failed shelf.new))
+        (over_sink (O.written out.old) (O.written out.new) (O.faults out.old) (O.faults out.new)) result }
+{
+    match open_output(alloc, name, shelf) {
+        Err(ending) => ending,
+        Ok(output) => check_output(alloc, galley, style, floats, &output, out),
+    }
+}
+
+// Tests it against a galley, if the style has the classes of its inserts and its floats are not too many.
+fn check_galley<'a, H: Shelf, O: Sink>(
+    alloc: Global,
+    galley: &Galley,
+    style: &Style,
+    name: &'a str,
+    shelf: &mut H,
+    out: &mut O,
+) -> Ending<'a>
+    ensures goes { (style_file galley_file : List ℕ) (wrap : Option ℕ) →
+        IfSome (H.held shelf.old) (AreRead style_file galley_file wrap style.now galley.now) →
+        Goes (Some (check_command style_file galley_file name.now wrap))
+        (over_shelf (H.held shelf.old) (H.faults shelf.old) (H.faults shelf.new) (H.last_failed shelf.new))
+        (over_sink (O.written out.old) (O.written out.new) (O.faults out.old) (O.faults out.new)) result }
+{
+    match FloatList::of(alloc, galley, style) {
+        Err(fault) => float_ending(fault),
+        Ok(floats) => check_file(alloc, galley, style, &floats, name, shelf, out),
+    }
+}
+
+// Reads the galley of this name behind a style, and tests the output text of the other name against them.
+fn check_styled<'a, H: Shelf, O: Sink>(
+    alloc: Global,
+    style: &Style,
+    galley: &'a str,
+    output: &'a str,
+    wrap: Option<u32>,
+    shelf: &mut H,
+    out: &mut O,
+) -> Ending<'a>
+    ensures goes { (style_file : List ℕ) →
+        IfSome (H.held shelf.old) (λ held. opened_style (named style_file) held ≡ Ok style.now) →
+        Goes (Some (check_command style_file galley.now output.now wrap))
+        (over_shelf (H.held shelf.old) (H.faults shelf.old) (H.faults shelf.new) (H.last_failed shelf.new))
+        (over_sink (O.written out.old) (O.written out.new) (O.faults out.old) (O.faults out.new)) result }
+{
+    match open_galley(alloc, galley, wrap, shelf) {
+        Err(ending) => ending,
+        Ok(galley) => check_galley(alloc, &galley, style, output, shelf, out),
+    }
+}
+
+/// Tests the output text of a file against a style and a galley, which are read first, in this order, and writes a yes
+/// in one piece. A no is an ending.
+pub fn check_course<'a, H: Shelf, O: Sink>(
+    alloc: Global,
+    style: &'a str,
+    galley: &'a str,
+    output: &'a str,
+    wrap: Option<u32>,
+    shelf: &mut H,
+    out: &mut O,
+) -> Ending<'a>
+    ensures goes { Goes (Some (check_command style.now galley.now output.now wrap))
+        (over_shelf (H.held shelf.old) (H.faults shelf.old) (H.faults shelf.new) (H.last_failed shelf.new))
+        (over_sink (O.written out.old) (O.written out.new) (O.faults out.old) (O.faults out.new)) result }
+{
+    match open_style(alloc, StyleWord::Named(style), shelf) {
+        Err(ending) => ending,
+        Ok(style) => check_styled(alloc, &style, galley, output, wrap, shelf, out),
+    }
+}

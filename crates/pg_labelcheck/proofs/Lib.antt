@@ -1,0 +1,6 @@
+mod Answered
+mod Differing
+mod OneByOne
+mod Opened
+mod Passes
+mod Shows

@@ -1,0 +1,82 @@
+-- A step of the parts that were settled.
+use Rattle.std.proofs.Common.{◌≡◌, ap, ◌∙◌, ℕ, ◌+◌, List, [], Option, Some, None, ℤ}
+use Rattle.std.specs.Prelude.{◌==◌, if◌then◌else◌, pos, ◌+ℤ◌}
+use Rattle.pg_list.specs.declared.galley.Place.{Place}
+use Rattle.pg_plan.specs.declared.pages.PageMove.{PageMove}
+use Rattle.pg_plan.specs.declared.states.State.{State}
+use Rattle.pg_ends.specs.declared.end.End.{End}
+use Rattle.pg_rules.specs.Cost.{run_demerits}
+use Rattle.pg_rules.specs.Follow.{fills_page, keeps_run, other_side, turns}
+use Rattle.pg_rules.specs.Room.{Document}
+use Rattle.pg_table.specs.declared.step.Step.{Step}
+use Rattle.pg_layouts.specs.Layouts.{move_of}
+use Rattle.pg_move_laws.specs.Ages.{ages_left, float_cost}
+use Rattle.pg_move_laws.specs.Listed.{layout_cost, listed_end, listed_stay, placed_with, state_to}
+use Rattle.pg_move_laws.specs.Steps.{fitness_cost, kept_fitness, wide_of}
+use Rattle.pg_laid.specs.Laid.{laid_of}
+use Rattle.pg_laid.specs.declared.laid.Laid.{Laid}
+use Rattle.pg_waiting.specs.Settling.{Settles}
+use Rattle.pg_waiting.specs.declared.settling.Settled.{Settled}
+use Rattle.pg_moves.specs.Stepping.{cost_at, fitness_behind, page_price, state_behind, stay_price}
+
+module _ (doc : Document) (u : State) (laid : Laid) (is : laid ≡ laid_of doc u laid.layout) where
+  after_is : laid.after ≡ placed_with doc.style u.placed laid.layout
+  after_is = ap (λ (it : Laid). it.after) is
+
+  -- the state behind it
+  state_is : (to : Place) (fitness : Option ℕ) (settled : Settled) → Settles doc u to laid.after (Some settled) →
+      state_behind doc.style u laid to fitness settled.ages ≡ state_to doc u laid.layout to fitness
+  state_is to fitness settled s =
+      ap (λ (wide : Option ℤ). with_parts wide laid.after settled.ages) (ap (λ (it : Laid). it.wide) is)
+      ∙ (ap (λ (after : List ℕ). with_parts (wide_of doc u laid.layout.wide) after settled.ages) after_is
+      ∙ ap (with_parts (wide_of doc u laid.layout.wide) (placed_with doc.style u.placed laid.layout))
+      (s.1.0 ∙ ap (λ (after : List ℕ). ages_left doc u to after (turns doc.style u)) after_is))
+    where
+      with_parts : Option ℤ → List ℕ → List ℕ → State
+      with_parts wide after ages = record {
+        place = to;
+        column = if fills_page doc.style u then 1 else u.column + 1;
+        side = if fills_page doc.style u then other_side u.side else u.side;
+        run = if fills_page doc.style u then keeps_run u.side laid.layout.run else Some laid.layout.run;
+        wide = if fills_page doc.style u then None else wide;
+        fitness = fitness;
+        placed = after;
+        ages = ages;
+      }
+
+  -- what it pays for its page's run and for its floats
+  price_is : (to : Place) (settled : Settled) → Settles doc u to laid.after (Some settled) →
+      page_price doc.style u laid settled.price ≡ layout_cost doc u laid.layout to
+  price_is to settled s =
+      ap (λ (price : ℤ). (if u.column == 1 then run_demerits doc.style laid.layout.run else pos 0) +ℤ price)
+      (s.1.1.0 ∙ ap (float_cost doc u to) after_is)
+
+  abbrev pub step : State → PageMove → ℤ → Step State PageMove
+  step to by cost = record { to = to; by = by; cost = cost }
+
+  same_step : (to next : State) (by move : PageMove) (cost pays : ℤ) → to ≡ next → by ≡ move → cost ≡ pays →
+      step to by cost ≡ step next move pays
+  same_step to next by move cost pays s m p =
+      ap (λ (v : State). step v by cost) s ∙ (ap (λ (v : PageMove). step next v cost) m ∙ ap (step next move) p)
+
+  -- the step of a column of text to an end
+  pub end_is : (end : End) (settled : Settled) (to : State) (by : PageMove) (cost : ℤ) →
+      to ≡ state_behind doc.style u laid end.to (kept_fitness doc.style end.cost.fitness) settled.ages →
+      by ≡ move_of u laid.layout end.to end.picks → cost ≡ cost_at doc.style u laid end settled.price →
+      Settles doc u end.to laid.after (Some settled) → step to by cost ≡ listed_end doc u laid.layout end
+  end_is end settled to by cost s m p settles = same_step to
+      (state_to doc u laid.layout end.to (kept_fitness doc.style end.cost.fitness)) by
+      (move_of u laid.layout end.to end.picks) cost _
+      (s ∙ state_is end.to (kept_fitness doc.style end.cost.fitness) settled settles) m
+      (p ∙ ap (λ (price : ℤ). (end.cost.demerits +ℤ end.pick_demerits)
+      +ℤ (price +ℤ fitness_cost doc.style u.fitness end.cost.fitness)) (price_is end.to settled settles))
+
+  -- the step of a column without text
+  pub stay_is : (settled : Settled) (to : State) (by : PageMove) (cost : ℤ) →
+      to ≡ state_behind doc.style u laid u.place (fitness_behind doc.style u) settled.ages →
+      by ≡ move_of u laid.layout u.place [] → cost ≡ stay_price doc.style u laid settled.price →
+      Settles doc u u.place laid.after (Some settled) → step to by cost ≡ listed_stay doc u laid.layout
+  stay_is settled to by cost s m p settles = same_step to
+      (state_to doc u laid.layout u.place (fitness_behind doc.style u)) by (move_of u laid.layout u.place []) cost _
+      (s ∙ state_is u.place (fitness_behind doc.style u) settled settles) m
+      (p ∙ ap (λ (price : ℤ). pos doc.style.float_column.demerits +ℤ price) (price_is u.place settled settles))
