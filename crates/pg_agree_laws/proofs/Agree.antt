@@ -26,7 +26,7 @@ use Rattle.pg_space_laws.specs.Laws.{IsBeginningOf, IsRunOfColumns}
 use Rattle.pg_space_laws.specs.PageSpace.{FollowBest, page_meaning, wide_meaning}
 use Rattle.pg_space_laws.proofs.Bounds.{pages_lawful}
 use Rattle.pg_space_laws.proofs.Contracts.{beginnings_are_runs, best_lawful, runs_are_beginnings}
-use Rattle.pg_agree_laws.specs.Laws.{BeginningsAgree, PagesAgree}
+use Rattle.pg_agree_laws.specs.Agreeing.{BeginningsAgree, PagesAgree}
 use Rattle.pg_agree_laws.proofs.Cuts.{AreCut, agree_back, are_cut}
 use Rattle.pg_agree_laws.proofs.Follows.{best_same, follow_same}
 use Rattle.pg_agree_laws.proofs.Reaches.{document_of, reach_same}
@@ -49,7 +49,8 @@ module _ {S M K : Type 0} (eq : K → K → Bool) (sp sq : Meaning S M K) (law :
 module _ (style : StyleValue) {n : ℕ} {blocks others : List Block} (cut : AreCut n blocks others) where
   follow_over : (u : State) (m : PageMove) (v : State) (c : ℤ) → u.place.block < n → v.place.block < n →
       Follow (document_of style blocks) u m v c → Follow (document_of style others) u m v c
-  follow_over u m v c i j f = subst (λ (bs : List Block). Follow (document_of style bs) u m v c) (sym cut.shared.other_is)
+  follow_over u m v c i j f =
+      subst (λ (bs : List Block). Follow (document_of style bs) u m v c) (sym cut.shared.other_is)
       (follow_same style cut.first_on cut.second_on u m v c (omega (arith, i, cut.shared.long))
       (omega (arith, j, cut.shared.long))
       (subst (λ (bs : List Block). Follow (document_of style bs) u m v c) cut.shared.is f))
@@ -130,5 +131,5 @@ pages_agree g o style range other (suc n) h = record {
 
     place_of : (k : GalleyValue) → AreInRange k style → (r : Reached State PageMove) →
         IsRun (page_meaning (document k style)) r → IsPlace k.blocks r.state.place
-    place_of k ranges r run = (own is_same_key (page_meaning (document k style)) (best_lawful k style ranges) r.moves r.state
-        r.cost run).place
+    place_of k ranges r run = (own is_same_key (page_meaning (document k style)) (best_lawful k style ranges)
+        r.moves r.state r.cost run).place

@@ -1,4 +1,4 @@
--- What stands behind a front of blocks: whether its first item is glue, and that a box stands in it, whatever is picked.
+-- What stands behind a front of blocks: whether its first item is glue, and that it has a box, whatever is picked.
 use Rattle.std.proofs.Common.{◌≡◌, refl, sym, subst, ℕ, zero, suc, ◌+◌, ◌≤◌, List, [], ◌∷◌, ◌++◌, length, map, Bool, true, false, Option, Some, arith}
 use Rattle.std.specs.Prelude.{◌||◌, slice_get, unwrap_or, option_map}
 use Rattle.std.specs.List.{AllByRecursion, list_any}

@@ -117,7 +117,8 @@ module _ (style : StyleValue) {front : List Block} {next : Block} {ra rb : List 
   deals = deals_in front (next ∷ ra) (front_each a) style u.placed m ends_in f.stands.callouts
 
   wide_same : wide_in one u m ≡ wide_in two u m
-  wide_same = ap (λ (h : ℤ). if u.column == 1 then (if nat_lt 0 (float_count style m.wide) then Some h else None) else u.wide)
+  wide_same = ap (λ (h : ℤ). if u.column == 1 then (if nat_lt 0 (float_count style m.wide) then Some h else None)
+      else u.wide)
       (height_in front (next ∷ ra) style u.placed m.wide deals.wide
       (is_area_allowed style takes_wide style.wide.count m.wide) style.wide
       ∙ sym (height_in front (next ∷ rb) style u.placed m.wide deals.wide
@@ -136,7 +137,8 @@ module _ (style : StyleValue) {front : List Block} {next : Block} {ra rb : List 
       deals.bottom f.stands.rules.fits
 
   called_from : called (front ++ next ∷ ra) style u.place ≡ called (front ++ next ∷ rb) style u.place
-  called_from = called_in front (next ∷ ra) style u.place from_in ∙ sym (called_in front (next ∷ rb) style u.place from_in)
+  called_from = called_in front (next ∷ ra) style u.place from_in
+      ∙ sym (called_in front (next ∷ rb) style u.place from_in)
 
   called_to : called (front ++ next ∷ ra) style m.column.to ≡ called (front ++ next ∷ rb) style m.column.to
   called_to = called_in front (next ∷ ra) style m.column.to ends_in
@@ -185,7 +187,8 @@ module _ (style : StyleValue) {front : List Block} {next : Block} {ra rb : List 
     stands = may_stand;
     turns = sym (by_callouts (may_turn_by style u m)) ∙ f.turns;
     pays = f.pays ∙ (cost_same same u.column u.fitness (age_in one u) (added one u.placed m)
-        ∙ (ap (λ (x : ColumnContext). column_cost x u.column u.fitness (age_in one u) (added one u.placed m)) context_same
+        ∙ (ap (λ (x : ColumnContext). column_cost x u.column u.fitness (age_in one u) (added one u.placed m))
+        context_same
         ∙ ap (λ (counts : List ℕ). column_cost (context_in two u m) u.column u.fitness (age_by style u counts)
         (added one u.placed m)) called_from));
     leads = f.leads ∙ state_same;

@@ -14,18 +14,19 @@ use Rattle.pg_flat.specs.Flat.{FlatItem, blocks_at, flat_items_at, flat_items_fr
 use Rattle.pg_flat.proofs.Places.{picked_few}
 use Rattle.pg_lemmas.proofs.Lists.{all_append, all_drop, no_items}
 use Rattle.pg_reach_laws.proofs.Picks.{named}
+use Rattle.pg_column.proofs.Picks.{none_picked}
 use Rattle.pg_text_laws.proofs.Picks.{choices, choices_cons}
 use Rattle.pg_agree_laws.proofs.Items.{slice_front}
 
 -- ---- picks: those that blocks read, and those that they leave
 
-abbrev pub read_by : List Block → List ℕ → List ℕ
+abbrev pub read_by : (blocks : List Block) (picks : List ℕ) → List ℕ
 read_by [] picks = []
 read_by (One item ∷ blocks) picks = read_by blocks picks
 read_by (Choice variants ∷ blocks) [] = []
 read_by (Choice variants ∷ blocks) (pick ∷ picks) = pick ∷ read_by blocks picks
 
-abbrev pub left_by : List Block → List ℕ → List ℕ
+abbrev pub left_by : (front : List Block) (picks : List ℕ) → List ℕ
 left_by [] picks = picks
 left_by (One item ∷ blocks) picks = left_by blocks picks
 left_by (Choice variants ∷ blocks) [] = left_by blocks []
@@ -48,16 +49,13 @@ picks_parted (Choice variants ∷ blocks) [] =
     let e : length (left_by blocks []) ≡ 0 = ap length (none_left blocks [] (omega arith)) in omega (arith, e)
 picks_parted (Choice variants ∷ blocks) (pick ∷ picks) = let e = picks_parted blocks picks in omega (arith, e)
 
-no_variants : (blocks : List Block) → picked_variants blocks [] ≡ []
-no_variants blocks = no_items (picked_variants blocks []) (let h = picked_few blocks [] in omega (arith, h))
-
 -- the variants of the first blocks, and then those of the others
 pub variants_cut : (front blocks : List Block) (picks : List ℕ) → picked_variants (front ++ blocks) picks
     ≡ picked_variants front picks ++ picked_variants blocks (left_by front picks)
 variants_cut [] blocks picks = refl
 variants_cut (One item ∷ front) blocks picks = variants_cut front blocks picks
 variants_cut (Choice variants ∷ front) blocks [] = sym (ap (picked_variants blocks)
-    (none_left front [] (omega arith)) ∙ no_variants blocks)
+    (none_left front [] (omega arith)) ∙ none_picked blocks)
 variants_cut (Choice variants ∷ front) blocks (pick ∷ picks) =
     ap (λ (more : List Variant). option_map_or (λ (v : Variant). v ∷ []) (slice_get variants pick) [] ++ more)
     (variants_cut front blocks picks)
@@ -69,7 +67,7 @@ pub variants_front : (front blocks : List Block) (picks : List ℕ) → left_by 
     picked_variants (front ++ blocks) picks ≡ picked_variants front picks
 variants_front front blocks picks none = variants_cut front blocks picks
     ∙ (ap (λ (vs : List Variant). picked_variants front picks ++ vs)
-    (ap (picked_variants blocks) none ∙ no_variants blocks) ∙ append-nil (picked_variants front picks))
+    (ap (picked_variants blocks) none ∙ none_picked blocks) ∙ append-nil (picked_variants front picks))
 
 pub variants_read : (blocks : List Block) (picks : List ℕ) →
     picked_variants blocks (read_by blocks picks) ≡ picked_variants blocks picks

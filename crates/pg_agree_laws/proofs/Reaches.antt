@@ -61,7 +61,8 @@ module _ (style : StyleValue) {front : List Block} {next : Block} {ra rb : List 
     (a : GoesOn front next ra) (b : GoesOn front next rb) where
   -- to a place in the front
   reach_low : (from to : Place) → from.block < length front → to.block < length front →
-      Reaches (document_of style (front ++ next ∷ ra)) from to → Reaches (document_of style (front ++ next ∷ rb)) from to
+      Reaches (document_of style (front ++ next ∷ ra)) from to →
+      Reaches (document_of style (front ++ next ∷ rb)) from to
   reach_low from to i h r =
       let s = both_of (fronts (flat_items_at (front ++ next ∷ ra) from r.picks) r.size == length r.picks) _ r.picked in
       let n : named (blocks_at (front ++ next ∷ ra) from) r.picks ≡ length r.picks = eqb-true _ _ s.1 in
@@ -156,7 +157,8 @@ module _ (style : StyleValue) {front : List Block} {next : Block} {ra rb : List 
         (subst (λ (xs : List FlatItem). ItemsCut (map item_of xs) (is_glue_block next)
         (map item_of (flat_items_at (front ++ next ∷ ra) from r.picks))) (sym same)
         (items_cut a from inside r.picks names)) (items_cut b from inside own own_named)
-        (omega (arith, ap length same, behind)) (omega (arith, length-map (flat_items_at front from own) item_of)) r.passes;
+        (omega (arith, ap length same, behind))
+        (omega (arith, length-map (flat_items_at front from own) item_of)) r.passes;
   }
 
 -- the reach of a place in the front is the same whatever stands behind the front, or it is behind in both

@@ -79,8 +79,8 @@ module _ {style : StyleValue} {a b : List Block} {column : Column} {run : ℕ} {
 
   badness_same : text_badness it t.size ≡ text_badness other t.size
   badness_same = by (is_spent (items_of it) t.size) (is_spent (items_of other) t.size) (text_goal it t.size)
-      (text_goal other t.size) (text_total it t.size) (text_total other t.size) (segment it t.size) (segment other t.size)
-      t.spent (goal_same t.size (omega arith)) (total_same t.size (omega arith)) (segment_same t.size (omega arith))
+      (text_goal other t.size) (text_total it t.size) (text_total other t.size) (segment it t.size)
+      (segment other t.size) t.spent (goal_same t.size (omega arith)) (total_same t.size (omega arith)) (segment_same t.size (omega arith))
     where
       by : (s u : Bool) (g h x y : ℤ) (xs ys : List Item) → s ≡ u → g ≡ h → x ≡ y → xs ≡ ys →
           page_badness s g x xs ≡ page_badness u h y ys
@@ -99,20 +99,21 @@ module _ {style : StyleValue} {a b : List Block} {column : Column} {run : ℕ} {
       (t.taken t.size (omega arith))
       ∙ ap (λ (o : Option ℤ). list_any is_box (take t.size (items_of other)) && is_some o) t.penalty))
 
+  abbrev tolerated : Bool → Bool → ℕ → Bool
+  tolerated over forced badness = not over && (forced || nat_le badness style.tolerance)
+
   tolerable : is_tolerable it ≡ is_tolerable other
   tolerable = ap (λ (c : Bool). not (is_text it) || c)
-      (at_same (λ n. not (text_is_over it n) && (is_forced (items_of it) n || nat_le (text_badness it n) style.tolerance))
-      (λ n. not (text_is_over other n) && (is_forced (items_of other) n || nat_le (text_badness other n) style.tolerance)) false
-      (ap (λ (c : Bool). not c && (is_forced (items_of it) t.size || nat_le (text_badness it t.size) style.tolerance))
-      (over_same t.size (omega arith))
-      ∙ (ap (λ (c : Bool). not (text_is_over other t.size) && (c || nat_le (text_badness it t.size) style.tolerance)) t.forced
-      ∙ ap (λ (n : ℕ). not (text_is_over other t.size) && (is_forced (items_of other) t.size || nat_le n style.tolerance))
-      badness_same)))
+      (at_same (λ n. tolerated (text_is_over it n) (is_forced (items_of it) n) (text_badness it n))
+      (λ n. tolerated (text_is_over other n) (is_forced (items_of other) n) (text_badness other n)) false
+      (ap (λ (c : Bool). tolerated c (is_forced (items_of it) t.size) (text_badness it t.size)) (over_same t.size (omega arith))
+      ∙ (ap (λ (c : Bool). tolerated (text_is_over other t.size) c (text_badness it t.size)) t.forced
+      ∙ ap (tolerated (text_is_over other t.size) (is_forced (items_of other) t.size)) badness_same)))
 
   passed : passes_breaks it ≡ passes_breaks other
   passed = ap (λ (c : Bool). not (is_text it) || c)
-      (at_same (passes_between (items_of it) (text_is_over it)) (passes_between (items_of other) (text_is_over other)) false
-      (t.passes (text_is_over it) (text_is_over other) (λ k h. over_same k (omega arith))))
+      (at_same (passes_between (items_of it) (text_is_over it)) (passes_between (items_of other) (text_is_over other))
+      false (t.passes (text_is_over it) (text_is_over other) (λ k h. over_same k (omega arith))))
 
   roomy : has_room it ≡ has_room other
   roomy = ap (λ (r : ℤ). if is_text it then int_le style.min_text r else int_le ((wide_height it +ℤ top_height it)
@@ -122,8 +123,8 @@ module _ {style : StyleValue} {a b : List Block} {column : Column} {run : ℕ} {
 
   note_limits : keeps_note_limits it ≡ keeps_note_limits other
   note_limits = ap (λ (c : Bool). not (is_text it) || c)
-      (at_same (λ n. are_notes_within_limits style (segment it n)) (λ n. are_notes_within_limits style (segment other n)) false
-      (ap (are_notes_within_limits style) (segment_same t.size (omega arith))))
+      (at_same (λ n. are_notes_within_limits style (segment it n))
+      (λ n. are_notes_within_limits style (segment other n)) false (ap (are_notes_within_limits style) (segment_same t.size (omega arith))))
 
   looseness : keeps_looseness it ≡ keeps_looseness other
   looseness = ap (λ (vs : List Variant). list_all (λ (variant : Variant). nat_le (unsigned_abs variant.looseness)
@@ -158,23 +159,22 @@ module _ {style : StyleValue} {a b : List Block} {column : Column} {run : ℕ} {
 
   pub fitness_same : column_fitness it ≡ column_fitness other
   fitness_same = at_same (text_fitness it) (text_fitness other) 2
-      (ap (λ (x : ℤ). if style.version == 1 then 2 else fitness_by x (text_goal it t.size) (text_badness it t.size))
-      (total_same t.size (omega arith))
-      ∙ (ap (λ (x : ℤ). if style.version == 1 then 2 else fitness_by (text_total other t.size) x (text_badness it t.size))
-      (goal_same t.size (omega arith))
-      ∙ ap (λ (x : ℕ). if style.version == 1 then 2 else fitness_by (text_total other t.size) (text_goal other t.size) x)
-      badness_same))
+      (ap (λ (f : ℕ). if style.version == 1 then 2 else f)
+      (ap (λ (x : ℤ). fitness_by x (text_goal it t.size) (text_badness it t.size)) (total_same t.size (omega arith))
+      ∙ (ap (λ (x : ℤ). fitness_by (text_total other t.size) x (text_badness it t.size)) (goal_same t.size (omega arith))
+      ∙ ap (fitness_by (text_total other t.size) (text_goal other t.size)) badness_same)))
 
   pub fitness_after_same : (fitness : Option ℕ) → fitness_after fitness it ≡ fitness_after fitness other
-  fitness_after_same fitness = ap (λ (n : ℕ). if style.version == 1 then None else (if is_text it then Some n else fitness)) fitness_same
+  fitness_after_same fitness = ap (λ (n : ℕ). if style.version == 1 then None
+      else (if is_text it then Some n else fitness)) fitness_same
 
   demerits_same : column_demerits it ≡ column_demerits other
   demerits_same = ap (λ (x : ℤ). if is_text it then x else pos style.float_column.demerits)
       (at_same (text_demerits it) (text_demerits other) (pos 0)
       (ap (λ (n : ℕ). square (pos (style.line + n))
       +ℤ option_map_or penalty_demerits (break_penalty (items_of it) t.size) (pos 0)) badness_same
-      ∙ ap (λ (o : Option ℤ). square (pos (style.line + text_badness other t.size)) +ℤ option_map_or penalty_demerits o (pos 0))
-      t.penalty))
+      ∙ ap (λ (o : Option ℤ). square (pos (style.line + text_badness other t.size))
+      +ℤ option_map_or penalty_demerits o (pos 0)) t.penalty))
 
   picks_same : pick_demerits it ≡ pick_demerits other
   picks_same = ap (λ (vs : List Variant). whole_sum_by (λ (variant : Variant). pos variant.demerits) vs) t.variants

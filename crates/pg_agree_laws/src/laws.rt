@@ -1,7 +1,7 @@
 //! Each law is the contract of a function that does nothing. Its premises are what the types of a
 //! galley and of a style keep.
 ghost use Rattle.pg_rules.specs.Ranges.{AreInRange};
-ghost use Rattle.pg_agree_laws.specs.Laws.{AgreeBack, AgreeFurtherDown, AgreeOn, BeginningsAgree, EditsAgree, PagesAgree};
+ghost use Rattle.pg_agree_laws.specs.Agreeing.{AgreeBack, AgreeLess, AgreeOn, BeginningsAgree, EditsAgree, PagesAgree};
 
 use pg_list::Galley;
 use pg_style::Style;
@@ -26,7 +26,7 @@ pub fn pages_agree(galley: &Galley, other: &Galley, style: &Style)
 /// each smaller one, both ways, and on to what agrees with the other.
 pub fn edits_agree(galley: &Galley, other: &Galley, third: &Galley)
     ensures edits { EditsAgree galley.now.blocks }
-    ensures less { AgreeFurtherDown galley.now.blocks other.now.blocks }
+    ensures less { AgreeLess galley.now.blocks other.now.blocks }
     ensures back { AgreeBack galley.now.blocks other.now.blocks }
     ensures on { AgreeOn galley.now.blocks other.now.blocks third.now.blocks }
 {}

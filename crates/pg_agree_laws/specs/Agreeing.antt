@@ -35,8 +35,8 @@ abbrev pub EditsAgree : List Block → Type 0
 EditsAgree blocks = (edit : Edit) → AgreeBelow (touched blocks edit) blocks (spliced blocks edit)
 
 -- what agrees below a block agrees below each smaller one
-abbrev pub AgreeFurtherDown : List Block → List Block → Type 0
-AgreeFurtherDown blocks others = (t u : ℕ) → u ≤ t → AgreeBelow t blocks others → AgreeBelow u blocks others
+abbrev pub AgreeLess : List Block → List Block → Type 0
+AgreeLess blocks others = (t u : ℕ) → u ≤ t → AgreeBelow t blocks others → AgreeBelow u blocks others
 
 -- to agree goes both ways
 abbrev pub AgreeBack : List Block → List Block → Type 0
@@ -44,4 +44,5 @@ AgreeBack blocks others = (t : ℕ) → AgreeBelow t blocks others → AgreeBelo
 
 -- and on to what agrees with the other
 abbrev pub AgreeOn : List Block → List Block → List Block → Type 0
-AgreeOn blocks others thirds = (t : ℕ) → AgreeBelow t blocks others → AgreeBelow t others thirds → AgreeBelow t blocks thirds
+AgreeOn blocks others thirds = (t : ℕ) → AgreeBelow t blocks others → AgreeBelow t others thirds →
+    AgreeBelow t blocks thirds
