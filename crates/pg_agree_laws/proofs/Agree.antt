@@ -1,5 +1,5 @@
 -- Where two galleys agree, so do the runs of their spaces of pages, their reaches and their beginnings.
-use Rattle.std.proofs.Common.{◌≡◌, refl, sym, ap, subst, ◌∙◌, ℕ, zero, suc, ◌+◌, ◌≤◌, ◌<◌, Bool, List, [], ◌∷◌, ◌++◌, length, arith}
+use Rattle.std.proofs.Common.{◌≡◌, refl, sym, subst, ◌∙◌, ℕ, zero, suc, ◌+◌, ◌≤◌, ◌<◌, Bool, List, [], ◌∷◌, length, arith}
 use Rattle.std.specs.Prelude.{ℤ}
 use Rattle.pg_list.specs.GalleyValue.{GalleyValue}
 use Rattle.pg_list.specs.declared.galley.Place.{Place}
@@ -18,7 +18,7 @@ use Rattle.pg_rules.specs.Ranges.{AreInRange}
 use Rattle.pg_rules.specs.Reach.{IsReach}
 use Rattle.pg_rules.specs.States.{Prefix, state_of}
 use Rattle.pg_table.specs.Below.{SameBelow}
-use Rattle.pg_table.specs.Space.{IsRun, Lawful, Meaning, Reached, Run}
+use Rattle.pg_table.specs.Space.{Lawful, Meaning, Run}
 use Rattle.pg_table.proofs.Runs.{own}
 use Rattle.pg_reach_laws.specs.ReachAt.{reach_at}
 use Rattle.pg_reach_laws.proofs.ReachAt.{reach_is}
@@ -74,27 +74,52 @@ module _ (style : StyleValue) {n : ℕ} {blocks others : List Block} (cut : AreC
 
 -- ---- the laws
 
+-- a run ends at a place of the galley
+module _ (k : GalleyValue) (style : StyleValue) (range : AreInRange k style) where
+  wide_place : (ms : List PageMove) (v : State) (c : ℤ) → Run (wide_meaning (document k style)) ms v c →
+      IsPlace k.blocks v.place
+  wide_place ms v c run =
+      (own is_same_key (wide_meaning (document k style)) (pages_lawful k style range) ms v c run).place
+
+  best_place : (ms : List PageMove) (v : State) (c : ℤ) → Run (page_meaning (document k style)) ms v c →
+      IsPlace k.blocks v.place
+  best_place ms v c run =
+      (own is_same_key (page_meaning (document k style)) (best_lawful k style range) ms v c run).place
+
 module _ (g o : GalleyValue) (style : StyleValue) (range : AreInRange g style) (other : AreInRange o style) where
+  wide_runs : (n : ℕ) → AreCut n g.blocks o.blocks → (ms : List PageMove) (v : State) (c : ℤ) → v.place.block < n →
+      Run (wide_meaning (document g style)) ms v c → Run (wide_meaning (document o style)) ms v c
+  wide_runs n cut = runs_over is_same_key (wide_meaning (document g style)) (wide_meaning (document o style))
+      (pages_lawful g style range) n refl (follow_over style cut)
+
   best_runs : (n : ℕ) → AreCut n g.blocks o.blocks → (ms : List PageMove) (v : State) (c : ℤ) → v.place.block < n →
       Run (page_meaning (document g style)) ms v c → Run (page_meaning (document o style)) ms v c
   best_runs n cut = runs_over is_same_key (page_meaning (document g style)) (page_meaning (document o style))
       (best_lawful g style range) n refl (best_over style cut)
 
+  place_reach : (n : ℕ) → AreCut n g.blocks o.blocks → (from : Place) → from.block < n → IsPlace g.blocks from →
+      IsPlace o.blocks from → SameBelow (suc n) (reach_at (document g style) from) (reach_at (document o style) from)
+  place_reach n cut from i here there = reach_over style cut from (reach_at (document g style) from)
+      (reach_at (document o style) from) i (reach_is (document g style) range.blocks from here)
+      (reach_is (document o style) other.blocks from there)
+
   -- a beginning that ends below the block is one of the other galley
-  pub same_beginnings : BeginningsAgree g o style
-  same_beginnings zero plan h prefix l = absurd (omega (arith, l))
-  same_beginnings (suc n) plan h prefix l =
-      let r : IsRunOfColumns g style plan = beginnings_are_runs g style range plan prefix in
+  pub beginnings_agree : BeginningsAgree g o style
+  beginnings_agree zero plan h prefix l = absurd (omega (arith, l))
+  beginnings_agree (suc n) plan h prefix l =
+      let i : (state_of g style plan).place.block < n = omega (arith, l) in
       let cut : AreCut n g.blocks o.blocks = are_cut n g.blocks o.blocks range.blocks other.blocks h in
+      let r : IsRunOfColumns g style plan = beginnings_are_runs g style range plan prefix in
+      let run : Run (wide_meaning (document o style)) (columns plan) (state_of g style plan) (cost g style plan) =
+      wide_runs n cut (columns plan) (state_of g style plan) (cost g style plan) i r.run in
       let s : IsBeginningOf o style (columns plan) (state_of g style plan) (cost g style plan) =
-      runs_are_beginnings o style other (columns plan) (state_of g style plan) (cost g style plan)
-      (runs_over is_same_key (wide_meaning (document g style)) (wide_meaning (document o style))
-      (pages_lawful g style range) n refl (follow_over style cut) (columns plan) (state_of g style plan)
-      (cost g style plan) (omega (arith, l)) r.run) in
+      runs_are_beginnings o style other (columns plan) (state_of g style plan) (cost g style plan) run in
       record {
         prefix = subst (Prefix o style) r.plan_is s.prefix;
         state = subst (λ (p : Pagination). state_of o style p ≡ state_of g style plan) r.plan_is s.state;
         cost = subst (λ (p : Pagination). cost o style p ≡ cost g style plan) r.plan_is s.cost;
+        reach = place_reach n cut (state_of g style plan).place i (wide_place g style range _ _ _ r.run)
+            (wide_place o style other _ _ _ run);
       }
 
 pub pages_agree : (g o : GalleyValue) (style : StyleValue) → AreInRange g style → AreInRange o style →
@@ -117,10 +142,10 @@ pages_agree g o style range other (suc n) h = record {
   no_worse = λ u v x y i j. refl;
   runs = λ r l run. best_runs g o style range other n cut r.moves r.state r.cost (omega (arith, l)) run;
   runs_back = λ r l run. best_runs o g style other range n back r.moves r.state r.cost (omega (arith, l)) run;
-  reaches = λ r l run. reach_over style cut r.state.place _ _ (omega (arith, l))
-      (reach_is (document g style) range.blocks r.state.place (place_of g range r run))
-      (reach_is (document o style) other.blocks r.state.place (place_of o other r
-      (best_runs g o style range other n cut r.moves r.state r.cost (omega (arith, l)) run)));
+  reaches = λ r l run. let i : r.state.place.block < n = omega (arith, l) in
+      place_reach g o style range other n cut r.state.place i (best_place g style range r.moves r.state r.cost run)
+      (best_place o style other r.moves r.state r.cost
+      (best_runs g o style range other n cut r.moves r.state r.cost i run));
 }
   where
     cut : AreCut n g.blocks o.blocks
@@ -128,8 +153,3 @@ pages_agree g o style range other (suc n) h = record {
 
     back : AreCut n o.blocks g.blocks
     back = are_cut n o.blocks g.blocks other.blocks range.blocks (agree_back (suc n) g.blocks o.blocks h)
-
-    place_of : (k : GalleyValue) → AreInRange k style → (r : Reached State PageMove) →
-        IsRun (page_meaning (document k style)) r → IsPlace k.blocks r.state.place
-    place_of k ranges r run = (own is_same_key (page_meaning (document k style)) (best_lawful k style ranges)
-        r.moves r.state r.cost run).place

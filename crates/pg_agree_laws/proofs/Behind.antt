@@ -17,7 +17,7 @@ use Rattle.pg_cut_laws.proofs.Alike.{item_of}
 use Rattle.pg_lemmas.proofs.Bools.{or_left}
 use Rattle.pg_lemmas.proofs.Lists.{all_drop, all_take}
 use Rattle.pg_place_laws.proofs.Places.{pick_named}
-use Rattle.pg_reach_laws.proofs.Picks.{named, rest_named}
+use Rattle.pg_reach_laws.proofs.Picks.{named}
 
 -- the blocks behind a front, with a box among them
 pub record GoesOn (front : List Block) (next : Block) (rest : List Block) : Type 0 where

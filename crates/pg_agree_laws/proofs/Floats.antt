@@ -1,11 +1,10 @@
 -- Floats that the front has are dealt out alike, with the same heights, whatever stands behind it.
-use Rattle.std.proofs.Common.{◌≡◌, refl, sym, ap, ◌∙◌, ℕ, ◌+◌, ◌-◌, ◌≤◌, inl, inr, List, [], ◌∷◌, ◌++◌, length, length-append, length-drop, map, take, drop, Bool, true, arith}
+use Rattle.std.proofs.Common.{◌≡◌, refl, sym, ap, ◌∙◌, ℕ, ◌+◌, ◌≤◌, inl, inr, List, [], ◌∷◌, ◌++◌, length, length-append, length-drop, map, take, drop, Bool, true, arith}
 use Rattle.std.specs.Prelude.{◌&&◌, ◌||◌, ◌==◌, if◌then◌else◌, nat_le, ℤ, pos}
 use Rattle.std.proofs.lemmas.Bool.{eqb-true, le-leb, leb-true}
 use Rattle.std.proofs.lemmas.List.{drop-append-le, map-append, take-append-le}
 use Rattle.std.proofs.lemmas.List.Elements.{filter_map-append}
 use Rattle.pg_list.specs.declared.blocks.Block.{Block}
-use Rattle.pg_list.specs.declared.item.Item.{Item}
 use Rattle.pg_style.specs.Values.{StyleValue, AreaRuleValue}
 use Rattle.pg_flat.specs.Flat.{FlatItem, flat, flat_items_from}
 use Rattle.pg_rules.specs.Floats.{area_height, dealt, dealt_from, entry, float_numbers, floats, has_all, has_all_from, insert_size, sizes_of}

@@ -1,7 +1,6 @@
 -- How far a column that starts in the front may go, whatever stands behind the front.
-use Rattle.std.proofs.Common.{◌≡◌, refl, sym, ap, subst, ◌∙◌, ℕ, ◌+◌, ◌-◌, ◌≤◌, ◌<◌, inl, inr, List, ◌∷◌, ◌++◌, length, map, take, Bool, true, arith}
-use Rattle.std.specs.Prelude.{◌==◌, ◌&&◌, ◌+ℤ◌, nat_lt}
-use Rattle.std.specs.List.{AllByRecursion}
+use Rattle.std.proofs.Common.{◌≡◌, sym, ap, subst, ◌∙◌, ℕ, ◌+◌, ◌-◌, ◌≤◌, ◌<◌, inl, inr, List, ◌∷◌, ◌++◌, length, map, take, Bool, true, arith}
+use Rattle.std.specs.Prelude.{◌==◌, ◌+ℤ◌, nat_lt}
 use Rattle.std.proofs.Math.Seq.{take-append-add, take-append_seam}
 use Rattle.std.proofs.lemmas.Bool.{eqb-true}
 use Rattle.std.proofs.lemmas.List.{length-map}
@@ -23,7 +22,7 @@ use Rattle.pg_lemmas.proofs.Bools.{both, both_of, by_bool}
 use Rattle.pg_lemmas.proofs.Lists.{all_drop}
 use Rattle.pg_lemmas.proofs.Numbers.{eq_yes, less_true, not_less}
 use Rattle.pg_reach_laws.proofs.Picks.{named}
-use Rattle.pg_text_laws.proofs.Picks.{at_fronts, choices, front_append, front_count, named_few}
+use Rattle.pg_text_laws.proofs.Picks.{at_fronts, front_append, front_count, named_few}
 use Rattle.pg_agree_laws.proofs.Behind.{GoesOn, front_each, is_glue_block}
 use Rattle.pg_agree_laws.proofs.Fronts.{blocks_cut, cut_at, left_by, named_parts, none_left, picks_parted, read_at, read_by, variants_front, variants_read}
 use Rattle.pg_agree_laws.proofs.Items.{passes_less, take_same}

@@ -10,20 +10,25 @@ use Rattle.pg_rules.specs.Cost.{cost}
 use Rattle.pg_rules.specs.Legal.{document}
 use Rattle.pg_rules.specs.Reach.{AgreeBelow, touched}
 use Rattle.pg_rules.specs.States.{Prefix, state_of}
+use Rattle.pg_reach_laws.specs.ReachAt.{reach_at}
 use Rattle.pg_space_laws.specs.PageSpace.{page_meaning}
 use Rattle.pg_table.specs.Below as below
+use Rattle.pg_table.specs.Below.{SameBelow}
 
--- the pagination is a beginning of the other galley too, with the same state and cost
-pub record SameBeginning (galley other : GalleyValue) (style : StyleValue) (plan : Pagination) : Type 0 where
+-- the pagination is a beginning of the other galley too, with the same state and cost, and from its end columns reach as
+-- far in both, or to t at least
+pub record SameBeginning (galley other : GalleyValue) (style : StyleValue) (t : ℕ) (plan : Pagination) : Type 0 where
   pub prefix : Prefix other style plan
   pub state : state_of other style plan ≡ state_of galley style plan
   pub cost : cost other style plan ≡ cost galley style plan
+  pub reach : SameBelow t (reach_at (document galley style) (state_of galley style plan).place)
+      (reach_at (document other style) (state_of galley style plan).place)
 
--- where the galleys agree below t, each beginning that ends before the last block below t is one of the other galley
+-- where the galleys agree below t, a beginning of the one that ends in a block b with b + 1 below t is one of the other
 abbrev pub BeginningsAgree : GalleyValue → GalleyValue → StyleValue → Type 0
 BeginningsAgree galley other style = (t : ℕ) (plan : Pagination) → AgreeBelow t galley.blocks other.blocks →
     Prefix galley style plan → (state_of galley style plan).place.block + 1 < t →
-    SameBeginning galley other style plan
+    SameBeginning galley other style t plan
 
 -- where the galleys agree below t, so do their spaces of pages
 abbrev pub PagesAgree : GalleyValue → GalleyValue → StyleValue → Type 0

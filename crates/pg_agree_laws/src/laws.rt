@@ -7,7 +7,8 @@ use pg_list::Galley;
 use pg_style::Style;
 
 /// Where two galleys agree below a block t, a beginning of the one that ends in a block b with b + 1
-/// below t is one of the other, with the same state and cost.
+/// below t is one of the other, with the same state and cost; and from its end columns reach as far
+/// in both, or to t at least.
 pub fn beginnings_agree(galley: &Galley, other: &Galley, style: &Style)
     requires galley { AreInRange galley.now style.now }
     requires other { AreInRange other.now style.now }
