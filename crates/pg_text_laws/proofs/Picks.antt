@@ -34,13 +34,13 @@ choices blocks = count_by is_choice blocks
 abbrev pub named : List Block → List ℕ → ℕ
 named blocks picks = length (picked_variants blocks picks)
 
-front_append : (xs ys : List FlatItem) → front_count (xs ++ ys) ≡ front_count xs + front_count ys
+pub front_append : (xs ys : List FlatItem) → front_count (xs ++ ys) ≡ front_count xs + front_count ys
 front_append xs ys = sum_by-append (λ (x : FlatItem). cond x.is_front 1 0) xs ys
 
 front_cons : (x : FlatItem) (xs : List FlatItem) → front_count (x ∷ xs) ≡ cond x.is_front 1 0 + front_count xs
 front_cons x xs = sum_by-cons (λ (x : FlatItem). cond x.is_front 1 0) x xs
 
-choices_cons : (block : Block) (blocks : List Block) →
+pub choices_cons : (block : Block) (blocks : List Block) →
     choices (block ∷ blocks) ≡ cond (is_choice block) 1 0 + choices blocks
 choices_cons block blocks = sum_by-cons (λ (b : Block). cond (is_choice b) 1 0) block blocks
 
@@ -121,7 +121,7 @@ fronts_from n (Choice variants ∷ blocks) (y ∷ q) a = by (slice_get variants 
         let c = choices_cons (Choice variants) blocks in
         omega (arith, parts, one, rest, c, later)
 
-named_few : (blocks : List Block) (q : List ℕ) → named blocks q ≤ choices blocks
+pub named_few : (blocks : List Block) (q : List ℕ) → named blocks q ≤ choices blocks
 named_few [] q = omega arith
 named_few (One item ∷ blocks) q = let c = choices_cons (One item) blocks in omega (arith, c, named_few blocks q)
 named_few (Choice variants ∷ blocks) [] = omega arith
@@ -162,7 +162,7 @@ spent_none n (Choice (v ∷ variants) ∷ blocks) a h = by v.items (a.0.shape.ea
 
 -- ---- fronts from a place on
 
-at_fronts : (all : List Block) (at : Place) (q : List ℕ) → ((n : ℕ) → AllByRecursion IsBlock (drop n all)) →
+pub at_fronts : (all : List Block) (at : Place) (q : List ℕ) → ((n : ℕ) → AllByRecursion IsBlock (drop n all)) →
     front_count (flat_items_at all at q)
     ≡ named (blocks_at all at) q + (choices (blocks_at all at) - length q)
 at_fronts all at q each = by at.index

@@ -1,0 +1,13 @@
+pub mod Items
+pub mod Fronts
+pub mod Behind
+pub mod Steps
+pub mod Reaches
+pub mod Floats
+pub mod Callouts
+pub mod Twins
+pub mod Columns
+pub mod Follows
+pub mod Cuts
+pub mod Agree
+pub mod Worked
