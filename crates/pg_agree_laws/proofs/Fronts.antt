@@ -18,14 +18,16 @@ use Rattle.pg_column.proofs.Picks.{none_picked}
 use Rattle.pg_text_laws.proofs.Picks.{choices, choices_cons}
 use Rattle.pg_agree_laws.proofs.Items.{slice_front}
 
--- ---- picks: those that blocks read, and those that they leave
+-- ---- picks
 
-abbrev pub read_by : (blocks : List Block) (picks : List ℕ) → List ℕ
+-- the picks that are read by the choices of blocks
+abbrev pub read_by : List Block → List ℕ → List ℕ
 read_by [] picks = []
 read_by (One item ∷ blocks) picks = read_by blocks picks
 read_by (Choice variants ∷ blocks) [] = []
 read_by (Choice variants ∷ blocks) (pick ∷ picks) = pick ∷ read_by blocks picks
 
+-- the picks that a front leaves to the blocks behind it
 abbrev pub left_by : (front : List Block) (picks : List ℕ) → List ℕ
 left_by [] picks = picks
 left_by (One item ∷ blocks) picks = left_by blocks picks
