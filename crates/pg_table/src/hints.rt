@@ -5,8 +5,11 @@ use std::alloc::{AllocError, Global};
 /// How many hints a long search has.
 const COUNT: usize = 1 << 15;
 
-/// How many labels a search opens before it has hints.
+/// How many labels with many moves a search opens before it has hints.
 const OPENED_BEFORE: u32 = 512;
+
+/// How many moves are many: with fewer of them a hint saves less than it costs.
+const MANY: usize = 16;
 
 /// How many places a hint tells apart.
 const PLACES: usize = 1 << 32;
@@ -29,7 +32,8 @@ impl Hint {
 }
 
 /// Where a label was held, by a hash of its block and rank. Nothing is promised of a hint: who follows
-/// it has to look at what is there. A short search has none, so that it takes no memory for them.
+/// it has to look at what is there. A search that is short, or whose labels have few moves, has none, so that
+/// it pays nothing for them.
 #[derive(Drop)]
 pub(crate) struct Hints {
     opened: u32,
@@ -51,8 +55,12 @@ impl Hints {
         }
     }
 
-    /// Counts one more opened label, and takes memory for the hints where the search becomes a long one.
-    pub(crate) fn count_opened(&mut self) -> Result<(), AllocError> {
+    /// Counts one more opened label, which has so many moves. It takes memory for the hints where such labels
+    /// become many.
+    pub(crate) fn count_opened(&mut self, moves: usize) -> Result<(), AllocError> {
+        if moves < MANY {
+            return Ok(());
+        }
         if self.opened < OPENED_BEFORE {
             self.opened += 1;
         } else if self.list.is_empty() {
