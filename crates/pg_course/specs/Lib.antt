@@ -3,5 +3,3 @@ pub mod Made
 pub mod Verdict
 pub mod Course
 pub mod Calls
-pub mod Counted
-pub mod Complete

@@ -1,9 +1,17 @@
-//! Tests that cross crates and go by what no program writes: the labels of a galley, and points printed and read back.
+//! Tests that cross crates: the program's rows, run through the top call over shelves and sinks in memory.
 //!
-//! What goes through `serve` are the tables of pg_rows.
+//! What they show and no clause does: that the definitions mean what the program is for, and that memory suffices for each row.
 #![tactic(auto)]
 
 #[cfg(test)]
+mod cases;
+#[cfg(test)]
+mod checks;
+#[cfg(test)]
 mod frontier;
 #[cfg(test)]
-mod points;
+mod refusals;
+#[cfg(test)]
+mod rows;
+#[cfg(test)]
+mod styles;

@@ -1,5 +1,0 @@
-pub mod SessionValue
-pub mod Edits
-pub mod Sessions
-pub mod Kept
-pub mod Shows

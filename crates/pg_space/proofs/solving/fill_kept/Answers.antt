@@ -1,0 +1,12 @@
+use Rattle.pg_list.specs.GalleyValue.{GalleyValue}
+use Rattle.pg_rules.specs.Legal.{document}
+use Rattle.pg_space_laws.specs.PageSpace.{page_meaning}
+use Rattle.pg_style.specs.Values.{StyleValue}
+use Rattle.pg_table.specs.Label.{IsTable}
+use Rattle.pg_space.proofs.Telling.{of_equal}
+use Rattle.pg_space.proofs.solving.fill_kept.Goals as goal
+
+pub returns-clause-table : goal.returns-clause-table
+returns-clause-table g c = of_equal
+    (λ (galley : GalleyValue) (style : StyleValue). IsTable (page_meaning (document galley style)) c.fill.new.self)
+    _ _ _ _ c.new-space.ensures.galley c.new-space.ensures.style c.in_ok-fill.ensures.ok
