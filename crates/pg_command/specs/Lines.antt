@@ -3,10 +3,16 @@ use Rattle.std.specs.Prelude.{ℕ, List, [], ◌∷◌, ◌++◌, codes, decimal
 use Rattle.std.specs.Io.KnownBytes.{Appends}
 use Rattle.pg_outside.specs.Outside.{Rose, AppendsFront}
 use Rattle.pg_showbox.specs.declared.kinds.ListFault.{ListFault}
+use Rattle.pg_showbox.specs.declared.kinds.ListKind.{ListKind}
 use Rattle.pg_showbox.specs.Kinds.{kind_number}
 use Rattle.pg_stylefile.specs.declared.fault.StyleFault.{StyleFault}
 use Rattle.pg_stylefile.specs.Faults as style_faults
 use Rattle.pg_list.specs.declared.galley.Place.{Place}
+use Rattle.pg_edits.specs.Kinds.{edit_number, script_number}
+use Rattle.pg_edits.specs.declared.fault.EditFault.{EditFault}
+use Rattle.pg_edits.specs.declared.kinds.ScriptFault.{ScriptFault}
+use Rattle.pg_edits.specs.declared.kinds.ScriptKind.{ScriptKind}
+use Rattle.pg_edits.specs.declared.kinds.ScriptKind.TheVariants.{Blocks}
 use Rattle.pg_words.specs.Written.{place_text, whole_text}
 use Rattle.pg_check_laws.specs.declared.answers.No.{No}
 use Rattle.pg_check_laws.specs.declared.answers.No.TheVariants as fails
@@ -27,6 +33,8 @@ status_of (ending.BadList name fault) = status.Refused
 status_of (ending.BadStyle name fault) = status.Refused
 status_of (ending.UnknownClass class) = status.Refused
 status_of (ending.TooManyFloats count) = status.Refused
+status_of (ending.BadScript name fault) = status.Refused
+status_of (ending.BadEdit step fault) = status.Refused
 status_of (ending.BadOutput name line) = status.Refused
 status_of (ending.Unread name) = status.ReadFault
 status_of ending.WriteFault = status.WriteFault
@@ -80,6 +88,32 @@ class_line class = codes "pg: class " ++ (decimal class ++ codes " is not in the
 -- a galley has so many floats, which are more than are allowed
 unfoldable pub many_line : ℕ → List ℕ
 many_line count = codes "pg: " ++ (decimal count ++ codes " floats are too many\n")
+
+-- a script has a fault in this line, of the kind of this number
+unfoldable pub order_line : List ℕ → ℕ → ℕ → List ℕ
+order_line name line number =
+    codes "pg: " ++ (name ++ (codes ": line " ++ (decimal line ++
+    (codes ": script fault " ++ (decimal number ++ 10 ∷ [])))))
+
+-- its item lines have a fault in this line, of this kind of a galley's text
+unfoldable pub blocks_line : List ℕ → ℕ → ListKind → List ℕ
+blocks_line name line kind =
+    codes "pg: " ++ (name ++ (codes ": line " ++ (decimal line ++
+    (codes ": script fault 4 list fault " ++ (decimal (kind_number kind) ++ 10 ∷ [])))))
+
+-- a script has a fault of this kind in this line
+abbrev pub script_kind_line : List ℕ → ℕ → ScriptKind → List ℕ
+script_kind_line name line (Blocks kind) = blocks_line name line kind
+script_kind_line name line kind = order_line name line (script_number kind)
+
+-- a script has this fault
+abbrev pub script_line : List ℕ → ScriptFault → List ℕ
+script_line name fault = script_kind_line name fault.line fault.kind
+
+-- a step of a script is refused, of all its steps counted from 1, for the cause of this number
+unfoldable pub edit_line : ℕ → EditFault → List ℕ
+edit_line step fault =
+    codes "pg: step " ++ (decimal step ++ (codes ": edit fault " ++ (decimal (edit_number fault) ++ 10 ∷ [])))
 
 -- the lines of an output text's file up to this one begin none, or it ends in front of it
 unfoldable pub no_output_line : List ℕ → ℕ → List ℕ
@@ -144,6 +178,8 @@ line_of (ending.BadList name fault) = list_line name.now fault
 line_of (ending.BadStyle name fault) = style_line name.now fault
 line_of (ending.UnknownClass class) = class_line class
 line_of (ending.TooManyFloats count) = many_line count
+line_of (ending.BadScript name fault) = script_line name.now fault
+line_of (ending.BadEdit step fault) = edit_line step fault
 line_of (ending.BadOutput name line) = no_output_line name.now line
 line_of (ending.Unread name) = unread_line name.now
 line_of ending.WriteFault = output_line

@@ -13,7 +13,7 @@ use Rattle.pg_scan.specs.Parts.{word_number}
 use Rattle.pg_command.specs.declared.words.StyleWord.{StyleWord}
 use Rattle.pg_command.specs.declared.words.StyleWord.TheVariants.{Named, Plain}
 use Rattle.pg_command.specs.declared.words.Job.{Job}
-use Rattle.pg_command.specs.declared.words.Job.TheVariants.{Run, Show, Make, Check}
+use Rattle.pg_command.specs.declared.words.Job.TheVariants.{Run, Edit, Show, Make, Check}
 use Rattle.pg_command.specs.declared.words.Options.{Options}
 
 -- which style a run takes: that of the file of this name, or the plain one of this page height
@@ -22,10 +22,12 @@ pub data StyleName : Type 0 where
   plain : ℤ → StyleName
 
 -- a command: to paginate the galley of this name, with the labels of the search or without, or to print it, with the
--- width at which lines are joined; to make a galley of so many paragraphs; or to check against a style and a galley, of
--- these names, the output text of a name
+-- width at which lines are joined; to edit a galley by the script of a name, under a style, and to paginate it at each
+-- show; to make a galley of so many paragraphs; or to check against a style and a galley, of these names, the output
+-- text of a name
 pub data Command : Type 0 where
   run : StyleName → List ℕ → Bool → Option ℕ → Command
+  edit : List ℕ → List ℕ → List ℕ → Bool → Option ℕ → Command
   show : List ℕ → Option ℕ → Command
   make : ℕ → Command
   check : List ℕ → List ℕ → List ℕ → Option ℕ → Command
@@ -38,6 +40,7 @@ style_name (Plain height) = plain height
 -- what a job says, without where it lies in memory
 abbrev pub command_in : Job → Command
 command_in (Run style galley labels wrap) = run (style_name style) galley.now labels wrap
+command_in (Edit style galley script labels wrap) = edit style.now galley.now script.now labels wrap
 command_in (Show galley wrap) = show galley.now wrap
 command_in (Make count) = make count
 command_in (Check style galley output wrap) = check style.now galley.now output.now wrap
@@ -54,6 +57,7 @@ IsStyle (Plain height) = IsHeight height
 -- a job whose height, if it has one, is one of a page, and whose paragraphs are at most 2000
 abbrev pub IsInRange : Job → Type 0
 IsInRange (Run style galley labels wrap) = IsStyle style
+IsInRange (Edit style galley script labels wrap) = Unit {0}
 IsInRange (Show galley wrap) = Unit {0}
 IsInRange (Make count) = count ≤ 2000
 IsInRange (Check style galley output wrap) = Unit {0}
@@ -138,6 +142,14 @@ run_named options (style ∷ galley ∷ []) =
     else None
 run_named options names = None
 
+-- `edit STYLE GALLEY SCRIPT`, which takes no height
+abbrev pub edit_named : Options → List (List ℕ) → Option Command
+edit_named options (style ∷ galley ∷ script ∷ []) =
+    if is_name style && (is_name galley && (is_name script && not (is_some options.height)))
+    then Some (edit style galley script options.labels options.wrap)
+    else None
+edit_named options names = None
+
 -- `show GALLEY`, which takes no height and no labels
 abbrev pub show_named : Options → List (List ℕ) → Option Command
 show_named options (galley ∷ []) =
@@ -165,7 +177,8 @@ job_of word (options, names) =
     if bytes_eq word (codes "run") then run_named options names
     else (if bytes_eq word (codes "show") then show_named options names
     else (if bytes_eq word (codes "make") then make_named options names
-    else (if bytes_eq word (codes "check") then check_named options names else None)))
+    else (if bytes_eq word (codes "check") then check_named options names
+    else (if bytes_eq word (codes "edit") then edit_named options names else None))))
 
 -- the command of these words: a command's name, options, names
 abbrev pub command_of : List (List ℕ) → Option Command

@@ -4,6 +4,7 @@ ghost use Rattle.pg_command.specs.Lines.{status_of};
 
 use crate::status::Status;
 use pg_check_laws::No;
+use pg_edits::{EditFault, ScriptFault};
 use pg_showbox::ListFault;
 use pg_stylefile::StyleFault;
 
@@ -26,6 +27,10 @@ pub enum Ending<'a> {
     UnknownClass(u8),
     /// The galley has so many floats, which are more than are allowed.
     TooManyFloats(u32),
+    /// The file is no edit script.
+    BadScript(&'a str, ScriptFault),
+    /// The step of a script with this number, of all its steps counted from 1, is an edit that is refused.
+    BadEdit(u64, EditFault),
     /// The lines of the file up to this one begin no output text, or it ends in front of it.
     BadOutput(&'a str, u32),
     /// The file cannot be read.
@@ -52,6 +57,8 @@ impl<'a> Ending<'a> {
             | Ending::BadStyle(..)
             | Ending::UnknownClass(_)
             | Ending::TooManyFloats(_)
+            | Ending::BadScript(..)
+            | Ending::BadEdit(..)
             | Ending::BadOutput(..) => Status::Refused,
             Ending::Unread(_) => Status::ReadFault,
             Ending::WriteFault => Status::WriteFault,

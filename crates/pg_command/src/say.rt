@@ -2,14 +2,16 @@
 ghost use Rattle.std.specs.Prelude.{◌≡◌, ◌≤◌, ◌++◌};
 ghost use Rattle.pg_command.specs.Lines.{OnQuiet, Says, class_line, key_text, line_of, list_line, many_line, status_of};
 ghost use Rattle.pg_command.specs.Lines.{style_line, no_output_line, broken_line, costs_line, undercut_line};
-ghost use Rattle.pg_command.specs.Lines.{no_line, open_line, with_number};
+ghost use Rattle.pg_command.specs.Lines.{no_line, open_line, with_number, edit_line, script_line};
+ghost use Rattle.pg_command.specs.Lines.{blocks_line, order_line};
 
 use crate::ending::Ending;
 use crate::line::{Piece, say_pieces};
 use pg_check_laws::No;
+use pg_edits::{EditFault, ScriptFault, ScriptKind};
 use pg_list::Place;
 use pg_outside::Sink;
-use pg_showbox::ListFault;
+use pg_showbox::{ListFault, ListKind};
 use pg_stylefile::StyleFault;
 
 // A line without a name or number.
@@ -108,6 +110,76 @@ fn say_count<E: Sink>(say: &mut E, count: u32)
             Piece::Text("pg: "),
             Piece::Number(count),
             Piece::Text(" floats are too many\n"),
+        ],
+    );
+}
+
+// The line for a fault of a script's item lines.
+fn say_blocks_fault<'a, E: Sink>(say: &mut E, name: &'a str, line: u32, kind: ListKind)
+    ensures line { Says (E.written say.old) (E.written say.new) (E.faults say.old) (E.faults say.new)
+        (blocks_line name.now line kind) }
+    ensures later { E.faults say.old ≤ E.faults say.new }
+{
+    say_pieces(
+        say,
+        &[
+            Piece::Text("pg: "),
+            Piece::Text(name),
+            Piece::Text(": line "),
+            Piece::Number(line),
+            Piece::Text(": script fault 4 list fault "),
+            Piece::Number(u32::from(kind.number())),
+            Piece::Text("\n"),
+        ],
+    );
+}
+
+// The line for a fault of a script's own lines.
+fn say_order_fault<'a, E: Sink>(say: &mut E, name: &'a str, line: u32, number: u8)
+    ensures line { Says (E.written say.old) (E.written say.new) (E.faults say.old) (E.faults say.new)
+        (order_line name.now line number) }
+    ensures later { E.faults say.old ≤ E.faults say.new }
+{
+    say_pieces(
+        say,
+        &[
+            Piece::Text("pg: "),
+            Piece::Text(name),
+            Piece::Text(": line "),
+            Piece::Number(line),
+            Piece::Text(": script fault "),
+            Piece::Number(u32::from(number)),
+            Piece::Text("\n"),
+        ],
+    );
+}
+
+// The line for a fault of a script's text.
+fn say_script_fault<'a, E: Sink>(say: &mut E, name: &'a str, fault: &'a ScriptFault)
+    ensures line { Says (E.written say.old) (E.written say.new) (E.faults say.old) (E.faults say.new)
+        (script_line name.now fault.now) }
+    ensures later { E.faults say.old ≤ E.faults say.new }
+{
+    match fault.kind {
+        ScriptKind::Blocks(kind) => say_blocks_fault(say, name, fault.line, kind),
+        _ => say_order_fault(say, name, fault.line, fault.kind.number()),
+    }
+}
+
+// The line for an edit that is refused.
+fn say_edit_fault<'a, E: Sink>(say: &mut E, step: u64, fault: &'a EditFault)
+    ensures line { Says (E.written say.old) (E.written say.new) (E.faults say.old) (E.faults say.new)
+        (edit_line step fault.now) }
+    ensures later { E.faults say.old ≤ E.faults say.new }
+{
+    say_pieces(
+        say,
+        &[
+            Piece::Text("pg: step "),
+            Piece::Long(step),
+            Piece::Text(": edit fault "),
+            Piece::Number(u32::from(fault.number())),
+            Piece::Text("\n"),
         ],
     );
 }
@@ -254,6 +326,8 @@ pub fn say_line<E: Sink>(ending: &Ending<'_>, say: &mut E)
         Ending::BadStyle(name, fault) => say_style_fault(say, name, fault),
         Ending::UnknownClass(class) => say_class(say, *class),
         Ending::TooManyFloats(count) => say_count(say, *count),
+        Ending::BadScript(name, fault) => say_script_fault(say, name, fault),
+        Ending::BadEdit(step, fault) => say_edit_fault(say, *step, fault),
         Ending::BadOutput(name, line) => say_no_output(say, name, *line),
         Ending::Unread(name) => say_file(say, "pg: ", name, ": cannot be read\n"),
         Ending::WriteFault => say_text(say, "pg: output failed\n"),

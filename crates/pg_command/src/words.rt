@@ -5,7 +5,8 @@ ghost use Rattle.std.specs.String.{string_bytes};
 ghost use Rattle.pg_command.specs.Words.{command_in, command_of, texts_of, height_of, wrap_of, is_name};
 ghost use Rattle.pg_command.specs.Words.{is_labels as is_labels_word, has_value as has_value_word, no_options};
 ghost use Rattle.pg_command.specs.Words.{with_labels as labels_too, with_option as one_more, options_in};
-ghost use Rattle.pg_command.specs.Words.{run_named, show_named, make_named, check_named, job_of, paragraphs_of};
+ghost use Rattle.pg_command.specs.Words.{run_named, edit_named, show_named, make_named, check_named, job_of};
+ghost use Rattle.pg_command.specs.Words.{paragraphs_of};
 ghost use Rattle.pg_command.specs.Words.{IsHeight, IsInRange};
 
 use pg_scaled::{Front, read_scaled};
@@ -28,6 +29,14 @@ pub enum Job<'a> {
     Run {
         style: StyleWord<'a>,
         galley: &'a str,
+        labels: bool,
+        wrap: Option<u32>,
+    },
+    /// To edit a galley by a script, and to paginate it at each show of it.
+    Edit {
+        style: &'a str,
+        galley: &'a str,
+        script: &'a str,
         labels: bool,
         wrap: Option<u32>,
     },
@@ -220,6 +229,48 @@ fn styled_job<'a>(options: &Options, style: &'a str, galley: &'a str) -> Option<
     }
 }
 
+// An edit with these options and names.
+fn edit_job<'a>(options: &Options, names: &'a [String]) -> Option<Job<'a>>
+    ensures job { option_map command_in result ≡ edit_named options.now (map string_bytes names.now) }
+    ensures in_range { IfSome result IsInRange }
+{
+    match names {
+        [style, galley, script] => named_edit(
+            options,
+            style.as_str(),
+            galley.as_str(),
+            script.as_str(),
+        ),
+        _ => None,
+    }
+}
+
+// An edit over the files of these names.
+fn named_edit<'a>(
+    options: &Options,
+    style: &'a str,
+    galley: &'a str,
+    script: &'a str,
+) -> Option<Job<'a>>
+    ensures job { option_map command_in result
+        ≡ edit_named options.now (style.now ∷ galley.now ∷ script.now ∷ []) }
+    ensures in_range { IfSome result IsInRange }
+{
+    if is_file_name(style)
+        && (is_file_name(galley) && (is_file_name(script) && !options.height.is_some()))
+    {
+        Some(Job::Edit {
+            style,
+            galley,
+            script,
+            labels: options.labels,
+            wrap: options.wrap,
+        })
+    } else {
+        None
+    }
+}
+
 // A show with these options and names.
 fn show_job<'a>(options: &Options, names: &'a [String]) -> Option<Job<'a>>
     ensures job { option_map command_in result ≡ show_named options.now (map string_bytes names.now) }
@@ -306,6 +357,7 @@ fn named_job<'a>(name: &str, options: &Options, names: &'a [String]) -> Option<J
         "show" => show_job(options, names),
         "make" => make_job(options, names),
         "check" => check_job(options, names),
+        "edit" => edit_job(options, names),
         _ => None,
     }
 }
@@ -313,10 +365,10 @@ fn named_job<'a>(name: &str, options: &Options, names: &'a [String]) -> Option<J
 /// What the words after the program's name ask for, or None where they are no command.
 ///
 /// A command is `run [--labels] [--wrap W] STYLE GALLEY`, `run [--labels] --height H [--wrap W] GALLEY`,
-/// `show [--wrap W] GALLEY`, `make N` or `check [--wrap W] STYLE GALLEY OUTPUT`. Options stand between the command and
-/// the names, in any order, each at most once; H and W stand as the next word behind their options. H is wholly a
-/// scaled number above 0 and below 16384, W is 1 to 65535 and N is 0 to 2000, both in 1 to 10 digits, and a name is not
-/// empty and does not begin with a minus. No memory is taken.
+/// `edit [--labels] [--wrap W] STYLE GALLEY SCRIPT`, `check [--wrap W] STYLE GALLEY OUTPUT`, `show [--wrap W] GALLEY`
+/// or `make N`. Options stand between the command and the names, in any order, each at most once; H and W stand as the
+/// next word behind their options. H is wholly a scaled number above 0 and below 16384, W is 1 to 65535 and N is 0 to
+/// 2000, both in 1 to 10 digits, and a name is not empty and does not begin with a minus. No memory is taken.
 pub fn command(words: &Vec<String>) -> Option<Job<'_>>
     ensures command { option_map command_in result ≡ command_of (texts_of words.now) }
     ensures in_range { IfSome result IsInRange }

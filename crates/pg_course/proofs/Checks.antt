@@ -120,7 +120,7 @@ pub some_and : {P Q R : Held → Type 0} → (told : Option Held) → ((held : H
 some_and None f p q = absurd q
 some_and (Some held) f p q = f held p q
 
-all_told : {Q : Held → Type 0} → (told : Option Held) → ((held : Held) → Q held) → IfSome told Q
+pub all_told : {Q : Held → Type 0} → (told : Option Held) → ((held : Held) → Q held) → IfSome told Q
 all_told None f = tt
 all_told (Some held) f = f held
 
@@ -167,7 +167,7 @@ read_line command name shelf line is ends (inl failed) =
 read_line command name shelf line is ends (inr none) =
     inr (some_and shelf.told (λ held f e. f e) ends none)
 
-earlier_rose : (before between now : ℕ) → before ≤ between → Rose between now → Rose before now
+pub earlier_rose : (before between now : ℕ) → before ≤ between → Rose between now → Rose before now
 earlier_rose before between now less rose = omega (arith, less, rose)
 
 earlier_failed : (command : Option Command) (before between after : ℕ) (last : Option (List ℕ)) (line : List ℕ) →

@@ -5,6 +5,8 @@ use Rattle.pg_floats.specs.declared.fault.FloatFault.{FloatFault}
 use Rattle.pg_floats.specs.declared.fault.FloatFault.TheVariants as fault
 use Rattle.pg_list.specs.GalleyValue.{GalleyValue}
 use Rattle.pg_style.specs.Values.{StyleValue}
+use Rattle.pg_edits.specs.declared.fault.EditFault.{EditFault}
+use Rattle.pg_edits.specs.declared.fault.EditFault.TheVariants as faults
 use Rattle.pg_check_laws.specs.declared.answers.No.{No}
 use Rattle.pg_check_laws.specs.declared.answers.No.TheVariants as fails
 use Rattle.pg_outside.specs.Outside.{Held, Rose}
@@ -12,9 +14,10 @@ use Rattle.pg_command.specs.declared.ending.Ending.{Ending}
 use Rattle.pg_command.specs.declared.ending.Ending.TheVariants as ending
 use Rattle.pg_command.specs.declared.status.Status.{Status}
 use Rattle.pg_command.specs.declared.status.Status.TheVariants.{Usage}
-use Rattle.pg_command.specs.Words.{Command, StyleName, named, run, show, make, check}
+use Rattle.pg_command.specs.Words.{Command, StyleName, named, run, edit, show, make, check}
 use Rattle.pg_command.specs.Lines.{status_of, line_of}
-use Rattle.pg_course.specs.Course.{Ended, EndedBefore, EndsBy, BeginsBy, OnSettled, OnReadFault, OnWriteFault}
+use Rattle.pg_course.specs.Course.{CourseFront, Ended, EndedBefore, EndsBy, BeginsBy, OnSettled, OnReadFault}
+use Rattle.pg_course.specs.Course.{OnWriteFault}
 use Rattle.pg_course.specs.Course.{OnMemory, ReadLine, Stop, UnreadFile, UnreadStyle, opened, opened_style, stop}
 
 -- a shelf over a call: what it tells, how many faults it counted before and after, and its last failed name after
@@ -39,19 +42,26 @@ pub record OverSink : Type 0 where
 abbrev pub over_sink : Option (List ℕ) → Option (List ℕ) → ℕ → ℕ → OverSink
 over_sink old new before after = record { old = old; new = new; before = before; after = after }
 
--- the texts that are written before memory runs out: none of a command that writes one text. Of a command that
--- writes more they are the whole texts of the shows before
-abbrev pub WroteWhole : Option Command → OverSink → Type 0
-WroteWhole None out = Keeps out.old out.new
-WroteWhole (Some (run style galley labels wrap)) out = Keeps out.old out.new
-WroteWhole (Some (show galley wrap)) out = Keeps out.old out.new
-WroteWhole (Some (make count)) out = Keeps out.old out.new
-WroteWhole (Some (check style galley output wrap)) out = Keeps out.old out.new
+-- a course has whole texts that were written
+abbrev pub WritesTexts : (List (List ℕ) → Status → List ℕ → Type 0) → Option (List ℕ) → Option (List ℕ) → Type 0
+WritesTexts C old new = (end : Status) × (line : List ℕ) × EndsBy C old new end line
+
+-- the texts that are written before memory runs out: none of a command that writes one text. Of an edit they are the
+-- whole texts of the shows before
+abbrev pub WroteWhole : Option Command → Option Held → OverSink → Type 0
+WroteWhole None told out = Keeps out.old out.new
+WroteWhole (Some (run style galley labels wrap)) told out = Keeps out.old out.new
+WroteWhole (Some (edit style galley script labels wrap)) told out = IfSome told (λ held.
+    WritesTexts (CourseFront (Some (edit style galley script labels wrap)) held) out.old out.new)
+WroteWhole (Some (show galley wrap)) told out = Keeps out.old out.new
+WroteWhole (Some (make count)) told out = Keeps out.old out.new
+WroteWhole (Some (check style galley output wrap)) told out = Keeps out.old out.new
 
 -- words that name no file: they are no command, or one that makes its galley
 abbrev pub NamesNoFile : Option Command → Type 0
 NamesNoFile None = Unit {0}
 NamesNoFile (Some (run style galley labels wrap)) = ⊥
+NamesNoFile (Some (edit style galley script labels wrap)) = ⊥
 NamesNoFile (Some (show galley wrap)) = ⊥
 NamesNoFile (Some (make count)) = Unit {0}
 NamesNoFile (Some (check style galley output wrap)) = ⊥
@@ -79,6 +89,11 @@ ending_of (fault.Class number) = ending.UnknownClass number
 ending_of (fault.Limit count) = ending.TooManyFloats count
 ending_of fault.Memory = ending.Memory
 
+-- how a run ends where the edit of a step is refused
+abbrev pub edit_ending : ℕ → EditFault → Ending
+edit_ending step faults.Memory = ending.Memory
+edit_ending step fault = ending.BadEdit step fault
+
 -- how a run ends where a check says no
 abbrev pub no_ending : No → Ending
 no_ending fails.Memory = ending.Memory
@@ -98,6 +113,16 @@ pub record Writes (C : List (List ℕ) → Status → List ℕ → Type 0) (out 
   pub no_read : OnReadFault (status_of ending) ⊥
   pub no_usage : status_of ending ≢ Usage
 
+-- the promise of a function that writes the texts of a course one after another, by its ending: where it fails a front
+-- of the texts of a front of the course was written, and where memory runs out, whole ones
+pub record WritesOn (C D : List (List ℕ) → Status → List ℕ → Type 0) (out : OverSink) (ending : Ending) : Type 0 where
+  pub settled : OnSettled (status_of ending) (EndsBy C out.old out.new (status_of ending) (line_of ending))
+  pub write : OnWriteFault (status_of ending) (Rose out.before out.after)
+  pub front : OnWriteFault (status_of ending) (BeginsBy D out.old out.new)
+  pub memory : OnMemory (status_of ending) (WritesTexts D out.old out.new)
+  pub no_read : OnReadFault (status_of ending) ⊥
+  pub no_usage : status_of ending ≢ Usage
+
 -- the promise of a function that fetches the file of a name and does what a course says of it, by its ending
 pub record GoesOn (C : Held → List (List ℕ) → Status → List ℕ → Type 0) (name : List ℕ) (shelf : OverShelf)
     (out : OverSink) (ending : Ending) : Type 0 where
@@ -108,6 +133,19 @@ pub record GoesOn (C : Held → List (List ℕ) → Status → List ℕ → Type
   pub write : OnWriteFault (status_of ending) (Rose out.before out.after)
   pub front : OnWriteFault (status_of ending) (IfSome shelf.told (λ held. BeginsBy (C held) out.old out.new))
   pub memory : OnMemory (status_of ending) (Keeps out.old out.new)
+  pub no_usage : status_of ending ≢ Usage
+
+-- the promise of a function that fetches the file of a name and writes the texts of a course one after another, by its
+-- ending
+pub record GoesThrough (C D : Held → List (List ℕ) → Status → List ℕ → Type 0) (name : List ℕ) (shelf : OverShelf)
+    (out : OverSink) (ending : Ending) : Type 0 where
+  pub settled : OnSettled (status_of ending) (IfSome shelf.told (λ held.
+      EndsBy (C held) out.old out.new (status_of ending) (line_of ending)))
+  pub read : OnReadFault (status_of ending) (NoFile name shelf (line_of ending))
+  pub read_keeps : OnReadFault (status_of ending) (Keeps out.old out.new)
+  pub write : OnWriteFault (status_of ending) (Rose out.before out.after)
+  pub front : OnWriteFault (status_of ending) (IfSome shelf.told (λ held. BeginsBy (D held) out.old out.new))
+  pub memory : OnMemory (status_of ending) (IfSome shelf.told (λ held. WritesTexts (D held) out.old out.new))
   pub no_usage : status_of ending ≢ Usage
 
 -- the promise of the function of a command, by its ending
@@ -123,7 +161,7 @@ pub record Goes (command : Option Command) (shelf : OverShelf) (out : OverSink) 
   pub write : OnWriteFault (status_of ending) (Rose out.before out.after)
   pub front : OnWriteFault (status_of ending) (IfSome shelf.told (λ held. EndedBefore command held out.old out.new))
   -- memory ran out
-  pub memory : OnMemory (status_of ending) (WroteWhole command out)
+  pub memory : OnMemory (status_of ending) (WroteWhole command shelf.told out)
   -- words that are no command, and they alone, are answered so
   pub usage : (status_of ending ≡ Usage) ↔ (command ≡ None)
   pub usage_keeps : command ≡ None → Keeps out.old out.new

@@ -1,6 +1,6 @@
 -- What the program does when nothing fails and memory is ample: the texts that it writes, how it ends, and its
 -- line for the user.
-use Rattle.std.specs.Prelude.{◌≡◌, ◌^◌, ℕ, Bool, List, [], ◌∷◌, length, ◌⊎◌, nat_lt, nat_le, ⊤, Option, Some, None}
+use Rattle.std.specs.Prelude.{◌≡◌, ◌^◌, ◌+◌, ℕ, Bool, List, [], ◌∷◌, length, take, ◌⊎◌, nat_lt, nat_le, ⊤, Option, Some, None}
 use Rattle.std.specs.Prelude.{Result, Ok, Err, MatchBool, MatchOption, IsSomeAnd, if◌then◌else◌}
 use Rattle.std.specs.List.{concat}
 use Rattle.std.specs.Io.KnownBytes.{Appends}
@@ -14,16 +14,21 @@ use Rattle.pg_showbox.specs.Reading.{galley_of}
 use Rattle.pg_showbox.specs.Text.{galley_text}
 use Rattle.pg_labels.specs.declared.output.Output.{Output}
 use Rattle.pg_labels.specs.Reading.{output_of}
+use Rattle.pg_edits.specs.Script.{script_of}
+use Rattle.pg_edits.specs.declared.kinds.ScriptFault.{ScriptFault}
+use Rattle.pg_edits.specs.declared.script.ScriptStep.{ScriptStep}
+use Rattle.pg_edits.specs.declared.script.ScriptStep.TheVariants.{Change, Show}
+use Rattle.pg_session.specs.Edits.{edit_fault, edited}
 use Rattle.pg_check_laws.specs.declared.answers.No.{No}
 use Rattle.pg_check_laws.specs.declared.answers.Proved.{Proved}
 use Rattle.pg_outside.specs.Outside.{Held, Rose, AppendsFront}
 use Rattle.pg_command.specs.declared.status.Status.{Status}
 use Rattle.pg_command.specs.declared.status.Status.TheVariants.{Done, Usage, Refused, ReadFault, WriteFault, Memory}
 use Rattle.pg_command.specs.declared.status.Status.TheVariants.{NotProved}
-use Rattle.pg_command.specs.Words.{Command, StyleName, named, plain, run, show, make, check}
+use Rattle.pg_command.specs.Words.{Command, StyleName, named, plain, run, edit, show, make, check}
 use Rattle.pg_floats.specs.AreFloats.{unknown_class, float_total}
 use Rattle.pg_command.specs.Lines.{usage_line, long_line, list_line, style_line, class_line, many_line, unread_line}
-use Rattle.pg_command.specs.Lines.{no_output_line, no_line}
+use Rattle.pg_command.specs.Lines.{no_output_line, no_line, script_line, edit_line}
 use Rattle.pg_course.specs.Out.{RunOut}
 use Rattle.pg_course.specs.Made.{MadeOut}
 use Rattle.pg_course.specs.Verdict.{Answers, yes_line}
@@ -58,6 +63,11 @@ abbrev pub said_output : List ℕ → Result Output ℕ → Result Output Stop
 said_output name (Ok output) = Ok output
 said_output name (Err line) = Err (stop Refused (no_output_line name line))
 
+-- the script that a text says; a fault is named by its line and kind
+abbrev pub said_script : List ℕ → Result (List ScriptStep) ScriptFault → Result (List ScriptStep) Stop
+said_script name (Ok steps) = Ok steps
+said_script name (Err fault) = Err (stop Refused (script_line name fault))
+
 -- the bytes of a file: one that is not there cannot be read, and one of more than 2^26 bytes is too long
 abbrev pub fetched : List ℕ → Option (List ℕ) → Result (List ℕ) Stop
 fetched name None = Err (stop ReadFault (unread_line name))
@@ -80,6 +90,10 @@ opened_style (plain height) held = Ok (plain_values.plain height)
 -- the output text of a file
 abbrev pub opened_output : List ℕ → Option (List ℕ) → Result Output Stop
 opened_output name file = read_by (λ bytes. said_output name (output_of bytes)) (fetched name file)
+
+-- the script of a file
+abbrev pub opened_script : List ℕ → Option (List ℕ) → Result (List ScriptStep) Stop
+opened_script name file = read_by (λ bytes. said_script name (script_of bytes)) (fetched name file)
 
 -- this text alone is written, and it ends so
 abbrev pub OneText : List ℕ → Status → List (List ℕ) → Status → List ℕ → Type 0
@@ -113,6 +127,55 @@ abbrev pub StyledCourse : Bool → Result StyleValue Stop → Result GalleyValue
     → Type 0
 StyledCourse labels (Err stop) galley texts end line = Stops texts end line stop
 StyledCourse labels (Ok style) galley texts end line = RunCourse labels style galley texts end line
+
+-- how shows end that ended so before: where one of them has no legal pagination, so do they
+abbrev pub with_end : Status → Status → Status
+with_end Done shown = shown
+with_end before shown = before
+
+-- the steps of a script from the one of this number on, over a galley, behind shows that ended so: a show writes what a
+-- run writes for the galley as it stands, a change edits it, and one that is refused ends the course
+abbrev pub EditSteps : Bool → StyleValue → GalleyValue → ℕ → Status → List ScriptStep → List (List ℕ) → Status
+    → List ℕ → Type 0
+EditSteps labels style galley number before [] texts end line = (texts ≡ []) × (end ≡ before) × (line ≡ [])
+EditSteps labels style galley number before (Show ∷ steps) texts end line =
+    (text : List ℕ) × (shown : Status) × (later : List (List ℕ)) × RunOut labels galley style text shown
+    × (texts ≡ text ∷ later)
+    × EditSteps labels style galley (number + 1) (with_end before shown) steps later end line
+EditSteps labels style galley number before (Change change ∷ steps) texts end line =
+    MatchOption (edit_fault galley style change)
+    (EditSteps labels style (edited galley change) (number + 1) before steps texts end line)
+    (λ fault. Stops texts end line (stop Refused (edit_line number fault)))
+
+-- a front of that course: that of the first steps
+abbrev pub EditFront : Bool → StyleValue → GalleyValue → List ScriptStep → List (List ℕ) → Status → List ℕ → Type 0
+EditFront labels style galley steps texts end line = (count : ℕ) ×
+    EditSteps labels style galley 1 Done (take count steps) texts end line
+
+-- the script is read, and its steps are made in their order
+abbrev pub EditScript : Bool → StyleValue → GalleyValue → Result (List ScriptStep) Stop → List (List ℕ) → Status
+    → List ℕ → Type 0
+EditScript labels style galley (Err stop) texts end line = Stops texts end line stop
+EditScript labels style galley (Ok steps) texts end line = EditSteps labels style galley 1 Done steps texts end line
+
+-- a front of it, where it is read
+abbrev pub ScriptFront : Bool → StyleValue → GalleyValue → Result (List ScriptStep) Stop → List (List ℕ) → Status
+    → List ℕ → Type 0
+ScriptFront labels style galley (Err stop) texts end line = Stops texts end line stop
+ScriptFront labels style galley (Ok steps) texts end line = EditFront labels style galley steps texts end line
+
+-- the galley is read behind the style, and has to be taken before the script is read
+abbrev pub EditGalley : Bool → StyleValue → Result GalleyValue Stop → Result (List ScriptStep) Stop → List (List ℕ)
+    → Status → List ℕ → Type 0
+EditGalley labels style (Err stop) script texts end line = Stops texts end line stop
+EditGalley labels style (Ok galley) script texts end line =
+    OnTaken style galley texts end line (EditScript labels style galley script texts end line)
+
+-- the style is read first
+abbrev pub EditCourse : Bool → Result StyleValue Stop → Result GalleyValue Stop → Result (List ScriptStep) Stop
+    → List (List ℕ) → Status → List ℕ → Type 0
+EditCourse labels (Err stop) galley script texts end line = Stops texts end line stop
+EditCourse labels (Ok style) galley script texts end line = EditGalley labels style galley script texts end line
 
 -- the galley is printed
 abbrev pub ShowGalley : GalleyValue → List (List ℕ) → Status → List ℕ → Type 0
@@ -160,11 +223,33 @@ abbrev pub Course : Option Command → Held → List (List ℕ) → Status → L
 Course None held texts end line = Stops texts end line (stop Usage usage_line)
 Course (Some (run style galley labels wrap)) held texts end line =
     StyledCourse labels (opened_style style held) (opened galley wrap (held galley)) texts end line
+Course (Some (edit style galley script labels wrap)) held texts end line =
+    EditCourse labels (opened_style (named style) held) (opened galley wrap (held galley))
+    (opened_script script (held script)) texts end line
 Course (Some (show galley wrap)) held texts end line = ShowCourse (opened galley wrap (held galley)) texts end line
 Course (Some (make count)) held texts end line = MakeCourse count texts end line
 Course (Some (check style galley output wrap)) held texts end line =
     CheckCourse (opened_style (named style) held) (opened galley wrap (held galley))
     (opened_output output (held output)) texts end line
+
+-- the first steps of a script that is read
+abbrev pub first_steps : ℕ → Result (List ScriptStep) Stop → Result (List ScriptStep) Stop
+first_steps count (Err stop) = Err stop
+first_steps count (Ok steps) = Ok (take count steps)
+
+-- a front of the course of a command: of an edit the first steps of its script are made, of any other command there is
+-- but the whole course
+abbrev pub CourseFront : Option Command → Held → List (List ℕ) → Status → List ℕ → Type 0
+CourseFront None held texts end line = Course None held texts end line
+CourseFront (Some (run style galley labels wrap)) held texts end line =
+    Course (Some (run style galley labels wrap)) held texts end line
+CourseFront (Some (edit style galley script labels wrap)) held texts end line = (count : ℕ) ×
+    EditCourse labels (opened_style (named style) held) (opened galley wrap (held galley))
+    (first_steps count (opened_script script (held script))) texts end line
+CourseFront (Some (show galley wrap)) held texts end line = Course (Some (show galley wrap)) held texts end line
+CourseFront (Some (make count)) held texts end line = Course (Some (make count)) held texts end line
+CourseFront (Some (check style galley output wrap)) held texts end line =
+    Course (Some (check style galley output wrap)) held texts end line
 
 -- ---- facts for some ends
 
@@ -211,9 +296,9 @@ pub record BeginsBy (C : List (List ℕ) → Status → List ℕ → Type 0) (ol
 abbrev pub Ended : Option Command → Held → Option (List ℕ) → Option (List ℕ) → Status → List ℕ → Type 0
 Ended command held old new status line = EndsBy (Course command held) old new status line
 
--- the command's course begins so
+-- the command's course begins so: a front of the texts of a front of it was written
 abbrev pub EndedBefore : Option Command → Held → Option (List ℕ) → Option (List ℕ) → Type 0
-EndedBefore command held old new = BeginsBy (Course command held) old new
+EndedBefore command held old new = BeginsBy (CourseFront command held) old new
 
 -- a name is the file of a style
 abbrev pub IsStyleFile : StyleName → List ℕ → Type 0
@@ -224,6 +309,7 @@ IsStyleFile (plain height) name = ⊥
 abbrev pub IsFileOf : Option Command → List ℕ → Type 0
 IsFileOf None name = ⊥
 IsFileOf (Some (run style galley labels wrap)) name = IsStyleFile style name ⊎ (name ≡ galley)
+IsFileOf (Some (edit style galley script labels wrap)) name = (name ≡ style) ⊎ ((name ≡ galley) ⊎ (name ≡ script))
 IsFileOf (Some (show galley wrap)) name = name ≡ galley
 IsFileOf (Some (make count)) name = ⊥
 IsFileOf (Some (check style galley output wrap)) name = (name ≡ style) ⊎ ((name ≡ galley) ⊎ (name ≡ output))

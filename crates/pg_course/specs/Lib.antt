@@ -3,3 +3,5 @@ pub mod Made
 pub mod Verdict
 pub mod Course
 pub mod Calls
+pub mod Counted
+pub mod Complete

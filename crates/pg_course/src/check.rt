@@ -3,7 +3,9 @@ ghost use Rattle.std.specs.Prelude.{◌≡◌, ℕ, List, Option, Ok, Some, IfSo
 ghost use Rattle.pg_floats.specs.AreFloats.{AreFloats};
 ghost use Rattle.pg_labels.specs.Reading.{IsFew};
 ghost use Rattle.pg_command.specs.declared.status.Status.TheVariants.{Done};
+ghost use Rattle.pg_command.specs.Lines.{status_of};
 ghost use Rattle.pg_command.specs.Words.{check as check_command, named};
+ghost use Rattle.pg_course.specs.Complete.{IsComplete};
 ghost use Rattle.pg_course.specs.Course.{CheckOutput, CheckText, OneText, opened_output, opened_style};
 ghost use Rattle.pg_course.specs.Calls.{AreRead, Goes, GoesOn, Writes, no_ending, over_shelf, over_sink};
 ghost use Rattle.pg_course.specs.Verdict.{yes_line};
@@ -17,6 +19,7 @@ use pg_labelcheck::{No, Proved, check};
 use pg_labels::Output;
 use pg_list::Galley;
 use pg_outside::{Shelf, Sink};
+use pg_recheck_laws::labelled_texts_tell;
 use pg_style::Style;
 use std::alloc::Global;
 
@@ -99,7 +102,13 @@ fn check_galley<'a, H: Shelf, O: Sink>(
         Goes (Some (check_command style_file galley_file name.now wrap))
         (over_shelf (H.held shelf.old) (H.faults shelf.old) (H.faults shelf.new) (H.last_failed shelf.new))
         (over_sink (O.written out.old) (O.written out.new) (O.faults out.old) (O.faults out.new)) result }
+    ensures complete { (style_file galley_file : List ℕ) (wrap : Option ℕ) →
+        IfSome (H.held shelf.old) (AreRead style_file galley_file wrap style.now galley.now) →
+        IsComplete (Some (check_command style_file galley_file name.now wrap))
+        (over_shelf (H.held shelf.old) (H.faults shelf.old) (H.faults shelf.new) (H.last_failed shelf.new))
+        (over_sink (O.written out.old) (O.written out.new) (O.faults out.old) (O.faults out.new)) (status_of result) }
 {
+    labelled_texts_tell(galley, style);
     match FloatList::of(alloc, galley, style) {
         Err(fault) => float_ending(fault),
         Ok(floats) => check_file(alloc, galley, style, &floats, name, shelf, out),
@@ -121,6 +130,11 @@ fn check_styled<'a, H: Shelf, O: Sink>(
         Goes (Some (check_command style_file galley.now output.now wrap))
         (over_shelf (H.held shelf.old) (H.faults shelf.old) (H.faults shelf.new) (H.last_failed shelf.new))
         (over_sink (O.written out.old) (O.written out.new) (O.faults out.old) (O.faults out.new)) result }
+    ensures complete { (style_file : List ℕ) →
+        IfSome (H.held shelf.old) (λ held. opened_style (named style_file) held ≡ Ok style.now) →
+        IsComplete (Some (check_command style_file galley.now output.now wrap))
+        (over_shelf (H.held shelf.old) (H.faults shelf.old) (H.faults shelf.new) (H.last_failed shelf.new))
+        (over_sink (O.written out.old) (O.written out.new) (O.faults out.old) (O.faults out.new)) (status_of result) }
 {
     match open_galley(alloc, galley, wrap, shelf) {
         Err(ending) => ending,
@@ -129,7 +143,8 @@ fn check_styled<'a, H: Shelf, O: Sink>(
 }
 
 /// Tests the output text of a file against a style and a galley, which are read first, in this order, and writes a yes
-/// in one piece. A no is an ending.
+/// in one piece. A no is an ending. Of a file of at most 2^26 bytes that holds what `run --labels` writes for them it
+/// writes a yes, unless a file was not read, the output failed or memory ran out.
 pub fn check_course<'a, H: Shelf, O: Sink>(
     alloc: Global,
     style: &'a str,
@@ -142,6 +157,9 @@ pub fn check_course<'a, H: Shelf, O: Sink>(
     ensures goes { Goes (Some (check_command style.now galley.now output.now wrap))
         (over_shelf (H.held shelf.old) (H.faults shelf.old) (H.faults shelf.new) (H.last_failed shelf.new))
         (over_sink (O.written out.old) (O.written out.new) (O.faults out.old) (O.faults out.new)) result }
+    ensures complete { IsComplete (Some (check_command style.now galley.now output.now wrap))
+        (over_shelf (H.held shelf.old) (H.faults shelf.old) (H.faults shelf.new) (H.last_failed shelf.new))
+        (over_sink (O.written out.old) (O.written out.new) (O.faults out.old) (O.faults out.new)) (status_of result) }
 {
     match open_style(alloc, StyleWord::Named(style), shelf) {
         Err(ending) => ending,

@@ -2,12 +2,16 @@
 //!
 //! Proved: each command does what its course says (`Goes` in `specs/Calls`, over `specs/Course`). A text that `run`
 //! writes is that of the best pagination, or the line for none where none is legal, and where it is asked for labels
-//! behind it that of the frontier's labels (`specs/Out`); `make` tells of the galley that it makes how many pages and
+//! behind it that of the frontier's labels (`specs/Out`); `edit` writes for each show of a script what `run` would write
+//! for the galley as it stands, and takes at most one step for each label that the edits since the show before can reach
+//! (`specs/Counted`); `make` tells of the galley that it makes how many pages and
 //! labels it has and what they cost (`specs/Made`); a yes of `check` shows that what the output text tells is true, and
-//! a no names the first test that fails (`specs/Verdict`).
+//! a no names the first test that fails (`specs/Verdict`); a check of what `run --labels` writes ends with a yes
+//! (`specs/Complete`).
 #![tactic(auto)]
 
 mod check;
+mod edit;
 mod line;
 mod make;
 mod open;
@@ -17,6 +21,7 @@ mod show;
 mod write;
 
 pub use check::check_course;
+pub use edit::edit_course;
 pub use make::make_course;
 pub use run::run_course;
 pub use show::show_course;

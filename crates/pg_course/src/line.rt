@@ -13,7 +13,7 @@ ghost use Rattle.pg_course.specs.Verdict.{proved_cost, proved_none, proved_text,
 use crate::paginate::PageText;
 use itoa::Buffer;
 use pg_labelcheck::Proved;
-use pg_space::{Counted, Outcome};
+use pg_space::Outcome;
 use std::alloc::{AllocError, Global};
 
 // A name, and a number behind it.
@@ -115,26 +115,27 @@ fn line_for_none(
     Ok(text)
 }
 
-/// The line of the galley of so many paragraphs, which has so many items and is solved.
+/// The line of the galley of so many paragraphs, which has so many items and is solved, with so many labels.
 pub fn line_of(
     alloc: Global,
     count: u32,
     items: u32,
-    solved: &Counted,
+    outcome: &Outcome,
+    labels: usize,
 ) -> Result<PageText, AllocError>
     requires items { items ≡ item_count (made_blocks count) }
-    requires solves { Solves (made_galley count) made_style solved.now.outcome }
-    requires labels { HasFrontier (made_galley count) made_style solved.now.labels }
+    requires solves { Solves (made_galley count) made_style outcome.now }
+    requires labels { HasFrontier (made_galley count) made_style labels }
     ensures { IfOk result (λ line. MadeOut count (bytes_of line) (end_of line)) }
 {
-    match &solved.outcome {
+    match outcome {
         Outcome::Best(plan, cost) => {
             let pages = plan.pages.as_slice().len();
-            let line = line_with_pages(alloc, count, items, pages, *cost, solved.labels)?;
+            let line = line_with_pages(alloc, count, items, pages, *cost, labels)?;
             Ok(PageText::Best(line))
         }
         Outcome::NoLegal => {
-            let line = line_for_none(alloc, count, items, solved.labels)?;
+            let line = line_for_none(alloc, count, items, labels)?;
             Ok(PageText::NoLegal(line))
         }
     }

@@ -1,10 +1,13 @@
 //! The command `make`.
-ghost use Rattle.std.specs.Prelude.{◌≡◌, ◌≤◌, IfOk, Some};
+ghost use Rattle.std.specs.Prelude.{◌≡◌, ◌≤◌, IfOk, OnOk, Some};
+ghost use Rattle.pg_command.specs.Lines.{status_of};
 ghost use Rattle.pg_command.specs.Words.{make as make_command};
-ghost use Rattle.pg_floats.specs.AreFloats.{AreFloats};
 ghost use Rattle.pg_make.specs.Generated.{made_galley};
 ghost use Rattle.pg_make.specs.Made.{made_style};
+ghost use Rattle.pg_session.specs.Sessions.{IsNew};
+ghost use Rattle.pg_session.specs.Shows.{AreCounted, one_show};
 ghost use Rattle.pg_course.specs.Calls.{Goes, OverShelf, Writes, over_sink};
+ghost use Rattle.pg_course.specs.Counted.{UnlessMemory};
 ghost use Rattle.pg_course.specs.Course.{MakeCourse};
 ghost use Rattle.pg_course.specs.Made.{MadeOut};
 ghost use Rattle.pg_course.specs.Out.{bytes_of, end_of};
@@ -13,13 +16,12 @@ use crate::line::line_of;
 use crate::paginate::PageText;
 use crate::write::write_text;
 use pg_command::Ending;
-use pg_floats::{FloatFault, FloatList};
+use pg_floats::FloatFault;
 use pg_list::Galley;
 use pg_make::{MakeFault, make_galley, make_style};
 use pg_outside::Sink;
-use pg_space::solve_counted;
+use pg_session::Session;
 use pg_steps::Steps;
-use pg_style::Style;
 use std::alloc::{AllocError, Global};
 use std::sync::ledger::Ledger;
 
@@ -35,20 +37,14 @@ fn galley_of(alloc: Global, count: u32) -> Result<Galley, AllocError>
     }
 }
 
-// Its floats, which are few and of a class of the made style.
-fn floats_of(
-    alloc: Global,
-    count: u32,
-    galley: &Galley,
-    style: &Style,
-) -> Result<FloatList, AllocError>
-    requires few { count ≤ 2000 }
-    requires galley { galley.now ≡ made_galley count }
-    requires style { style.now ≡ made_style }
-    ensures { IfOk result (AreFloats galley.now.blocks style.now) }
+// A session on it under the made style, which has the classes of its few floats.
+fn session_of(alloc: Global, count: u32) -> Result<Session, AllocError>
+    requires { count ≤ 2000 }
+    ensures { IfOk result (IsNew (made_galley count) made_style) }
 {
-    match FloatList::of(alloc, galley, style) {
-        Ok(floats) => Ok(floats),
+    let galley = galley_of(alloc, count)?;
+    match Session::new(alloc, galley, make_style(alloc)) {
+        Ok(session) => Ok(session),
         Err(FloatFault::Memory) => Err(AllocError),
         Err(FloatFault::Class { .. }) => unreachable!(),
         Err(FloatFault::Limit { .. }) => unreachable!(),
@@ -59,17 +55,16 @@ fn floats_of(
 fn line_under<L: Ledger>(
     alloc: Global,
     count: u32,
-    style: &Style,
     steps: &mut Steps<L>,
 ) -> Result<PageText, AllocError>
-    requires few { count ≤ 2000 }
-    requires style { style.now ≡ made_style }
-    ensures { IfOk result (λ line. MadeOut count (bytes_of line) (end_of line)) }
+    requires { count ≤ 2000 }
+    ensures line { IfOk result (λ line. MadeOut count (bytes_of line) (end_of line)) }
+    ensures counted { OnOk result (AreCounted made_style (one_show (made_galley count)) steps.old steps.new) }
 {
-    let galley = galley_of(alloc, count)?;
-    let floats = floats_of(alloc, count, &galley, style)?;
-    let solved = solve_counted(alloc, &galley, style, &floats, steps)?;
-    line_of(alloc, count, galley.count_items(), &solved)
+    let mut session = session_of(alloc, count)?;
+    let outcome = session.solve(steps)?;
+    let items = session.galley().count_items();
+    line_of(alloc, count, items, &outcome, session.labels().as_slice().len())
 }
 
 // Writes the line of the galley of so many paragraphs in one piece, and answers how that ends the run.
@@ -82,9 +77,10 @@ fn write_line<'a, O: Sink, L: Ledger>(
     requires { count ≤ 2000 }
     ensures writes { Writes (MakeCourse count)
         (over_sink (O.written out.old) (O.written out.new) (O.faults out.old) (O.faults out.new)) result }
+    ensures counted { UnlessMemory (status_of result)
+        (AreCounted made_style (one_show (made_galley count)) steps.old steps.new) }
 {
-    let style = make_style(alloc);
-    match line_under(alloc, count, &style, steps) {
+    match line_under(alloc, count, steps) {
         Err(_) => Ending::Memory,
         Ok(line) => write_text(&line, out),
     }
@@ -101,6 +97,8 @@ pub fn make_course<'a, O: Sink, L: Ledger>(
     requires { count ≤ 2000 }
     ensures goes { (shelf : OverShelf) → Goes (Some (make_command count)) shelf
         (over_sink (O.written out.old) (O.written out.new) (O.faults out.old) (O.faults out.new)) result }
+    ensures counted { UnlessMemory (status_of result)
+        (AreCounted made_style (one_show (made_galley count)) steps.old steps.new) }
 {
     write_line(alloc, count, out, steps)
 }

@@ -5,11 +5,12 @@ ghost use Rattle.pg_command.specs.Words.{style_name, IsStyle};
 ghost use Rattle.pg_command.specs.Lines.{status_of, line_of};
 ghost use Rattle.pg_course.specs.Calls.{NoFile, NoStyle, Stopped, over_shelf};
 ghost use Rattle.pg_course.specs.Course.{OnSettled, OnReadFault, OnWriteFault, fetched, opened, opened_style};
-ghost use Rattle.pg_course.specs.Course.{said_style, read_by, stop, opened_output};
+ghost use Rattle.pg_course.specs.Course.{said_style, read_by, stop, opened_output, opened_script};
 ghost use Rattle.pg_labels.specs.Reading.{IsFew};
 ghost use Rattle.pg_stylefile.specs.Style.{style_of_text};
 
 use pg_command::{Ending, StyleWord};
+use pg_edits::{Script, ScriptKind, read_script};
 use pg_labels::{Output, OutputFault, read_output};
 use pg_list::Galley;
 use pg_outside::{Fetch, Shelf};
@@ -145,5 +146,28 @@ pub fn open_output<'a, H: Shelf>(
         Ok(output) => Ok(output),
         Err(OutputFault::BadText { line }) => Err(Ending::BadOutput(name, line)),
         Err(OutputFault::Memory) => Err(Ending::Memory),
+    }
+}
+
+/// Fetches the file of this name and reads its edit script, or answers what ends the run.
+pub fn open_script<'a, H: Shelf>(
+    alloc: Global,
+    name: &'a str,
+    shelf: &mut H,
+) -> Result<Script, Ending<'a>>
+    ensures script { IfOk result (λ script. IfSome (H.held shelf.old) (λ held.
+        opened_script name.now (held name.now) ≡ Ok script)) }
+    ensures stopped { IfErr result (Stopped (λ held. opened_script name.now (held name.now)) (NoFile name.now)
+        (over_shelf (H.held shelf.old) (H.faults shelf.old) (H.faults shelf.new) (H.last_failed shelf.new))) }
+    ensures same { H.held shelf.new ≡ H.held shelf.old }
+    ensures later { H.faults shelf.old ≤ H.faults shelf.new }
+{
+    let bytes = fetch_file(alloc, name, shelf)?;
+    match read_script(alloc, &bytes) {
+        Ok(script) => Ok(script),
+        Err(fault) => match fault.kind {
+            ScriptKind::Memory => Err(Ending::Memory),
+            _ => Err(Ending::BadScript(name, fault)),
+        },
     }
 }

@@ -1,15 +1,19 @@
 //! What is written for a galley.
-ghost use Rattle.std.specs.Prelude.{◌≡◌, IfOk};
+ghost use Rattle.std.specs.Prelude.{◌≡◌, ◌++◌, IfOk, OnOk};
 ghost use Rattle.pg_floats.specs.AreFloats.{AreFloats};
 ghost use Rattle.pg_space.specs.Solves.{Solves};
 ghost use Rattle.pg_text_laws.specs.Texts.{LegalHaveEachOnce};
-ghost use Rattle.pg_course.specs.Out.{IsLabelledText, Out, RunOut, bytes_of, end_of, tells_fitness};
+ghost use Rattle.pg_labels.specs.LabelText.{label_text};
+ghost use Rattle.pg_course.specs.Counted.{IsShown};
+ghost use Rattle.pg_course.specs.Out.{Out, RunOut, bytes_of, end_of, tells_fitness};
 
 use pg_floats::FloatList;
 use pg_labels::print_labels;
 use pg_list::Galley;
 use pg_pages::{print_none, print_pages};
-use pg_space::{Outcome, solve, solve_labelled};
+use pg_plan::LabelList;
+use pg_session::Session;
+use pg_space::Outcome;
 use pg_steps::Steps;
 use pg_style::Style;
 use pg_text_laws::legal_plans_have_each_once;
@@ -66,61 +70,47 @@ fn has_fitness(style: &Style) -> bool
     style.version == 2
 }
 
-// The text for a galley without labels.
-fn plain_text_of<L: Ledger>(
-    alloc: Global,
-    galley: &Galley,
-    style: &Style,
-    floats: &FloatList,
-    steps: &mut Steps<L>,
-) -> Result<PageText, AllocError>
-    requires { AreFloats galley.now.blocks style.now floats.now }
-    ensures { IfOk result (λ page. Out galley.now style.now (bytes_of page) (end_of page)) }
+// The text with that of the labels behind it.
+fn with_labels(text: PageText, labels: &LabelList, style: &Style) -> Result<PageText, AllocError>
+    ensures text { IfOk result (λ page.
+        bytes_of page ≡ bytes_of text ++ label_text (tells_fitness style.now) labels.now) }
+    ensures end { IfOk result (λ page. end_of page ≡ end_of text) }
 {
-    let outcome = solve(alloc, galley, style, floats, steps)?;
-    text_of(alloc, galley, style, floats, &outcome)
-}
-
-// The text for a galley with the labels of its frontier.
-fn labelled_text_of<L: Ledger>(
-    alloc: Global,
-    galley: &Galley,
-    style: &Style,
-    floats: &FloatList,
-    steps: &mut Steps<L>,
-) -> Result<PageText, AllocError>
-    requires { AreFloats galley.now.blocks style.now floats.now }
-    ensures { IfOk result (λ page. IsLabelledText galley.now style.now (bytes_of page) (end_of page)) }
-{
-    let solved = solve_labelled(alloc, galley, style, floats, steps)?;
-    match text_of(alloc, galley, style, floats, &solved.outcome)? {
-        PageText::Best(mut text) => {
-            print_labels(&solved.labels, has_fitness(style), &mut text)?;
-            Ok(PageText::Best(text))
+    match text {
+        PageText::Best(mut bytes) => {
+            print_labels(labels, has_fitness(style), &mut bytes)?;
+            Ok(PageText::Best(bytes))
         }
-        PageText::NoLegal(mut text) => {
-            print_labels(&solved.labels, has_fitness(style), &mut text)?;
-            Ok(PageText::NoLegal(text))
+        PageText::NoLegal(mut bytes) => {
+            print_labels(labels, has_fitness(style), &mut bytes)?;
+            Ok(PageText::NoLegal(bytes))
         }
     }
 }
 
-/// The text for a galley: of its best pagination, or the line for none where none is legal; where `labels` is true with
-/// the text of the frontier's labels behind it.
+/// The text for the galley of a session as it stands, which is solved for it: of its best pagination, or the line for
+/// none where none is legal; where `labels` is true with the text of the frontier's labels behind it.
 pub fn page_text_of<L: Ledger>(
     alloc: Global,
-    galley: &Galley,
-    style: &Style,
-    floats: &FloatList,
+    session: &mut Session,
     labels: bool,
     steps: &mut Steps<L>,
 ) -> Result<PageText, AllocError>
-    requires { AreFloats galley.now.blocks style.now floats.now }
-    ensures { IfOk result (λ page. RunOut labels galley.now style.now (bytes_of page) (end_of page)) }
+    ensures text { IfOk result (λ page.
+        RunOut labels session.old.galley session.old.style (bytes_of page) (end_of page)) }
+    ensures shown { OnOk result (IsShown session.old session.new steps.old steps.new) }
 {
+    let outcome = session.solve(steps)?;
+    let text = text_of(
+        alloc,
+        session.galley(),
+        session.style(),
+        session.floats(),
+        &outcome,
+    )?;
     if labels {
-        labelled_text_of(alloc, galley, style, floats, steps)
+        with_labels(text, session.labels(), session.style())
     } else {
-        plain_text_of(alloc, galley, style, floats, steps)
+        Ok(text)
     }
 }

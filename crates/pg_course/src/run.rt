@@ -1,37 +1,39 @@
 //! The command `run`.
-ghost use Rattle.std.specs.Prelude.{◌≡◌, Some};
-ghost use Rattle.pg_floats.specs.AreFloats.{AreFloats};
+ghost use Rattle.std.specs.Prelude.{◌≡◌, Some, Ok, IfSome};
+ghost use Rattle.pg_session.specs.Shows.{AreCounted, one_show};
+ghost use Rattle.pg_command.specs.Lines.{status_of};
 ghost use Rattle.pg_command.specs.Words.{run as run_command, style_name, IsStyle};
 ghost use Rattle.pg_course.specs.Course.{PaginateGalley, RunGalley, RunCourse, opened};
 ghost use Rattle.pg_course.specs.Calls.{Goes, GoesOn, Writes, ending_of, over_shelf, over_sink};
+ghost use Rattle.pg_course.specs.Counted.{CountsRun, IsCounted, IsShown, UnlessMemory, taken_shows};
 
 use crate::open::{open_galley, open_style};
 use crate::paginate::page_text_of;
 use crate::write::write_text;
 use pg_command::{Ending, StyleWord};
-use pg_floats::{FloatFault, FloatList};
+use pg_floats::FloatFault;
 use pg_list::Galley;
 use pg_outside::{Shelf, Sink};
+use pg_session::Session;
 use pg_steps::Steps;
 use pg_style::Style;
 use std::alloc::Global;
 use std::sync::ledger::Ledger;
 
-// Writes the text for a galley in one piece, where `labels` is true with its labels, and answers how that ends the run.
-fn write_pages<'a, O: Sink, L: Ledger>(
+/// Writes the text for the galley of a session as it stands in one piece, where `labels` is true with its labels, and
+/// answers how that ends the run. Unless memory runs out, the session is solved behind it.
+pub fn write_shown<'a, O: Sink, L: Ledger>(
     alloc: Global,
-    galley: &Galley,
-    style: &Style,
-    floats: &FloatList,
+    session: &mut Session,
     labels: bool,
     out: &mut O,
     steps: &mut Steps<L>,
 ) -> Ending<'a>
-    requires { AreFloats galley.now.blocks style.now floats.now }
-    ensures writes { Writes (PaginateGalley labels style.now galley.now)
+    ensures writes { Writes (PaginateGalley labels session.old.style session.old.galley)
         (over_sink (O.written out.old) (O.written out.new) (O.faults out.old) (O.faults out.new)) result }
+    ensures shown { UnlessMemory (status_of result) (IsShown session.old session.new steps.old steps.new) }
 {
-    match page_text_of(alloc, galley, style, floats, labels, steps) {
+    match page_text_of(alloc, session, labels, steps) {
         Err(_) => Ending::Memory,
         Ok(text) => write_text(&text, out),
     }
@@ -51,25 +53,27 @@ pub fn float_ending<'a>(fault: FloatFault) -> Ending<'a>
 // Paginates a galley with a style, if the style has the classes of its inserts and its floats are not too many.
 fn run_galley<'a, O: Sink, L: Ledger>(
     alloc: Global,
-    galley: &Galley,
-    style: &Style,
+    galley: Galley,
+    style: Style,
     labels: bool,
     out: &mut O,
     steps: &mut Steps<L>,
 ) -> Ending<'a>
-    ensures writes { Writes (RunGalley labels style.now galley.now)
+    ensures writes { Writes (RunGalley labels style galley)
         (over_sink (O.written out.old) (O.written out.new) (O.faults out.old) (O.faults out.new)) result }
+    ensures counted { UnlessMemory (status_of result) (AreCounted style
+        (taken_shows style galley (one_show galley)) steps.old steps.new) }
 {
-    match FloatList::of(alloc, galley, style) {
+    match Session::new(alloc, galley, style) {
         Err(fault) => float_ending(fault),
-        Ok(floats) => write_pages(alloc, galley, style, &floats, labels, out, steps),
+        Ok(mut session) => write_shown(alloc, &mut session, labels, out, steps),
     }
 }
 
 // Paginates the galley of this name with a style, and writes the text in one piece.
 fn run_file<'a, H: Shelf, O: Sink, L: Ledger>(
     alloc: Global,
-    style: &Style,
+    style: Style,
     name: &'a str,
     labels: bool,
     wrap: Option<u32>,
@@ -77,13 +81,15 @@ fn run_file<'a, H: Shelf, O: Sink, L: Ledger>(
     out: &mut O,
     steps: &mut Steps<L>,
 ) -> Ending<'a>
-    ensures goes { GoesOn (λ held. RunCourse labels style.now (opened name.now wrap (held name.now))) name.now
+    ensures goes { GoesOn (λ held. RunCourse labels style (opened name.now wrap (held name.now))) name.now
         (over_shelf (H.held shelf.old) (H.faults shelf.old) (H.faults shelf.new) (H.last_failed shelf.new))
         (over_sink (O.written out.old) (O.written out.new) (O.faults out.old) (O.faults out.new)) result }
+    ensures counted { UnlessMemory (status_of result) (IfSome (H.held shelf.old) (λ held.
+        CountsRun (Ok style) (opened name.now wrap (held name.now)) steps.old steps.new)) }
 {
     match open_galley(alloc, name, wrap, shelf) {
         Err(ending) => ending,
-        Ok(galley) => run_galley(alloc, &galley, style, labels, out, steps),
+        Ok(galley) => run_galley(alloc, galley, style, labels, out, steps),
     }
 }
 
@@ -103,9 +109,12 @@ pub fn run_course<'a, H: Shelf, O: Sink, L: Ledger>(
     ensures goes { Goes (Some (run_command (style_name style.entry) name.now labels wrap))
         (over_shelf (H.held shelf.old) (H.faults shelf.old) (H.faults shelf.new) (H.last_failed shelf.new))
         (over_sink (O.written out.old) (O.written out.new) (O.faults out.old) (O.faults out.new)) result }
+    ensures counted { UnlessMemory (status_of result)
+        (IsCounted (Some (run_command (style_name style.entry) name.now labels wrap)) (H.held shelf.old)
+        steps.old steps.new) }
 {
     match open_style(alloc, style, shelf) {
         Err(ending) => ending,
-        Ok(style) => run_file(alloc, &style, name, labels, wrap, shelf, out, steps),
+        Ok(style) => run_file(alloc, style, name, labels, wrap, shelf, out, steps),
     }
 }

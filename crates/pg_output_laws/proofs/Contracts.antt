@@ -1,5 +1,5 @@
 -- The laws of this crate.
-use Rattle.std.proofs.Common.{◌≤◌, ◌<◌, ◌^◌, arith}
+use Rattle.std.proofs.Common.{◌<◌, ◌^◌, arith}
 use Rattle.std.specs.Prelude.{reverse, length, nat_abs}
 use Rattle.pg_list.specs.GalleyValue.{GalleyValue}
 use Rattle.pg_plan.specs.Order.{columns}
@@ -8,7 +8,6 @@ use Rattle.pg_rules.specs.Legal.{breach, document, unless, ends_spent, has_dealt
 use Rattle.pg_rules.specs.History.{placed_of}
 use Rattle.pg_beginning_laws.proofs.Faults.{sound_of}
 use Rattle.pg_rules.specs.Ranges.{AreInRange}
-use Rattle.pg_floats.specs.AreFloats.{float_total}
 use Rattle.pg_output_laws.specs.Laws.{PagesReadBack, StatesAreInRange}
 use Rattle.pg_output_laws.proofs.Moves.{moves_printed}
 use Rattle.pg_output_laws.proofs.States.{labels_printed}
@@ -31,6 +30,6 @@ pages_read_back galley style range width plan cost fitness labels legal wide few
     }) small each
 
 pub states_are_in_range : (galley : GalleyValue) (style : StyleValue) → AreInRange galley style →
-    float_total galley.blocks style ≤ 2 ^ 12 → StatesAreInRange galley style
-states_are_in_range galley style range few labels h =
+    StatesAreInRange galley style
+states_are_in_range galley style range labels few h =
     labels_printed (document galley style) range.style_in range.blocks range.limit few labels h

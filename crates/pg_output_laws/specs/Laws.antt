@@ -1,10 +1,11 @@
 -- Printed output texts read back, in the words of the contracts.
-use Rattle.std.specs.Prelude.{◌≡◌, ◌==◌, ◌<◌, ◌^◌, Bool, true, List, ◌++◌, length, Ok, ℤ}
+use Rattle.std.specs.Prelude.{◌≡◌, ◌==◌, ◌≤◌, ◌<◌, ◌^◌, Bool, true, List, ◌++◌, length, Ok, ℤ}
 use Rattle.pg_list.specs.GalleyValue.{GalleyValue}
 use Rattle.pg_plan.specs.declared.states.Label.{Label}
 use Rattle.pg_plan.specs.declared.pages.Pagination.{Pagination}
 use Rattle.pg_style.specs.Values.{StyleValue}
 use Rattle.pg_rules.specs.Legal.{Legal, document}
+use Rattle.pg_floats.specs.AreFloats.{float_total}
 use Rattle.pg_pages.specs.PageText.{page_text, none_text}
 use Rattle.pg_labels.specs.LabelText.{label_text}
 use Rattle.pg_labels.specs.Reading.{output_of}
@@ -36,7 +37,8 @@ abbrev pub NoneReadsBack : Type 0
 NoneReadsBack = (fitness : Bool) (labels : List Label) → length labels < 2 ^ 64 → ArePrintedLabels fitness labels →
     output_of (none_text ++ label_text fitness labels) ≡ Ok (no_pages_output labels)
 
--- labels that are states, with costs of 128 bits, are in range, with their fitness told in version 2
+-- labels that are states, with costs of 128 bits, are in range, with their fitness told in version 2, where the galley
+-- has at most 2^12 floats
 abbrev pub StatesAreInRange : GalleyValue → StyleValue → Type 0
-StatesAreInRange galley style = (labels : List Label) → AreStatesInRange (document galley style) labels →
-    ArePrintedLabels (style.version == 2) labels
+StatesAreInRange galley style = (labels : List Label) → float_total galley.blocks style ≤ 2 ^ 12 →
+    AreStatesInRange (document galley style) labels → ArePrintedLabels (style.version == 2) labels

@@ -1,7 +1,5 @@
 //! Each law is the contract of a function that does nothing but ask for the ranges that the types of a galley and of a
 //! style keep.
-ghost use Rattle.std.specs.Prelude.{◌≤◌, ◌^◌};
-ghost use Rattle.pg_floats.specs.AreFloats.{float_total};
 ghost use Rattle.pg_output_laws.specs.Laws.{PagesReadBack, NoneReadsBack, StatesAreInRange};
 
 use pg_column::blocks_of;
@@ -26,7 +24,6 @@ pub fn none_reads_back()
 /// Labels that are states of a galley under a style, with costs of 128 bits, are in the range in which label texts read
 /// back, where the galley has no more floats than a list of floats may have.
 pub fn states_are_in_range(galley: &Galley, style: &Style)
-    requires { float_total galley.now.blocks style.now ≤ 2 ^ 12 }
     ensures { StatesAreInRange galley.now style.now }
 {
     let _ = blocks_of(galley);

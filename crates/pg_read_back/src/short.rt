@@ -1,39 +1,10 @@
 //! Galleys and texts that are none, in a few letters, and what is read of each.
+use pg_bench_files::lines_of;
 use pg_showbox::{ListFault, ListKind, print_galley, read_galley};
 use std::alloc::{AllocError, Global};
 
 /// The most bytes of a text.
 const ROOM: usize = 67108864;
-
-// Puts the line of a letter at the end of a text.
-fn push_line(text: &mut Vec<u8>, letter: u8) -> Result<(), AllocError> {
-    match letter {
-        b'R' => text.extend_from_slice(b"\\vbox(0.0+0.0)x345.0\n"),
-        b'B' => text.extend_from_slice(b".\\hbox(7.0+2.0)x345.0\n"),
-        b'G' => text.extend_from_slice(b".\\glue 3.0\n"),
-        b'C' => text.extend_from_slice(b".\\special{pg:choice}\n"),
-        b'V' => text.extend_from_slice(b".\\special{pg:variant 0 0}\n"),
-        b'E' => text.extend_from_slice(b".\\special{pg:end}\n"),
-        b'I' => text.extend_from_slice(
-            b".\\insert200, natural size 9.0; split(0.0,0.0); float cost 0\n",
-        ),
-        b'~' => text.extend_from_slice(b"\n"),
-        b'^' => text.extend_from_slice(b"\r"),
-        _ => {
-            text.push(letter)?;
-            Ok(())
-        }
-    }
-}
-
-// A text, with the line that each of these letters stands for.
-fn text_of(alloc: Global, short: &str) -> Result<Vec<u8>, AllocError> {
-    let mut text = Vec::new(alloc);
-    for letter in short.as_bytes() {
-        push_line(&mut text, *letter)?;
-    }
-    Ok(text)
-}
 
 fn say_fault(alloc: Global, fault: ListFault, out: &mut Vec<u8>) -> Result<(), AllocError> {
     if let ListKind::Memory = fault.kind {
@@ -81,7 +52,7 @@ fn say_case(alloc: Global, row: &str, out: &mut Vec<u8>) -> Result<(), AllocErro
     };
     out.extend_from_slice(row.as_bytes())?;
     out.extend_from_slice(b" = ")?;
-    let text = text_of(alloc, short)?;
+    let text = lines_of(alloc, short)?;
     say_read(alloc, &text, wrap.parse::<u32>().ok(), out)?;
     out.push(b'\n')?;
     Ok(())
@@ -89,9 +60,7 @@ fn say_case(alloc: Global, row: &str, out: &mut Vec<u8>) -> Result<(), AllocErro
 
 /// The lines of all cases of a table; lines that begin with `#` are passed over.
 ///
-/// In a text R stands for the line of a root, B of a box, G of glue, C, V and E of the markers of a choice, of a
-/// variant and of the choice's end, I of an insert; `~` stands for a line feed and `^` for a carriage return. All else
-/// stands for itself.
+/// The texts are in the letters of `lines_of`.
 pub fn say_table(alloc: Global, table: &str) -> Result<Vec<u8>, AllocError> {
     let mut out = Vec::new(alloc);
     for row in table.lines() {

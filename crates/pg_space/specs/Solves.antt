@@ -1,18 +1,13 @@
 -- What solving a galley under a style tells.
-use Rattle.std.specs.Prelude.{◌≡◌, ℕ, ◌+◌, List, length}
+use Rattle.std.specs.Prelude.{◌≡◌, ℕ, List, length}
 use Rattle.pg_list.specs.GalleyValue.{GalleyValue}
-use Rattle.pg_plan.specs.declared.pages.PageMove.{PageMove}
 use Rattle.pg_plan.specs.declared.pages.Pagination.{Pagination}
 use Rattle.pg_plan.specs.declared.states.Label.{Label}
-use Rattle.pg_plan.specs.declared.states.State.{State}
 use Rattle.pg_style.specs.Values.{StyleValue}
 use Rattle.pg_rules.specs.Best.{Best}
 use Rattle.pg_rules.specs.Cost.{cost}
 use Rattle.pg_rules.specs.Frontier.{Frontier}
-use Rattle.pg_rules.specs.Legal.{Legal, document}
-use Rattle.pg_table.specs.declared.table.Entry.{Entry}
-use Rattle.pg_table.specs.Label.{IsTable}
-use Rattle.pg_space_laws.specs.PageSpace.{page_meaning}
+use Rattle.pg_rules.specs.Legal.{Legal}
 use Rattle.pg_space.specs.declared.solving.Outcome.{Outcome}
 use Rattle.pg_space.specs.declared.solving.Outcome.TheVariants.{Best as BestIs, NoLegal}
 
@@ -26,9 +21,3 @@ pub record HasFrontier (galley : GalleyValue) (style : StyleValue) (count : ℕ)
   pub labels : List Label
   pub frontier : Frontier galley style labels
   pub counted : length labels ≡ count
-
--- the steps rose by exactly the number of labels of a table that is filled for the galley's pages
-pub record TakesSteps (galley : GalleyValue) (style : StyleValue) (before after : ℕ) : Type 0 where
-  pub labels : List (Entry State PageMove)
-  pub filled : IsTable (page_meaning (document galley style)) labels
-  pub taken : after ≡ before + length labels

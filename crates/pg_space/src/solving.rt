@@ -1,23 +1,23 @@
-//! The best pagination of a galley, and its frontier.
-ghost use Rattle.std.specs.Prelude.{◌≡◌, ◌<◌, ◌+◌, length, slice_get, Some, IfOk};
+//! The labels of a galley's pages, and the best pagination that they tell.
+ghost use Rattle.std.specs.Prelude.{◌≡◌, ◌<◌, ◌+◌, ◌⊎◌, [], length, slice_get, Some, IfOk, OnOk, OnErr};
 ghost use Rattle.pg_plan.specs.declared.pages.PageMove.{PageMove as AMove};
 ghost use Rattle.pg_plan.specs.declared.states.State.{State as AState};
 ghost use Rattle.pg_table.specs.declared.table.Entry.{Entry as AnEntry};
 ghost use Rattle.pg_floats.specs.AreFloats.{AreFloats};
-ghost use Rattle.pg_rules.specs.Frontier.{Frontier};
 ghost use Rattle.pg_rules.specs.Legal.{document};
 ghost use Rattle.pg_sources.specs.Document.{doc_of};
 ghost use Rattle.pg_space_laws.specs.PageSpace.{page_meaning};
+ghost use Rattle.pg_table.specs.Below.{IsRightBelow};
 ghost use Rattle.pg_table.specs.Label.{IsBestOf, IsTable};
-ghost use Rattle.pg_space.specs.Solves.{HasFrontier, Solves, TakesSteps};
+ghost use Rattle.pg_table.specs.Searching.{count_reaching};
+ghost use Rattle.pg_space.specs.Solves.{Solves};
 
 use crate::kept::{Document, KeptPages};
 use crate::runs::moves_of;
 use crate::space::PageSpace;
 use pg_floats::FloatList;
-use pg_frontier::frontier_of;
 use pg_list::Galley;
-use pg_plan::{LabelList, PageKey, PageMove, Pagination, State};
+use pg_plan::{PageKey, PageMove, Pagination, State};
 use pg_steps::Steps;
 use pg_style::Style;
 use pg_table::{Entry, Table};
@@ -32,117 +32,52 @@ pub enum Outcome {
     NoLegal,
 }
 
-/// An outcome, and how many labels the frontier has.
-#[derive(Drop)]
-pub struct Counted {
-    pub outcome: Outcome,
-    pub labels: usize,
-}
-
-/// An outcome, and the frontier: the states that stay in the race, each with its cost, in the order of states.
-#[derive(Drop)]
-pub struct Labelled {
-    pub outcome: Outcome,
-    pub labels: LabelList,
-}
-
-/// The best pagination of the galley with its cost, or `NoLegal` where none is legal. It takes one step for each label
-/// of a filled table.
-pub fn solve<L: Ledger>(
+/// Fills a table with the labels of a galley's pages, from the block `below` on, below which it has to be right for
+/// these pages. It keeps the labels that end below, and takes one step for each label of the new table whose reach is
+/// at least `below`. After a refusal, which is want of memory, the table is empty.
+pub fn refill_pages<L: Ledger>(
     alloc: Global,
     galley: &Galley,
     style: &Style,
     floats: &FloatList,
+    table: &mut Table<State, PageMove, PageKey>,
+    below: u32,
     steps: &mut Steps<L>,
-) -> Result<Outcome, AllocError>
-    requires { AreFloats galley.now.blocks style.now floats.now }
-    ensures solves { IfOk result (Solves galley.now style.now) }
-    ensures steps { IfOk result (λ outcome. TakesSteps galley.now style.now steps.old steps.new) }
+) -> Result<(), AllocError>
+    requires floats { AreFloats galley.now.blocks style.now floats.now }
+    requires right { (below ≡ 0) ⊎ IsRightBelow (page_meaning (document galley.now style.now)) below table.old }
+    ensures table { OnOk result (IsTable (page_meaning (document galley.now style.now)) table.new) }
+    ensures err { OnErr result (table.new ≡ []) }
+    ensures counted { OnOk result (steps.new ≡ steps.old + count_reaching below table.new) }
 {
-    Ok(solve_counted(alloc, galley, style, floats, steps)?.outcome)
-}
-
-/// The same, with the number of labels in the frontier: of states that stay in the race.
-pub fn solve_counted<L: Ledger>(
-    alloc: Global,
-    galley: &Galley,
-    style: &Style,
-    floats: &FloatList,
-    steps: &mut Steps<L>,
-) -> Result<Counted, AllocError>
-    requires { AreFloats galley.now.blocks style.now floats.now }
-    ensures solves { IfOk result (λ it. Solves galley.now style.now it.outcome) }
-    ensures labels { IfOk result (λ it. HasFrontier galley.now style.now it.labels) }
-    ensures steps { IfOk result (λ it. TakesSteps galley.now style.now steps.old steps.new) }
-{
-    let table = fill_pages(alloc, galley, style, floats, steps)?;
-    let space = PageSpace::new(alloc, galley, style, floats);
-    space.table_tells_all();
-    Ok(Counted {
-        outcome: outcome_of(alloc, &space, &table)?,
-        labels: table.labels().len(),
-    })
-}
-
-/// The same, with the labels of the frontier themselves, which are copied out of the table.
-pub fn solve_labelled<L: Ledger>(
-    alloc: Global,
-    galley: &Galley,
-    style: &Style,
-    floats: &FloatList,
-    steps: &mut Steps<L>,
-) -> Result<Labelled, AllocError>
-    requires { AreFloats galley.now.blocks style.now floats.now }
-    ensures solves { IfOk result (λ it. Solves galley.now style.now it.outcome) }
-    ensures labels { IfOk result (λ it. Frontier galley.now style.now it.labels) }
-    ensures steps { IfOk result (λ it. TakesSteps galley.now style.now steps.old steps.new) }
-{
-    let table = fill_pages(alloc, galley, style, floats, steps)?;
-    let space = PageSpace::new(alloc, galley, style, floats);
-    space.table_tells_all();
-    Ok(Labelled {
-        outcome: outcome_of(alloc, &space, &table)?,
-        labels: frontier_of(alloc, table.labels())?,
-    })
-}
-
-// A table that is filled for the pages of a galley, with one step for each label.
-fn fill_pages<L: Ledger>(
-    alloc: Global,
-    galley: &Galley,
-    style: &Style,
-    floats: &FloatList,
-    steps: &mut Steps<L>,
-) -> Result<Table<State, PageMove, PageKey>, AllocError>
-    requires { AreFloats galley.now.blocks style.now floats.now }
-    ensures table { IfOk result (IsTable (page_meaning (document galley.now style.now))) }
-    ensures steps { IfOk result (λ table. steps.new ≡ steps.old + length table) }
-{
-    fill_kept::<Brand, L>(alloc, galley, style, floats, steps)
+    refill_kept::<Brand, L>(alloc, galley, style, floats, table, below, steps)
 }
 
 // The same of one document, where states of one place share a walk.
-fn fill_kept<D: Document, L: Ledger>(
+fn refill_kept<D: Document, L: Ledger>(
     alloc: Global,
     galley: &Galley,
     style: &Style,
     floats: &FloatList,
+    table: &mut Table<State, PageMove, PageKey>,
+    below: u32,
     steps: &mut Steps<L>,
-) -> Result<Table<State, PageMove, PageKey>, AllocError>
+) -> Result<(), AllocError>
     requires floats { AreFloats galley.now.blocks style.now floats.now }
     requires galley { galley.now ≡ D.galley }
     requires style { style.now ≡ D.style }
-    ensures table { IfOk result (IsTable (page_meaning (document galley.now style.now))) }
-    ensures steps { IfOk result (λ table. steps.new ≡ steps.old + length table) }
+    requires right { (below ≡ 0) ⊎ IsRightBelow (page_meaning (document galley.now style.now)) below table.old }
+    ensures table { OnOk result (IsTable (page_meaning (document galley.now style.now)) table.new) }
+    ensures err { OnErr result (table.new ≡ []) }
+    ensures counted { OnOk result (steps.new ≡ steps.old + count_reaching below table.new) }
 {
     let space = KeptPages::<D>::new(alloc, galley, style, floats);
-    let mut table = Table::new(alloc);
-    table.fill(&space, steps)?;
-    Ok(table)
+    table.refill(&space, below, steps)?;
+    Ok(())
 }
 
-// The best pagination, or that none is legal.
-fn outcome_of(
+/// The best pagination with its cost that a filled table of pages tells, or that none is legal.
+pub fn outcome_of(
     alloc: Global,
     space: &PageSpace<'_>,
     table: &Table<State, PageMove, PageKey>,

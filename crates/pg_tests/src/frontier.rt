@@ -1,7 +1,6 @@
 //! The labels and the best pagination of a galley, worked out by hand.
 ghost use Rattle.std.specs.Prelude.{◌≡◌};
 
-use crate::rows::equal_lines;
 use pg_floats::FloatList;
 use pg_showbox::read_galley;
 use pg_space::{Outcome, PageSpace, solve};
@@ -15,6 +14,18 @@ use std::test::Fail;
 
 // The most bytes of a text.
 const ROOM: usize = 4096;
+
+// Lines of 7 points above and 2 below the baseline, with glue of 3 points between.
+fn equal_lines(alloc: Global, count: u32) -> Result<Vec<u8>, AllocError> {
+    let mut galley = b"\\vbox(0.0+0.0)x345.0\n".to_vec(alloc)?;
+    for line in 0..count {
+        if line > 0 {
+            galley.extend_from_slice(b".\\glue 3.0\n")?;
+        }
+        galley.extend_from_slice(b".\\hbox(7.0+2.0)x345.0\n")?;
+    }
+    Ok(galley)
+}
 
 /// Where the labels of a galley stand, and the best pagination's pages and cost.
 #[derive(Drop)]

@@ -1,17 +1,9 @@
-//! Tests that cross crates: the program's rows, run through the top call over shelves and sinks in memory.
+//! Tests that cross crates and go by what no program writes: the labels of a galley, and points printed and read back.
 //!
-//! What they show and no clause does: that the definitions mean what the program is for, and that memory suffices for each row.
+//! What goes through `serve` are the tables of pg_rows.
 #![tactic(auto)]
 
 #[cfg(test)]
-mod cases;
-#[cfg(test)]
-mod checks;
-#[cfg(test)]
 mod frontier;
 #[cfg(test)]
-mod refusals;
-#[cfg(test)]
-mod rows;
-#[cfg(test)]
-mod styles;
+mod points;

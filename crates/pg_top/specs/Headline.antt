@@ -51,7 +51,7 @@ pub record Headline (words : List (List ℕ)) (shelf : OverShelf) (out say : Ove
       (line : List ℕ) × Ended (command_of words) held out.old out.new status line))
   pub read_fault : OnReadFault status (ReadFailed (command_of words) shelf out)
   pub write_fault : OnWriteFault status (WriteFailed (command_of words) shelf out)
-  pub memory : OnMemory status (WroteWhole (command_of words) out)
+  pub memory : OnMemory status (WroteWhole (command_of words) shelf.told out)
   -- where neither count rose, it ended as the course does, or memory ran out
   pub no_fault : (Rose shelf.before shelf.after → ⊥) → (Rose out.before out.after → ⊥)
       → EndsAsCourse (command_of words) shelf.told status

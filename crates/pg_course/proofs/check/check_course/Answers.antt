@@ -1,25 +1,47 @@
 use Rattle.std.proofs.Common.{◌≡◌, subst, sym}
 use Rattle.std.specs.Prelude.{IfSome, Ok, Option, Some}
 use Rattle.pg_outside.specs.Outside.{Held}
+use Rattle.pg_command.specs.Lines.{status_of}
 use Rattle.pg_command.specs.Words.{check, named}
-use Rattle.pg_course.specs.Calls.{over_sink}
+use Rattle.pg_course.specs.Calls.{over_shelf, over_sink}
 use Rattle.pg_course.specs.Course.{opened_style}
 use Rattle.pg_course.proofs.Checks.{goes_earlier}
+use Rattle.pg_course.proofs.Complete.{complete_earlier, no_style_complete}
 use Rattle.pg_course.proofs.check.check_course.Goals as goal
 
-pub returns-in-Ok : goal.returns-in-Ok
-returns-in-Ok g c =
+pub returns-in-Err-clause-complete : goal.returns-in-Err-clause-complete
+returns-in-Err-clause-complete g c =
+    let old = g.O.Sink.written c.args.out.now in
+    let writes = g.O.Sink.faults c.args.out.now in
+    no_style_complete c.args.style.now c.args.galley.now c.args.output.now c.args.wrap
+    (over_shelf (g.H.Shelf.held c.args.shelf.now) (g.H.Shelf.faults c.args.shelf.now)
+    (g.H.Shelf.faults c.open_style.new.shelf) (g.H.Shelf.last_failed c.open_style.new.shelf))
+    (over_sink old old writes writes) c.in-Err.ending c.in-Err.ensures.stopped
+
+pub returns-in-Ok-clause-goes : goal.returns-in-Ok-clause-goes
+returns-in-Ok-clause-goes g c =
     let told = g.H.Shelf.held c.args.shelf.now in
     let mid = g.H.Shelf.held c.open_style.new.shelf in
-    record {
-      goes =
-          goes_earlier (Some (check c.args.style.now c.args.galley.now c.args.output.now c.args.wrap)) told mid
-          (g.H.Shelf.faults c.args.shelf.now) (g.H.Shelf.faults c.open_style.new.shelf)
-          (g.H.Shelf.faults c.check_styled.new.shelf) (g.H.Shelf.last_failed c.check_styled.new.shelf)
-          (over_sink (g.O.Sink.written c.args.out.now) (g.O.Sink.written c.check_styled.new.out)
-          (g.O.Sink.faults c.args.out.now) (g.O.Sink.faults c.check_styled.new.out)) c.check_styled.result
-          c.open_style.ensures.same c.open_style.ensures.later
-          (c.check_styled.ensures.goes c.args.style.now
-          (subst (λ (t : Option Held). IfSome t (λ held. opened_style (named c.args.style.now) held ≡ Ok c.in-Ok.style))
-          (sym c.open_style.ensures.same) c.in-Ok.ensures.style));
-    }
+    goes_earlier (Some (check c.args.style.now c.args.galley.now c.args.output.now c.args.wrap)) told mid
+    (g.H.Shelf.faults c.args.shelf.now) (g.H.Shelf.faults c.open_style.new.shelf)
+    (g.H.Shelf.faults c.check_styled.new.shelf) (g.H.Shelf.last_failed c.check_styled.new.shelf)
+    (over_sink (g.O.Sink.written c.args.out.now) (g.O.Sink.written c.check_styled.new.out)
+    (g.O.Sink.faults c.args.out.now) (g.O.Sink.faults c.check_styled.new.out)) c.check_styled.result
+    c.open_style.ensures.same c.open_style.ensures.later
+    (c.check_styled.ensures.goes c.args.style.now
+    (subst (λ (t : Option Held). IfSome t (λ held. opened_style (named c.args.style.now) held ≡ Ok c.in-Ok.style))
+    (sym c.open_style.ensures.same) c.in-Ok.ensures.style))
+
+pub returns-in-Ok-clause-complete : goal.returns-in-Ok-clause-complete
+returns-in-Ok-clause-complete g c =
+    let told = g.H.Shelf.held c.args.shelf.now in
+    let mid = g.H.Shelf.held c.open_style.new.shelf in
+    complete_earlier c.args.style.now c.args.galley.now c.args.output.now c.args.wrap told mid
+    (g.H.Shelf.faults c.args.shelf.now) (g.H.Shelf.faults c.open_style.new.shelf)
+    (g.H.Shelf.faults c.check_styled.new.shelf) (g.H.Shelf.last_failed c.check_styled.new.shelf)
+    (over_sink (g.O.Sink.written c.args.out.now) (g.O.Sink.written c.check_styled.new.out)
+    (g.O.Sink.faults c.args.out.now) (g.O.Sink.faults c.check_styled.new.out)) (status_of c.check_styled.result)
+    c.open_style.ensures.same c.open_style.ensures.later
+    (c.check_styled.ensures.complete c.args.style.now
+    (subst (λ (t : Option Held). IfSome t (λ held. opened_style (named c.args.style.now) held ≡ Ok c.in-Ok.style))
+    (sym c.open_style.ensures.same) c.in-Ok.ensures.style))

@@ -8,4 +8,3 @@ returns c = states_are_in_range c.args.galley.now c.args.style.now
       limit = c.blocks_of.ensures.count;
       style_in = c.stays_in_range.ensures;
     })
-    c.requires

@@ -1,0 +1,67 @@
+-- How many steps the solving of a command's galleys may take.
+use Rattle.std.specs.Prelude.{◌≡◌, ◌^◌, ℕ, List, [], nat_le, ⊤, Option, Some, None, Result, Ok, Err, IfSome}
+use Rattle.std.specs.Prelude.{if◌then◌else◌}
+use Rattle.std.specs.Option.{option_map_or}
+use Rattle.pg_list.specs.GalleyValue.{GalleyValue}
+use Rattle.pg_style.specs.Values.{StyleValue}
+use Rattle.pg_floats.specs.AreFloats.{unknown_class, float_total}
+use Rattle.pg_space.specs.declared.solving.Outcome.{Outcome}
+use Rattle.pg_edits.specs.declared.script.ScriptStep.{ScriptStep}
+use Rattle.pg_session.specs.SessionValue.{SessionValue}
+use Rattle.pg_session.specs.Sessions.{IsSolved}
+use Rattle.pg_session.specs.Shows.{AreCounted, Show, one_show, shows_from, unseen}
+use Rattle.pg_make.specs.Generated.{made_galley}
+use Rattle.pg_make.specs.Made.{made_style}
+use Rattle.pg_outside.specs.Outside.{Held}
+use Rattle.pg_command.specs.declared.status.Status.{Status}
+use Rattle.pg_command.specs.declared.status.Status.TheVariants.{Memory}
+use Rattle.pg_command.specs.Words.{Command, named, run, edit, show, make, check}
+use Rattle.pg_course.specs.Course.{Stop, opened, opened_script, opened_style}
+
+-- the shows of a galley that is taken; one that is refused is not shown
+abbrev pub taken_shows : StyleValue → GalleyValue → List Show → List Show
+taken_shows style galley shown = option_map_or (λ _. []) (unknown_class galley.blocks style)
+    (if nat_le (float_total galley.blocks style) (2 ^ 12) then shown else [])
+
+-- a run shows its galley once
+abbrev pub CountsRun : Result StyleValue Stop → Result GalleyValue Stop → ℕ → ℕ → Type 0
+CountsRun (Err stop) galley before after = after ≡ before
+CountsRun (Ok style) (Err stop) before after = after ≡ before
+CountsRun (Ok style) (Ok galley) before after =
+    AreCounted style (taken_shows style galley (one_show galley)) before after
+
+-- a galley that is taken is shown at each show of a script
+abbrev pub CountsScript : StyleValue → Show → Result (List ScriptStep) Stop → ℕ → ℕ → Type 0
+CountsScript style at (Err stop) before after = after ≡ before
+CountsScript style at (Ok steps) before after =
+    AreCounted style (taken_shows style at.galley (shows_from at style steps)) before after
+
+-- an edit shows the galley at each show of its script
+abbrev pub CountsEdit : Result StyleValue Stop → Result GalleyValue Stop → Result (List ScriptStep) Stop → ℕ → ℕ
+    → Type 0
+CountsEdit (Err stop) galley script before after = after ≡ before
+CountsEdit (Ok style) (Err stop) script before after = after ≡ before
+CountsEdit (Ok style) (Ok galley) script before after = CountsScript style (unseen galley) script before after
+
+-- the steps rise by at most the numbers of the command's shows, where the bytes are told; for `make` whatever is told,
+-- and for a command that solves no galley they do not rise
+abbrev pub IsCounted : Option Command → Option Held → ℕ → ℕ → Type 0
+IsCounted None told before after = after ≡ before
+IsCounted (Some (run style galley labels wrap)) told before after = IfSome told (λ held.
+    CountsRun (opened_style style held) (opened galley wrap (held galley)) before after)
+IsCounted (Some (edit style galley script labels wrap)) told before after = IfSome told (λ held.
+    CountsEdit (opened_style (named style) held) (opened galley wrap (held galley))
+    (opened_script script (held script)) before after)
+IsCounted (Some (show galley wrap)) told before after = after ≡ before
+IsCounted (Some (make count)) told before after = AreCounted made_style (one_show (made_galley count)) before after
+IsCounted (Some (check style galley output wrap)) told before after = after ≡ before
+
+-- unless memory ran out
+abbrev pub UnlessMemory : Status → Type 0 → Type 0
+UnlessMemory Memory P = ⊤
+UnlessMemory status P = P
+
+-- a session was solved for its galley as it stands
+pub record IsShown (old new : SessionValue) (before after : ℕ) : Type 0 where
+  pub outcome : Outcome
+  pub solved : IsSolved old outcome new before after

@@ -1,0 +1,174 @@
+//! The command `edit`.
+ghost use Rattle.std.specs.Prelude.{◌≡◌, ℕ, List, Option, Ok, Some, IfSome};
+ghost use Rattle.pg_command.specs.Lines.{status_of};
+ghost use Rattle.pg_command.specs.Words.{edit as edit_command, named};
+ghost use Rattle.pg_session.specs.Shows.{AreCounted, show_of, shows_from};
+ghost use Rattle.pg_course.specs.Course.{EditFront, EditScript, EditSteps, ScriptFront, opened, opened_script};
+ghost use Rattle.pg_course.specs.Course.{opened_style};
+ghost use Rattle.pg_course.specs.Calls.{AreRead, Goes, GoesThrough, WritesOn, edit_ending, over_shelf, over_sink};
+ghost use Rattle.pg_course.specs.Counted.{CountsEdit, CountsScript, IsCounted, UnlessMemory};
+ghost use Rattle.pg_command.specs.declared.status.Status.TheVariants.{Done};
+
+use crate::open::{open_galley, open_script, open_style};
+use crate::run::{float_ending, write_shown};
+use pg_command::{Ending, StyleWord};
+use pg_edits::{EditFault, ScriptStep};
+use pg_list::{Edit, Galley};
+use pg_outside::{Shelf, Sink};
+use pg_session::Session;
+use pg_steps::Steps;
+use pg_style::Style;
+use std::alloc::Global;
+use std::sync::ledger::Ledger;
+
+// How a run ends where the edit of a step is refused.
+fn refused<'a>(step: u64, fault: EditFault) -> Ending<'a>
+    ensures { result ≡ edit_ending step fault }
+{
+    match fault {
+        EditFault::Memory => Ending::Memory,
+        _ => Ending::BadEdit(step, fault),
+    }
+}
+
+// Makes the steps of a script in their order, and writes the text of each show in one piece.
+fn make_steps<'a, O: Sink, L: Ledger>(
+    alloc: Global,
+    session: &mut Session,
+    script: &[ScriptStep],
+    labels: bool,
+    out: &mut O,
+    steps: &mut Steps<L>,
+) -> Ending<'a>
+    ensures writes { WritesOn (EditSteps labels session.old.style session.old.galley 1 Done script.now)
+        (EditFront labels session.old.style session.old.galley script.now)
+        (over_sink (O.written out.old) (O.written out.new) (O.faults out.old) (O.faults out.new)) result }
+    ensures counted { UnlessMemory (status_of result) (AreCounted session.old.style
+        (shows_from (show_of session.old) session.old.style script.now) steps.old steps.new) }
+{
+    let mut end = Ending::Done;
+    let mut number = 0;
+    for step in script {
+        number += 1;
+        match step {
+            ScriptStep::Change(edit) => {
+                if let Err(fault) = session.edit(edit) {
+                    return refused(number, fault);
+                }
+            }
+            ScriptStep::Show => match write_shown(alloc, session, labels, out, steps) {
+                Ending::Done => {}
+                Ending::NoLegal => end = Ending::NoLegal,
+                ending => return ending,
+            },
+        }
+    }
+    end
+}
+
+// Reads the script of this name, and makes its steps over a session.
+fn edit_file<'a, H: Shelf, O: Sink, L: Ledger>(
+    alloc: Global,
+    session: &mut Session,
+    name: &'a str,
+    labels: bool,
+    shelf: &mut H,
+    out: &mut O,
+    steps: &mut Steps<L>,
+) -> Ending<'a>
+    ensures goes { GoesThrough
+        (λ held. EditScript labels session.old.style session.old.galley (opened_script name.now (held name.now)))
+        (λ held. ScriptFront labels session.old.style session.old.galley (opened_script name.now (held name.now)))
+        name.now
+        (over_shelf (H.held shelf.old) (H.faults shelf.old) (H.faults shelf.new) (H.last_failed shelf.new))
+        (over_sink (O.written out.old) (O.written out.new) (O.faults out.old) (O.faults out.new)) result }
+    ensures counted { UnlessMemory (status_of result) (IfSome (H.held shelf.old) (λ held.
+        CountsScript session.old.style (show_of session.old) (opened_script name.now (held name.now))
+        steps.old steps.new)) }
+{
+    match open_script(alloc, name, shelf) {
+        Err(ending) => ending,
+        Ok(script) => make_steps(alloc, session, script.as_slice(), labels, out, steps),
+    }
+}
+
+// Edits a galley under a style, if the style has the classes of its inserts and its floats are not too many.
+fn edit_galley<'a, H: Shelf, O: Sink, L: Ledger>(
+    alloc: Global,
+    galley: Galley,
+    style: Style,
+    name: &'a str,
+    labels: bool,
+    shelf: &mut H,
+    out: &mut O,
+    steps: &mut Steps<L>,
+) -> Ending<'a>
+    ensures goes { (style_file galley_file : List ℕ) (wrap : Option ℕ) →
+        IfSome (H.held shelf.old) (AreRead style_file galley_file wrap style galley) →
+        Goes (Some (edit_command style_file galley_file name.now labels wrap))
+        (over_shelf (H.held shelf.old) (H.faults shelf.old) (H.faults shelf.new) (H.last_failed shelf.new))
+        (over_sink (O.written out.old) (O.written out.new) (O.faults out.old) (O.faults out.new)) result }
+    ensures counted { UnlessMemory (status_of result) (IfSome (H.held shelf.old) (λ held.
+        CountsEdit (Ok style) (Ok galley) (opened_script name.now (held name.now)) steps.old steps.new)) }
+{
+    match Session::new(alloc, galley, style) {
+        Err(fault) => float_ending(fault),
+        Ok(mut session) => edit_file(alloc, &mut session, name, labels, shelf, out, steps),
+    }
+}
+
+// Reads the galley of this name behind a style, and edits it by the script of the other name.
+fn edit_styled<'a, H: Shelf, O: Sink, L: Ledger>(
+    alloc: Global,
+    style: Style,
+    galley: &'a str,
+    script: &'a str,
+    labels: bool,
+    wrap: Option<u32>,
+    shelf: &mut H,
+    out: &mut O,
+    steps: &mut Steps<L>,
+) -> Ending<'a>
+    ensures goes { (style_file : List ℕ) →
+        IfSome (H.held shelf.old) (λ held. opened_style (named style_file) held ≡ Ok style) →
+        Goes (Some (edit_command style_file galley.now script.now labels wrap))
+        (over_shelf (H.held shelf.old) (H.faults shelf.old) (H.faults shelf.new) (H.last_failed shelf.new))
+        (over_sink (O.written out.old) (O.written out.new) (O.faults out.old) (O.faults out.new)) result }
+    ensures counted { UnlessMemory (status_of result) (IfSome (H.held shelf.old) (λ held.
+        CountsEdit (Ok style) (opened galley.now wrap (held galley.now)) (opened_script script.now (held script.now))
+        steps.old steps.new)) }
+{
+    match open_galley(alloc, galley, wrap, shelf) {
+        Err(ending) => ending,
+        Ok(galley) => edit_galley(alloc, galley, style, script, labels, shelf, out, steps),
+    }
+}
+
+/// Edits the galley of a file by the script of a file, under the style of a file, and writes for each show of the script
+/// what a run writes for the galley as it stands, in one piece, where `labels` is true with the labels of the search.
+/// The files are read in the order style, galley, script. A change that is refused ends it.
+///
+/// What was solved for one show serves the next: only what the edits between can reach is solved again.
+pub fn edit_course<'a, H: Shelf, O: Sink, L: Ledger>(
+    alloc: Global,
+    style: &'a str,
+    galley: &'a str,
+    script: &'a str,
+    labels: bool,
+    wrap: Option<u32>,
+    shelf: &mut H,
+    out: &mut O,
+    steps: &mut Steps<L>,
+) -> Ending<'a>
+    ensures goes { Goes (Some (edit_command style.now galley.now script.now labels wrap))
+        (over_shelf (H.held shelf.old) (H.faults shelf.old) (H.faults shelf.new) (H.last_failed shelf.new))
+        (over_sink (O.written out.old) (O.written out.new) (O.faults out.old) (O.faults out.new)) result }
+    ensures counted { UnlessMemory (status_of result)
+        (IsCounted (Some (edit_command style.now galley.now script.now labels wrap)) (H.held shelf.old)
+        steps.old steps.new) }
+{
+    match open_style(alloc, StyleWord::Named(style), shelf) {
+        Err(ending) => ending,
+        Ok(style) => edit_styled(alloc, style, galley, script, labels, wrap, shelf, out, steps),
+    }
+}

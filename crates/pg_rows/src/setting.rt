@@ -1,0 +1,117 @@
+//! What the lines of a table say of files and of what fails.
+use crate::world::World;
+use pg_bench_files::{changed_by, fetch_file, lines_of};
+use pg_outside::Shelf;
+use std::alloc::{AllocError, Global};
+
+/// The most bytes of a file of line feeds.
+const MOST_BYTES: usize = 268435456;
+
+// A file in short letters: `g RBGB`.
+fn put_lines(alloc: Global, row: &str, world: &mut World) -> Result<bool, AllocError> {
+    let Some((name, short)) = row.split_once(' ') else {
+        return Ok(false);
+    };
+    let text = lines_of(alloc, short)?;
+    world.put(alloc, name, text)?;
+    Ok(true)
+}
+
+// A file of so many line feeds: `g 10`.
+fn put_bytes(alloc: Global, row: &str, world: &mut World) -> Result<bool, AllocError> {
+    let Some((name, count)) = row.split_once(' ') else {
+        return Ok(false);
+    };
+    let Ok(count) = count.parse::<usize>() else {
+        return Ok(false);
+    };
+    if count > MOST_BYTES {
+        return Ok(false);
+    }
+    let text = vec![in alloc; b'\n'; count]?;
+    world.put(alloc, name, text)?;
+    Ok(true)
+}
+
+// A text with the changes of a line, if there are any.
+fn text_by(alloc: Global, text: &str, changes: &str) -> Result<Option<String>, AllocError> {
+    if changes.is_empty() {
+        return Ok(Some(String::from_str(alloc, text)?));
+    }
+    changed_by(alloc, text, changes)
+}
+
+// A file with the text of another and with changes: `s plain.toml columns = 1>columns = 2`.
+fn put_file<H: Shelf>(
+    alloc: Global,
+    row: &str,
+    shelf: &mut H,
+    world: &mut World,
+) -> Result<bool, AllocError> {
+    let Some((name, rest)) = row.split_once(' ') else {
+        return Ok(false);
+    };
+    let (from, changes) = rest.split_once(' ').unwrap_or((rest, ""));
+    let Ok(bytes) = fetch_file(alloc, from, shelf) else {
+        return Ok(false);
+    };
+    let Ok(text) = str::from_utf8(&bytes) else {
+        return Ok(false);
+    };
+    let Some(text) = text_by(alloc, text, changes)? else {
+        return Ok(false);
+    };
+    world.put(alloc, name, text.into_bytes())?;
+    Ok(true)
+}
+
+// The fetch of this number fails: `1 fails`.
+fn fail_fetch(row: &str, world: &mut World) -> Result<bool, AllocError> {
+    let Some((number, "")) = row.split_once(" fails") else {
+        return Ok(false);
+    };
+    let Ok(number) = number.parse::<u64>() else {
+        return Ok(false);
+    };
+    world.fetches.push(number)?;
+    Ok(true)
+}
+
+// The number of a write, and how many bytes it takes: `1 fails after 7`.
+fn failing(row: &str) -> Option<(u64, u64)> {
+    let (number, taken) = row.split_once(" fails after ")?;
+    let number = number.parse::<u64>().ok()?;
+    let taken = taken.parse::<u64>().ok()?;
+    Some((number, taken))
+}
+
+fn fail_write(row: &str, fails: &mut Vec<(u64, u64)>) -> Result<bool, AllocError> {
+    let Some(write) = failing(row) else {
+        return Ok(false);
+    };
+    fails.push(write)?;
+    Ok(true)
+}
+
+/// Does what a line of a table says of files and of what fails, and answers whether it is such a line.
+pub fn set_world<H: Shelf>(
+    alloc: Global,
+    line: &str,
+    shelf: &mut H,
+    world: &mut World,
+) -> Result<bool, AllocError> {
+    let (word, row) = line.split_once(' ').unwrap_or((line, ""));
+    match word {
+        "=" => {
+            *world = World::new(alloc);
+            Ok(true)
+        }
+        "lines" => put_lines(alloc, row, world),
+        "file" => put_file(alloc, row, shelf, world),
+        "bytes" => put_bytes(alloc, row, world),
+        "fetch" => fail_fetch(row, world),
+        "write" => fail_write(row, &mut world.writes),
+        "say" => fail_write(row, &mut world.says),
+        _ => Ok(word.is_empty() || word == "#"),
+    }
+}

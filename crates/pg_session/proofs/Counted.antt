@@ -1,0 +1,58 @@
+-- The steps of a script, show by show.
+use Rattle.std.proofs.Common.{◌≡◌, refl, sym, ap, subst, ◌∙◌, ℕ, ◌+◌, List, [], ◌∷◌, ◌++◌, length, take, Option, Some, None, arith}
+use Rattle.pg_style.specs.Values.{StyleValue}
+use Rattle.pg_space.specs.declared.solving.Outcome.{Outcome}
+use Rattle.pg_session.specs.SessionValue.{SessionValue}
+use Rattle.pg_session.specs.Sessions.{IsSolved, labels_reaching}
+use Rattle.pg_session.specs.Shows.{AreAllCounted, AreCounted, Counts, Show, SumsTo, show_of}
+
+sums_more : (style : StyleValue) (shown : List Show) (show : Show) (k n : ℕ) → SumsTo style shown k →
+    Counts style show n → SumsTo style (shown ++ show ∷ []) (k + n)
+sums_more style [] show k n z c = (n, 0, (c, refl, let e : k ≡ 0 = z in omega (arith, e)))
+sums_more style (x ∷ shown) show k n (i, j, (own, rest, sum)) c =
+    (i, j + n, (own, sums_more style shown show j n rest c, omega (arith, sum)))
+
+-- ---- how many steps
+
+-- no step
+pub none_counted : (style : StyleValue) (before : ℕ) → AreAllCounted style [] before before
+none_counted style before = record { total = 0; sums = refl; bounded = omega arith }
+
+-- a solution adds the number of its show
+pub show_counted : (style : StyleValue) (shown : List Show) (old new : SessionValue) (outcome : Outcome)
+    (before middle after : ℕ) → old.style ≡ style → AreAllCounted style shown before middle →
+    IsSolved old outcome new middle after → AreAllCounted style (shown ++ show_of old ∷ []) before after
+show_counted style shown old new outcome before middle after e all solved =
+    subst (λ (x : StyleValue). AreAllCounted x (shown ++ show_of old ∷ []) before after) e (more
+    (subst (λ (x : StyleValue). AreAllCounted x shown before middle) (sym e) all))
+  where
+    more : AreAllCounted old.style shown before middle →
+        AreAllCounted old.style (shown ++ show_of old ∷ []) before after
+    more a = record {
+      total = a.total + labels_reaching old.touched old.galley old.style new.labels;
+      sums = sums_more old.style shown (show_of old) _ _ a.sums
+          (record { labels = new.labels; frontier = solved.frontier; number_is = refl });
+      bounded = let b = a.bounded in let d = solved.bounded in omega (arith, b, d);
+    }
+
+-- what is counted for the first shows is counted for all of them
+pub firsts_counted : (style : StyleValue) (shown rest : List Show) (before after : ℕ) →
+    AreAllCounted style shown before after → AreCounted style (shown ++ rest) before after
+firsts_counted style shown rest before after all = record {
+  count = length shown;
+  firsts = subst (λ (xs : List Show). AreAllCounted style xs before after) (sym (first shown)) all;
+}
+  where
+    first : (xs : List Show) → take (length xs) (xs ++ rest) ≡ xs
+    first [] = refl
+    first (x ∷ xs) = ap (λ (ys : List Show). x ∷ ys) (first xs)
+
+pub all_counted : (style : StyleValue) (shown : List Show) (before after : ℕ) →
+    AreAllCounted style shown before after → AreCounted style shown before after
+all_counted style shown before after all =
+    subst (λ (xs : List Show). AreCounted style xs before after) (same shown)
+    (firsts_counted style shown [] before after all)
+  where
+    same : (xs : List Show) → xs ++ [] ≡ xs
+    same [] = refl
+    same (x ∷ xs) = ap (λ (ys : List Show). x ∷ ys) (same xs)

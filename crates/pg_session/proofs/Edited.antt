@@ -1,0 +1,64 @@
+-- What a session is behind an edit.
+use Rattle.std.proofs.Common.{◌≡◌, sym, ap, subst, ◌∙◌, ℕ, inl, inr, List, [], false, arith}
+use Rattle.std.specs.Prelude.{min}
+use Rattle.pg_floats.specs.AreFloats.{AreFloats}
+use Rattle.pg_floats.specs.FloatsValue.{ClassFloatsValue}
+use Rattle.pg_list.specs.GalleyValue.{GalleyValue}
+use Rattle.pg_list.specs.declared.galley.Edit.{Edit}
+use Rattle.pg_style.specs.Values.{StyleValue}
+use Rattle.pg_rules.specs.Legal.{document}
+use Rattle.pg_rules.specs.Ranges.{AreInRange}
+use Rattle.pg_rules.specs.Reach.{touched}
+use Rattle.pg_space_laws.specs.PageSpace.{page_meaning}
+use Rattle.pg_table.specs.Below.{IsRightBelow}
+use Rattle.pg_session.specs.Edits.{edited}
+use Rattle.pg_session.specs.Kept.{IsRight, IsSession, StaysRight}
+use Rattle.pg_session.specs.SessionValue.{SessionValue}
+use Rattle.pg_session.specs.Sessions.{IsEdited}
+use Rattle.pg_session.specs.declared.kept.Kept.{Kept}
+
+-- what is kept behind an edit that touches a block
+abbrev pub touched_at : Kept → ℕ → Kept
+touched_at kept block = record kept { labels = []; touched = min kept.touched block; solved = false }
+
+-- what contracts see of these fields
+abbrev pub seen : GalleyValue → StyleValue → List ClassFloatsValue → Kept → SessionValue
+seen galley style floats kept = record {
+  galley = galley;
+  style = style;
+  floats = floats;
+  is_solved = kept.solved;
+  labels = kept.labels;
+  touched = kept.touched;
+}
+
+module _ (g n : GalleyValue) (s : StyleValue) (old floats : List ClassFloatsValue) (edit : Edit) (kept left : Kept)
+    (block : ℕ) (is : n ≡ edited g edit) (own : block ≡ touched g.blocks edit) (left_is : left ≡ touched_at kept block)
+    (listed : AreFloats n.blocks s floats) where
+  left_own : left ≡ touched_at kept (touched g.blocks edit)
+  left_own = left_is ∙ ap (touched_at kept) own
+
+  right_left : IsRight g s kept → StaysRight g s edit → IsRight n s left
+  right_left right stays = subst (λ (x : GalleyValue). IsRight x s left) (sym is)
+      (subst (IsRight (edited g edit) s) (sym left_own) (by right))
+    where
+      by : IsRight g s kept → IsRight (edited g edit) s (touched_at kept (touched g.blocks edit))
+      by (inl none) = inl (omega (arith, none))
+      by (inr low) = inr (stays kept.touched kept.table low)
+
+  -- its fields keep what they have to
+  pub session_edited : IsSession g s old kept → AreInRange n s → StaysRight g s edit → IsSession n s floats left
+  session_edited was range stays = record {
+    range = range;
+    floats_are = listed;
+    right = right_left was.right stays;
+    known = λ e. absurd (let f = ap (λ (k : Kept). k.solved) left_is in cc);
+  }
+
+  -- and it is what the edit makes of it
+  pub is_edited : IsEdited (seen g s old kept) edit (seen n s floats left)
+  is_edited = record {
+    floats = subst (λ (x : GalleyValue). AreFloats x.blocks s floats) is listed;
+    is = ap (seen n s floats) left_own
+        ∙ ap (λ (x : GalleyValue). seen x s floats (touched_at kept (touched g.blocks edit))) is;
+  }

@@ -1,0 +1,7 @@
+mod Faults
+mod Right
+mod Reaching
+mod Above
+mod Edited
+pub mod Counted
+mod Worked

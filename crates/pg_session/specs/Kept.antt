@@ -1,0 +1,47 @@
+-- What a session keeps beside what contracts see of it.
+use Rattle.std.specs.Prelude.{◌≡◌, ℕ, ◌⊎◌, min, true, List}
+use Rattle.pg_floats.specs.AreFloats.{AreFloats}
+use Rattle.pg_floats.specs.FloatsValue.{ClassFloatsValue}
+use Rattle.pg_list.specs.GalleyValue.{GalleyValue}
+use Rattle.pg_list.specs.declared.galley.Edit.{Edit}
+use Rattle.pg_plan.specs.declared.pages.PageMove.{PageMove}
+use Rattle.pg_plan.specs.declared.states.State.{State}
+use Rattle.pg_style.specs.Values.{StyleValue}
+use Rattle.pg_rules.specs.Frontier.{Frontier}
+use Rattle.pg_rules.specs.Legal.{document}
+use Rattle.pg_rules.specs.Ranges.{AreInRange}
+use Rattle.pg_rules.specs.Reach.{touched}
+use Rattle.pg_space_laws.specs.PageSpace.{page_meaning}
+use Rattle.pg_table.specs.Below.{IsRightBelow}
+use Rattle.pg_table.specs.Label.{IsTable}
+use Rattle.pg_table.specs.declared.table.Entry.{Entry}
+use Rattle.pg_session.specs.Edits.{edited}
+use Rattle.pg_session.specs.Sessions.{above_all}
+use Rattle.pg_session.specs.declared.kept.Kept.{Kept}
+
+-- the table is that of the galley as it stands, its labels in order are the frontier, and nothing is touched
+pub record IsKnown (galley : GalleyValue) (style : StyleValue) (kept : Kept) : Type 0 where
+  pub filled : IsTable (page_meaning (document galley style)) kept.table
+  pub frontier : Frontier galley style kept.labels
+  pub solved : kept.solved ≡ true
+  pub untouched : kept.touched ≡ above_all
+
+-- the table is right below the touched block for the galley as it stands; below 0 nothing has to be right
+abbrev pub IsRight : GalleyValue → StyleValue → Kept → Type 0
+IsRight galley style kept = (kept.touched ≡ 0)
+    ⊎ IsRightBelow (page_meaning (document galley style)) kept.touched kept.table
+
+-- what is right below a block for a galley is right for the edited one below what the edit touches, too
+abbrev pub StaysRight : GalleyValue → StyleValue → Edit → Type 0
+StaysRight galley style edit = (block : ℕ) (table : List (Entry State PageMove)) →
+    IsRightBelow (page_meaning (document galley style)) block table →
+    IsRightBelow (page_meaning (document (edited galley edit) style)) (min block (touched galley.blocks edit)) table
+
+-- the floats are the galley's, the table is right below the touched block, and where the session is solved all of it is
+-- known
+pub record IsSession (galley : GalleyValue) (style : StyleValue) (floats : List ClassFloatsValue)
+    (kept : Kept) : Type 0 where
+  pub range : AreInRange galley style
+  pub floats_are : AreFloats galley.blocks style floats
+  pub right : IsRight galley style kept
+  pub known : kept.solved ≡ true → IsKnown galley style kept

@@ -1,0 +1,5 @@
+pub mod SessionValue
+pub mod Edits
+pub mod Sessions
+pub mod Kept
+pub mod Shows
