@@ -124,7 +124,7 @@ pub all_told : {Q : Held → Type 0} → (told : Option Held) → ((held : Held)
 all_told None f = tt
 all_told (Some held) f = f held
 
-on_memory : {P : Type 0} → (status : Status) → P → OnMemory status P
+pub on_memory : {P : Type 0} → (status : Status) → P → OnMemory status P
 on_memory Memory p = p
 on_memory ReadFault p = tt
 on_memory WriteFault p = tt
@@ -134,7 +134,7 @@ on_memory Usage p = tt
 on_memory Refused p = tt
 on_memory NotProved p = tt
 
-settled_of : {P : Type 0} → (status : Status) → P → OnSettled status P
+pub settled_of : {P : Type 0} → (status : Status) → P → OnSettled status P
 settled_of ReadFault p = tt
 settled_of WriteFault p = tt
 settled_of Memory p = tt
@@ -144,7 +144,7 @@ settled_of Usage p = p
 settled_of Refused p = p
 settled_of NotProved p = p
 
-no_front : (P : Type 0) (fault : FloatFault) → OnWriteFault (status_of (ending_of fault)) P
+pub no_front : (P : Type 0) (fault : FloatFault) → OnWriteFault (status_of (ending_of fault)) P
 no_front P (float_fault.Class number) = tt
 no_front P (float_fault.Limit count) = tt
 no_front P float_fault.Memory = tt
@@ -158,7 +158,7 @@ failed_file command name before after (Some failed) line is (rose, same, says) =
     (rose, subst (IsFileOf command) (sym same) is, says)
 
 -- a file of a command was not read, and its course then ends so
-read_line : (command : Option Command) (name : List ℕ) (shelf : OverShelf) (line : List ℕ) → IsFileOf command name →
+pub read_line : (command : Option Command) (name : List ℕ) (shelf : OverShelf) (line : List ℕ) → IsFileOf command name →
     IfSome shelf.told (λ held. fetched name (held name) ≡ Err (stop ReadFault line) →
     Course command held [] ReadFault line) → NoFile name shelf line →
     ReadLine command shelf.told shelf.before shelf.after shelf.last line

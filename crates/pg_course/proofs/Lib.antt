@@ -4,3 +4,6 @@ pub mod WorkedLines
 pub mod Checks
 pub mod Edited
 pub mod Complete
+pub mod Counts
+pub mod Scripts
+pub mod Stepping

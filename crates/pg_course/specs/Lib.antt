@@ -4,4 +4,5 @@ pub mod Verdict
 pub mod Course
 pub mod Calls
 pub mod Counted
+pub mod Steps
 pub mod Complete

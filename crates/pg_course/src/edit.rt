@@ -1,16 +1,20 @@
 //! The command `edit`.
-ghost use Rattle.std.specs.Prelude.{◌≡◌, ℕ, List, Option, Ok, Some, IfSome};
+ghost use Rattle.std.specs.Prelude.{◌≡◌, ◌≤◌, ◌^◌, ℕ, List, Option, None, Ok, Some, IfErr, IfOk, IfSome};
 ghost use Rattle.pg_command.specs.Lines.{status_of};
 ghost use Rattle.pg_command.specs.Words.{edit as edit_command, named};
+ghost use Rattle.pg_edits.specs.declared.script.ScriptStep.TheVariants.{Show as AShow};
+ghost use Rattle.pg_floats.specs.AreFloats.{float_total, unknown_class};
 ghost use Rattle.pg_session.specs.Shows.{AreCounted, show_of, shows_from};
 ghost use Rattle.pg_course.specs.Course.{EditFront, EditScript, EditSteps, ScriptFront, opened, opened_script};
 ghost use Rattle.pg_course.specs.Course.{opened_style};
 ghost use Rattle.pg_course.specs.Calls.{AreRead, Goes, GoesThrough, WritesOn, edit_ending, over_shelf, over_sink};
+ghost use Rattle.pg_course.specs.Steps.{AreMade, IsNoStep, IsStep};
 ghost use Rattle.pg_course.specs.Counted.{CountsEdit, CountsScript, IsCounted, UnlessMemory};
 ghost use Rattle.pg_command.specs.declared.status.Status.TheVariants.{Done};
 
 use crate::open::{open_galley, open_script, open_style};
-use crate::run::{float_ending, write_shown};
+use crate::paginate::page_text_of;
+use crate::run::float_ending;
 use pg_command::{Ending, StyleWord};
 use pg_edits::{EditFault, ScriptStep};
 use pg_list::{Edit, Galley};
@@ -31,6 +35,81 @@ fn refused<'a>(step: u64, fault: EditFault) -> Ending<'a>
     }
 }
 
+// Writes the text for the galley of a session as it stands in one piece, and answers whether it has a legal pagination.
+fn show<'a, O: Sink, L: Ledger>(
+    alloc: Global,
+    session: &mut Session,
+    labels: bool,
+    out: &mut O,
+    steps: &mut Steps<L>,
+) -> Result<bool, Ending<'a>>
+    ensures made { IfOk result (λ legal. IsStep labels AShow session.old session.new legal
+        (O.written out.old) (O.written out.new) steps.old steps.new) }
+    ensures not_made { (number : ℕ) → IfErr result (IsNoStep labels AShow number session.old session.new
+        (over_sink (O.written out.old) (O.written out.new) (O.faults out.old) (O.faults out.new)) steps.old steps.new) }
+    ensures later { O.faults out.old ≤ O.faults out.new }
+{
+    match page_text_of(alloc, session, labels, steps) {
+        Err(_) => Err(Ending::Memory),
+        Ok(text) => match out.write(text.as_slice()) {
+            Err(_) => Err(Ending::WriteFault),
+            Ok(()) => Ok(text.is_legal()),
+        },
+    }
+}
+
+// Makes a step of a script, and answers whether a galley that is shown has a legal pagination.
+fn make_step<'a, O: Sink, L: Ledger>(
+    alloc: Global,
+    session: &mut Session,
+    step: &ScriptStep,
+    number: u64,
+    labels: bool,
+    out: &mut O,
+    steps: &mut Steps<L>,
+) -> Result<bool, Ending<'a>>
+    ensures made { IfOk result (λ legal. IsStep labels step.now session.old session.new legal
+        (O.written out.old) (O.written out.new) steps.old steps.new) }
+    ensures not_made { IfErr result (IsNoStep labels step.now number session.old session.new
+        (over_sink (O.written out.old) (O.written out.new) (O.faults out.old) (O.faults out.new)) steps.old steps.new) }
+    ensures later { O.faults out.old ≤ O.faults out.new }
+{
+    match step {
+        ScriptStep::Change(edit) => match session.edit(edit) {
+            Err(fault) => Err(refused(number, fault)),
+            Ok(()) => Ok(true),
+        },
+        ScriptStep::Show => show(alloc, session, labels, out, steps),
+    }
+}
+
+// Makes the steps of a script in their order, and answers whether all galleys that are shown have a legal pagination.
+fn make_each<'a, O: Sink, L: Ledger>(
+    alloc: Global,
+    session: &mut Session,
+    script: &[ScriptStep],
+    labels: bool,
+    out: &mut O,
+    steps: &mut Steps<L>,
+) -> Result<bool, Ending<'a>>
+    ensures made { IfOk result (λ legal. AreMade labels session.old script.now session.new legal
+        (O.written out.old) (O.written out.new) steps.old steps.new) }
+    ensures ends { IfErr result (λ ending.
+        WritesOn (EditSteps labels session.old.style session.old.galley 1 Done script.now)
+        (EditFront labels session.old.style session.old.galley script.now)
+        (over_sink (O.written out.old) (O.written out.new) (O.faults out.old) (O.faults out.new)) ending) }
+    ensures counted { IfErr result (λ ending. UnlessMemory (status_of ending) (AreCounted session.old.style
+        (shows_from (show_of session.old) session.old.style script.now) steps.old steps.new)) }
+{
+    let mut legal = true;
+    let mut number = 0;
+    for step in script {
+        number += 1;
+        legal &= make_step(alloc, session, step, number, labels, out, steps)?;
+    }
+    Ok(legal)
+}
+
 // Makes the steps of a script in their order, and writes the text of each show in one piece.
 fn make_steps<'a, O: Sink, L: Ledger>(
     alloc: Global,
@@ -46,24 +125,11 @@ fn make_steps<'a, O: Sink, L: Ledger>(
     ensures counted { UnlessMemory (status_of result) (AreCounted session.old.style
         (shows_from (show_of session.old) session.old.style script.now) steps.old steps.new) }
 {
-    let mut end = Ending::Done;
-    let mut number = 0;
-    for step in script {
-        number += 1;
-        match step {
-            ScriptStep::Change(edit) => {
-                if let Err(fault) = session.edit(edit) {
-                    return refused(number, fault);
-                }
-            }
-            ScriptStep::Show => match write_shown(alloc, session, labels, out, steps) {
-                Ending::Done => {}
-                Ending::NoLegal => end = Ending::NoLegal,
-                ending => return ending,
-            },
-        }
+    match make_each(alloc, session, script, labels, out, steps) {
+        Err(ending) => ending,
+        Ok(true) => Ending::Done,
+        Ok(false) => Ending::NoLegal,
     }
-    end
 }
 
 // Reads the script of this name, and makes its steps over a session.
@@ -76,6 +142,8 @@ fn edit_file<'a, H: Shelf, O: Sink, L: Ledger>(
     out: &mut O,
     steps: &mut Steps<L>,
 ) -> Ending<'a>
+    requires known { unknown_class session.old.galley.blocks session.old.style ≡ None }
+    requires few { float_total session.old.galley.blocks session.old.style ≤ 2 ^ 12 }
     ensures goes { GoesThrough
         (λ held. EditScript labels session.old.style session.old.galley (opened_script name.now (held name.now)))
         (λ held. ScriptFront labels session.old.style session.old.galley (opened_script name.now (held name.now)))

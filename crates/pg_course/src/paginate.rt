@@ -5,6 +5,7 @@ ghost use Rattle.pg_space.specs.Solves.{Solves};
 ghost use Rattle.pg_text_laws.specs.Texts.{LegalHaveEachOnce};
 ghost use Rattle.pg_labels.specs.LabelText.{label_text};
 ghost use Rattle.pg_course.specs.Counted.{IsShown};
+ghost use Rattle.pg_course.specs.Steps.{shown_end};
 ghost use Rattle.pg_course.specs.Out.{Out, RunOut, bytes_of, end_of, tells_fitness};
 
 use pg_floats::FloatList;
@@ -25,6 +26,27 @@ use std::sync::ledger::Ledger;
 pub enum PageText {
     Best(Vec<u8>),
     NoLegal(Vec<u8>),
+}
+
+impl PageText {
+    /// Its bytes.
+    pub fn as_slice(&self) -> &[u8]
+        ensures { result.now ≡ bytes_of self.now }
+    {
+        match self {
+            PageText::Best(bytes) | PageText::NoLegal(bytes) => bytes.as_slice(),
+        }
+    }
+
+    /// Whether it is the text of a pagination.
+    pub fn is_legal(&self) -> bool
+        ensures { end_of self.now ≡ shown_end result }
+    {
+        match self {
+            PageText::Best(_) => true,
+            PageText::NoLegal(_) => false,
+        }
+    }
 }
 
 // Each box, note and float stands once in a legal pagination.

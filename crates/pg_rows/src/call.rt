@@ -65,8 +65,42 @@ fn tell_text(alloc: Global, mark: u8, text: &[u8], told: &mut Vec<u8>) -> Result
     Ok(())
 }
 
-/// What comes of a call with these words: its status, and the lines that were written and said.
-pub fn told_of(alloc: Global, line: &str, world: &World) -> Result<Vec<u8>, AllocError> {
+// How often a text is repeated to make another one; None where that has anything else.
+fn times_in(one: &[u8], all: &[u8]) -> Option<usize> {
+    if one.is_empty() {
+        return None;
+    }
+    let times = all.len() / one.len();
+    let mut rest = all;
+    for _ in 0..times {
+        rest = rest.strip_prefix(one)?;
+    }
+    if rest.is_empty() && times > 1 {
+        Some(times)
+    } else {
+        None
+    }
+}
+
+// Adds the lines of what a call wrote, or how often it is what the call before wrote.
+fn tell_written(
+    alloc: Global,
+    text: &[u8],
+    before: &[u8],
+    told: &mut Vec<u8>,
+) -> Result<(), AllocError> {
+    match times_in(before, text) {
+        None => tell_text(alloc, b'|', text, told),
+        Some(times) => {
+            let line = format!(in alloc; "{times} times what the call before wrote\n")?;
+            tell_marked(b'|', line.as_bytes(), told)
+        }
+    }
+}
+
+/// What comes of a call with these words: its status, and the lines that were written and said. The world keeps what was
+/// written.
+pub fn told_of(alloc: Global, line: &str, world: &mut World) -> Result<Vec<u8>, AllocError> {
     let words = words_of(alloc, line)?;
     let mut shelf = world.shelf(alloc)?;
     let mut out = world.out(alloc)?;
@@ -75,7 +109,8 @@ pub fn told_of(alloc: Global, line: &str, world: &World) -> Result<Vec<u8>, Allo
     let number = status.number();
     let head = format!(in alloc; "status {number} {status:?}\n")?;
     let mut told = head.into_bytes();
-    tell_text(alloc, b'|', out.bytes(), &mut told)?;
+    tell_written(alloc, out.bytes(), &world.written, &mut told)?;
     tell_text(alloc, b'!', say.bytes(), &mut told)?;
+    world.written = out.bytes().to_vec(alloc)?;
     Ok(told)
 }

@@ -2,12 +2,15 @@
 //!
 //! It writes each table again, line by line, and behind a call what came of it: its status, `|` and each line that was
 //! written, `!` and each line that was said. Calls that stand together and leave the same are answered once, behind the
-//! last of them. A `\` at the end of a line says that no line feed came behind it. The lines of a table are these:
+//! last of them. A `\` at the end of a line says that no line feed came behind it; a text that is the one of the call
+//! before several times over is told as such. The lines of a table are these:
 //!
 //! | Line | What it does |
 //! |---|---|
 //! | `= ..` | begins a case: there are no files, and nothing fails |
 //! | `lines NAME SHORT` | a file, its text in the letters of `lines_of` of pg_bench_files |
+//! | `many NAME COUNT SHORT\|AGAIN` | the same, with so many times what stands behind the bar |
+//! | `room COUNT` | the bytes that may be written; 2^22 if no line says it |
 //! | `file NAME FROM CHANGES` | a file with the text of a file of the system, with the changes of `changed_by`, if any |
 //! | `bytes NAME COUNT` | a file of so many line feeds |
 //! | `fetch N fails` | in each call the Nth file that is asked for cannot be read |

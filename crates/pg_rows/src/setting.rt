@@ -4,8 +4,11 @@ use pg_bench_files::{changed_by, fetch_file, lines_of};
 use pg_outside::Shelf;
 use std::alloc::{AllocError, Global};
 
-/// The most bytes of a file of line feeds.
+/// The most bytes of a file of line feeds, and the most room.
 const MOST_BYTES: usize = 268435456;
+
+/// The most times that lines are repeated.
+const MOST_TIMES: u32 = 65536;
 
 // A file in short letters: `g RBGB`.
 fn put_lines(alloc: Global, row: &str, world: &mut World) -> Result<bool, AllocError> {
@@ -15,6 +18,43 @@ fn put_lines(alloc: Global, row: &str, world: &mut World) -> Result<bool, AllocE
     let text = lines_of(alloc, short)?;
     world.put(alloc, name, text)?;
     Ok(true)
+}
+
+// A file in short letters, of which those behind a bar come so many times: `g 9 RB|GB`.
+fn put_many(alloc: Global, row: &str, world: &mut World) -> Result<bool, AllocError> {
+    let Some((name, rest)) = row.split_once(' ') else {
+        return Ok(false);
+    };
+    let Some((count, short)) = rest.split_once(' ') else {
+        return Ok(false);
+    };
+    let Some((first, again)) = short.split_once('|') else {
+        return Ok(false);
+    };
+    let Ok(count) = count.parse::<u32>() else {
+        return Ok(false);
+    };
+    if count > MOST_TIMES {
+        return Ok(false);
+    }
+    let mut text = lines_of(alloc, first)?;
+    let again = lines_of(alloc, again)?;
+    for _ in 0..count {
+        text.extend_from_slice(&again)?;
+    }
+    world.put(alloc, name, text)?;
+    Ok(true)
+}
+
+// The room for what is written: `1000`.
+fn set_room(row: &str, world: &mut World) -> bool {
+    match row.parse::<usize>() {
+        Ok(room) if room <= MOST_BYTES => {
+            world.room = room;
+            true
+        }
+        _ => false,
+    }
 }
 
 // A file of so many line feeds: `g 10`.
@@ -107,6 +147,8 @@ pub fn set_world<H: Shelf>(
             Ok(true)
         }
         "lines" => put_lines(alloc, row, world),
+        "many" => put_many(alloc, row, world),
+        "room" => Ok(set_room(row, world)),
         "file" => put_file(alloc, row, shelf, world),
         "bytes" => put_bytes(alloc, row, world),
         "fetch" => fail_fetch(row, world),

@@ -33,7 +33,7 @@ fn tell_call(
     alloc: Global,
     line: &str,
     words: &str,
-    world: &World,
+    world: &mut World,
     told: &mut Told,
 ) -> Result<(), AllocError> {
     let now = told_of(alloc, words, world)?;

@@ -2,13 +2,17 @@
 use pg_outside::{MemShelf, MemSink};
 use std::alloc::{AllocError, Global};
 
-/// The room of each sink, in bytes.
+/// The room of each sink, in bytes, where a case does not say another.
 const ROOM: usize = 4194304;
 
 /// The files that a call meets, and what fails in it.
 #[derive(Drop)]
 pub struct World {
     files: Vec<(String, Vec<u8>)>,
+    /// The room for what is written.
+    pub room: usize,
+    /// What the last call of the case wrote.
+    pub written: Vec<u8>,
     /// The numbers of the fetches that fail, from 1.
     pub fetches: Vec<u64>,
     /// The numbers of the writes that fail, from 1, each with how many bytes it takes.
@@ -22,6 +26,8 @@ impl World {
     pub fn new(alloc: Global) -> World {
         World {
             files: Vec::new(alloc),
+            room: ROOM,
+            written: Vec::new(alloc),
             fetches: Vec::new(alloc),
             writes: Vec::new(alloc),
             says: Vec::new(alloc),
@@ -50,7 +56,7 @@ impl World {
 
     /// A sink for what is written.
     pub fn out(&self, alloc: Global) -> Result<MemSink, AllocError> {
-        MemSink::new(alloc, ROOM, self.writes.to_vec(alloc)?)
+        MemSink::new(alloc, self.room, self.writes.to_vec(alloc)?)
     }
 
     /// A sink for what is said.

@@ -1,9 +1,7 @@
-//! Tests that cross crates and go by what no program writes: the labels of a galley, and points printed and read back.
+//! Tests that cross crates and go by what no program writes: points printed and read back.
 //!
 //! What goes through `serve` are the tables of pg_rows.
 #![tactic(auto)]
 
-#[cfg(test)]
-mod frontier;
 #[cfg(test)]
 mod points;

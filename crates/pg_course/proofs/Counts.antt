@@ -1,0 +1,97 @@
+-- The steps of a command, by what was found for its galley.
+use Rattle.std.proofs.Common.{◌≡◌, ◌≤◌, ◌^◌, refl, sym, ap, subst, ℕ, List, [], ◌∷◌, true}
+use Rattle.std.specs.Prelude.{Option, Some, None, Result, Ok, Err, IfSome, nat_le}
+use Rattle.pg_list.specs.GalleyValue.{GalleyValue}
+use Rattle.pg_style.specs.Values.{StyleValue}
+use Rattle.pg_floats.specs.AreFloats.{float_total, unknown_class}
+use Rattle.pg_edits.specs.declared.script.ScriptStep.{ScriptStep}
+use Rattle.pg_session.specs.SessionValue.{SessionValue}
+use Rattle.pg_session.specs.Sessions.{IsNew}
+use Rattle.pg_session.specs.Shows.{AreCounted, Show, one_show, show_of, shows_from, unseen}
+use Rattle.pg_session.proofs.Counted.{all_counted, none_counted, show_counted}
+use Rattle.pg_outside.specs.Outside.{Held}
+use Rattle.pg_command.specs.declared.status.Status.{Status}
+use Rattle.pg_command.specs.declared.status.Status.TheVariants.{Done, NoLegal, Usage, Refused, ReadFault, WriteFault}
+use Rattle.pg_command.specs.declared.status.Status.TheVariants.{Memory, NotProved}
+use Rattle.pg_course.specs.Counted.{CountsEdit, CountsRun, CountsScript, IsShown, UnlessMemory, taken_shows}
+use Rattle.pg_course.specs.Course.{Stop}
+use Rattle.pg_course.proofs.Checks.{if_both}
+use Rattle.pg_course.proofs.Runs.{few_test}
+
+pub unless_memory : {P Q : Type 0} → (status : Status) → (P → Q) → UnlessMemory status P → UnlessMemory status Q
+unless_memory Memory f p = tt
+unless_memory ReadFault f p = f p
+unless_memory WriteFault f p = f p
+unless_memory Done f p = f p
+unless_memory NoLegal f p = f p
+unless_memory Usage f p = f p
+unless_memory Refused f p = f p
+unless_memory NotProved f p = f p
+
+pub whatever : {P : Type 0} → (status : Status) → P → UnlessMemory status P
+whatever Memory p = tt
+whatever ReadFault p = p
+whatever WriteFault p = p
+whatever Done p = p
+whatever NoLegal p = p
+whatever Usage p = p
+whatever Refused p = p
+whatever NotProved p = p
+
+-- ---- nothing was solved
+
+pub still_counted : (style : StyleValue) (shown : List Show) (n : ℕ) → AreCounted style shown n n
+still_counted style shown n = record { count = 0; firsts = none_counted style n }
+
+pub still_run : (style : Result StyleValue Stop) (galley : Result GalleyValue Stop) (n : ℕ) → CountsRun style galley n n
+still_run (Err stop) galley n = refl
+still_run (Ok style) (Err stop) n = refl
+still_run (Ok style) (Ok galley) n = still_counted style (taken_shows style galley (one_show galley)) n
+
+pub still_script : (style : StyleValue) (at : Show) (script : Result (List ScriptStep) Stop) (n : ℕ) →
+    CountsScript style at script n n
+still_script style at (Err stop) n = refl
+still_script style at (Ok steps) n =
+    still_counted style (taken_shows style at.galley (shows_from at style steps)) n
+
+pub still_edit : (style : Result StyleValue Stop) (galley : Result GalleyValue Stop)
+    (script : Result (List ScriptStep) Stop) (n : ℕ) → CountsEdit style galley script n n
+still_edit (Err stop) galley script n = refl
+still_edit (Ok style) (Err stop) script n = refl
+still_edit (Ok style) (Ok galley) script n = still_script style (unseen galley) script n
+
+-- ---- a file that was read
+
+-- what is counted behind what was read is counted of what the shelf tells
+pub read_counts : {A : Type 0} → (told mid : Option Held) (said : Held → Result A Stop) (x : A)
+    (F : Result A Stop → Held → Type 0) → mid ≡ told → IfSome told (λ held. said held ≡ Ok x) →
+    IfSome mid (F (Ok x)) → IfSome told (λ held. F (said held) held)
+read_counts told mid said x F same says counted =
+    if_both told (λ held is h. subst (λ r. F r held) (sym is) h) says
+    (subst (λ (t : Option Held). IfSome t (F (Ok x))) same counted)
+
+-- ---- a galley that was taken
+
+-- its shows
+taken_all : (style : StyleValue) (galley : GalleyValue) (shown : List Show) → unknown_class galley.blocks style ≡ None →
+    float_total galley.blocks style ≤ 2 ^ 12 → taken_shows style galley shown ≡ shown
+taken_all style galley shown known few =
+    let test : nat_le (float_total galley.blocks style) (2 ^ 12) ≡ true =
+    few_test (float_total galley.blocks style) (2 ^ 12) few in
+    rw (known, test) refl
+
+-- what is counted of them
+pub taken_counted : (style : StyleValue) (galley : GalleyValue) (shown : List Show) (before after : ℕ) →
+    unknown_class galley.blocks style ≡ None → float_total galley.blocks style ≤ 2 ^ 12 →
+    AreCounted style shown before after → AreCounted style (taken_shows style galley shown) before after
+taken_counted style galley shown before after known few counted =
+    subst (λ (xs : List Show). AreCounted style xs before after) (sym (taken_all style galley shown known few)) counted
+
+-- a new session was solved once
+pub solved_once : (galley : GalleyValue) (style : StyleValue) (made new : SessionValue) (before after : ℕ) →
+    IsNew galley style made → IsShown made new before after → AreCounted style (one_show galley) before after
+solved_once galley style made new before after is shown =
+    subst (λ (show : Show). AreCounted style (show ∷ []) before after) (ap show_of is.is)
+    (all_counted style (show_of made ∷ []) before after
+    (show_counted style [] made new shown.outcome before before after (ap (λ (s : SessionValue). s.style) is.is)
+    (none_counted style before) shown.solved))
