@@ -1,6 +1,6 @@
 -- The steps of a command, by what was found for its galley.
 use Rattle.std.proofs.Common.{◌≡◌, ◌≤◌, ◌^◌, refl, sym, ap, subst, ℕ, List, [], ◌∷◌, true}
-use Rattle.std.specs.Prelude.{Option, Some, None, Result, Ok, Err, IfSome, nat_le}
+use Rattle.std.specs.Prelude.{Option, Some, None, Result, Ok, Err, IfSome, OnOk, nat_le}
 use Rattle.pg_list.specs.GalleyValue.{GalleyValue}
 use Rattle.pg_style.specs.Values.{StyleValue}
 use Rattle.pg_floats.specs.AreFloats.{float_total, unknown_class}
@@ -95,3 +95,7 @@ solved_once galley style made new before after is shown =
     (all_counted style (show_of made ∷ []) before after
     (show_counted style [] made new shown.outcome before before after (ap (λ (s : SessionValue). s.style) is.is)
     (none_counted style before) shown.solved))
+
+pub ok_of : {T E P : Type 0} → (r : Result T E) → P → OnOk r P
+ok_of (Ok x) p = p
+ok_of (Err e) p = tt

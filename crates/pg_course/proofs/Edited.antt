@@ -30,7 +30,7 @@ use Rattle.pg_course.specs.Calls.{OverSink, WritesOn, over_sink}
 use Rattle.pg_course.specs.Counted.{IsShown, UnlessMemory}
 use Rattle.pg_course.specs.Course.{EditFront, EditSteps, stop, with_end}
 use Rattle.pg_course.specs.Out.{RunOut}
-use Rattle.pg_course.specs.Steps.{AreMade, IsChange, IsForgotten, IsNoStep, IsRefused, IsShow, IsStep, IsUnwritten, shown_end}
+use Rattle.pg_course.specs.Steps.{AreMade, IsChange, IsForgotten, IsNoStep, IsRefused, IsShow, IsStep, IsUnwritten, ending_of_made, shown_end}
 use Rattle.pg_course.proofs.Checks.{earlier_rose}
 use Rattle.pg_course.proofs.Runs.{appends_none}
 
@@ -323,34 +323,35 @@ module _ (labels : Bool) (first : SessionValue) where
   -- ---- by the number of steps of a script
 
   -- one step more was made
-  pub step_made : (now new : SessionValue) (script : List ScriptStep) (i : ℕ) (none : ScriptStep) (legal shown : Bool)
-      (old mid newest : Option (List ℕ)) (before middle after : ℕ) → i < length script →
+  pub step_made : (now new : SessionValue) (script : List ScriptStep) (i : ℕ) (step : ScriptStep) (legal shown : Bool)
+      (old mid newest : Option (List ℕ)) (before middle after : ℕ) → i < length script → get_or script i step ≡ step →
       AreMade labels first (take i script) now legal old mid before middle →
-      IsStep labels (get_or script i none) now new shown mid newest middle after →
+      IsStep labels step now new shown mid newest middle after →
       AreMade labels first (take (i + 1) script) new (legal && shown) old newest before after
-  step_made now new script i none legal shown old mid newest before middle after less m s =
+  step_made now new script i step legal shown old mid newest before middle after less at m s =
       let next : i + 1 ≡ suc i = omega arith in
       subst (λ (xs : List ScriptStep). AreMade labels first xs new (legal && shown) old newest before after)
-      (sym (ap (λ (k : ℕ). take k script) next ∙ take-suc script i none less))
-      (one_made now new (take i script) (get_or script i none) legal shown old mid newest before middle after m s)
+      (sym (ap (λ (k : ℕ). take k script) next ∙ take-suc script i step less
+      ∙ ap (λ (x : ScriptStep). take i script ++ x ∷ []) at))
+      (one_made now new (take i script) step legal shown old mid newest before middle after m s)
 
   -- the next step was not made
-  pub step_failed : (now new : SessionValue) (script : List ScriptStep) (i : ℕ) (none : ScriptStep) (legal : Bool)
-      (old mid newest : Option (List ℕ)) (f0 f1 f2 before middle after : ℕ) (end : Ending) → i < length script →
+  pub step_failed : (now new : SessionValue) (script : List ScriptStep) (i : ℕ) (step : ScriptStep) (number : ℕ)
+      (legal : Bool) (old mid newest : Option (List ℕ)) (f0 f1 f2 before middle after : ℕ) (end : Ending) →
+      i < length script → get_or script i step ≡ step → number ≡ i →
       AreMade labels first (take i script) now legal old mid before middle → f0 ≤ f1 →
-      IsNoStep labels (get_or script i none) (i + 1) now new (over_sink mid newest f1 f2) middle after end →
+      IsNoStep labels step (number + 1) now new (over_sink mid newest f1 f2) middle after end →
       EndsSo script (over_sink old newest f0 f2) before after end
-  step_failed now new script i none legal old mid newest f0 f1 f2 before middle after end less m later s =
+  step_failed now new script i step number legal old mid newest f0 f1 f2 before middle after end less at is m later s =
       subst (λ (xs : List ScriptStep). EndsSo xs (over_sink old newest f0 f2) before after end) whole
-      (not_made now new (take i script) (drop (suc i) script) (get_or script i none) (i + 1) legal old mid newest f0 f1
-      f2 before middle after end m later (ap (λ (n : ℕ). n + 1) (sym (taken script i less))) s)
+      (not_made now new (take i script) (drop (suc i) script) step (number + 1) legal old mid newest f0 f1 f2 before
+      middle after end m later (ap (λ (n : ℕ). n + 1) (is ∙ sym (length-take-le i script (omega (arith, less))))) s)
     where
-      taken : (xs : List ScriptStep) (n : ℕ) → n < length xs → length (take n xs) ≡ n
-      taken xs n h = length-take-le n xs (omega (arith, h))
-      whole : take i script ++ get_or script i none ∷ drop (suc i) script ≡ script
+      whole : take i script ++ step ∷ drop (suc i) script ≡ script
       whole =
-          sym (append_assoc (take i script) (get_or script i none ∷ []) (drop (suc i) script))
-          ∙ ap (λ (xs : List ScriptStep). xs ++ drop (suc i) script) (sym (take-suc script i none less))
+          sym (append_assoc (take i script) (step ∷ []) (drop (suc i) script))
+          ∙ ap (λ (x : ScriptStep). take i script ++ x ∷ [] ++ drop (suc i) script) (sym at)
+          ∙ ap (λ (xs : List ScriptStep). xs ++ drop (suc i) script) (sym (take-suc script i step less))
           ∙ take-append-drop (suc i) script
 
   counts_all : (now : SessionValue) (script : List ScriptStep) (legal : Bool) (old new : Option (List ℕ))
@@ -360,14 +361,10 @@ module _ (labels : Bool) (first : SessionValue) where
       subst (λ (xs : List ScriptStep). AreCounted first.style (shows_from (show_of first) first.style xs) before after)
       (append-nil script) (made_counted now script [] legal old new before after m)
 
-  -- how it ends where all were made
-  abbrev pub made_ending : Bool → Ending
-  made_ending true = ending.Done
-  made_ending false = ending.NoLegal
-
+  -- all were made
   pub made_writes : (now : SessionValue) (script : List ScriptStep) (legal : Bool) (old new : Option (List ℕ))
       (f0 f2 before after : ℕ) → AreMade labels first script now legal old new before after →
-      EndsSo script (over_sink old new f0 f2) before after (made_ending legal)
+      EndsSo script (over_sink old new f0 f2) before after (ending_of_made legal)
   made_writes now script true old new f0 f2 before after m = (
     record {
       settled = record { texts = m.texts; course = all_made now script true old new before after m; written = m.written };

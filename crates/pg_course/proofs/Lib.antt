@@ -7,3 +7,4 @@ pub mod Complete
 pub mod Counts
 pub mod Scripts
 pub mod Stepping
+pub mod Labelled

@@ -25,6 +25,11 @@ abbrev pub shown_end : Bool → Status
 shown_end true = Done
 shown_end false = NoLegal
 
+-- how the steps of a script end so
+abbrev pub ending_of_made : Bool → Ending
+ending_of_made true = ending.Done
+ending_of_made false = ending.NoLegal
+
 -- a change was accepted, and nothing was written
 pub record IsChange (edit : Edit) (old new : SessionValue) (legal : Bool) (written now : Option (List ℕ))
     (before after : ℕ) : Type 0 where

@@ -8,7 +8,7 @@ ghost use Rattle.pg_session.specs.Shows.{AreCounted, show_of, shows_from};
 ghost use Rattle.pg_course.specs.Course.{EditFront, EditScript, EditSteps, ScriptFront, opened, opened_script};
 ghost use Rattle.pg_course.specs.Course.{opened_style};
 ghost use Rattle.pg_course.specs.Calls.{AreRead, Goes, GoesThrough, WritesOn, edit_ending, over_shelf, over_sink};
-ghost use Rattle.pg_course.specs.Steps.{AreMade, IsNoStep, IsStep};
+ghost use Rattle.pg_course.specs.Steps.{AreMade, IsNoStep, IsStep, ending_of_made};
 ghost use Rattle.pg_course.specs.Counted.{CountsEdit, CountsScript, IsCounted, UnlessMemory};
 ghost use Rattle.pg_command.specs.declared.status.Status.TheVariants.{Done};
 
@@ -105,9 +105,19 @@ fn make_each<'a, O: Sink, L: Ledger>(
     let mut number = 0;
     for step in script {
         number += 1;
-        legal &= make_step(alloc, session, step, number, labels, out, steps)?;
+        match make_step(alloc, session, step, number, labels, out, steps) {
+            Err(ending) => return Err(ending),
+            Ok(shown) => legal &= shown,
+        }
     }
     Ok(legal)
+}
+
+// How it ends where all steps were made.
+fn made_ending<'a>(legal: bool) -> Ending<'a>
+    ensures { result ≡ ending_of_made legal }
+{
+    if legal { Ending::Done } else { Ending::NoLegal }
 }
 
 // Makes the steps of a script in their order, and writes the text of each show in one piece.
@@ -127,8 +137,7 @@ fn make_steps<'a, O: Sink, L: Ledger>(
 {
     match make_each(alloc, session, script, labels, out, steps) {
         Err(ending) => ending,
-        Ok(true) => Ending::Done,
-        Ok(false) => Ending::NoLegal,
+        Ok(legal) => made_ending(legal),
     }
 }
 

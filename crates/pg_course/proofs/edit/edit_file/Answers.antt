@@ -1,12 +1,13 @@
-use Rattle.std.proofs.Common.{List}
-use Rattle.pg_session.specs.Shows.{show_of, shows_from}
+use Rattle.std.proofs.Common.{List, subst}
+use Rattle.pg_session.specs.Shows.{AreCounted, show_of, shows_from}
 use Rattle.std.specs.Prelude.{Result}
 use Rattle.pg_edits.specs.declared.script.ScriptStep.{ScriptStep}
 use Rattle.pg_outside.specs.Outside.{Held}
 use Rattle.pg_command.specs.Lines.{status_of}
-use Rattle.pg_course.specs.Calls.{over_shelf, over_sink}
+use Rattle.pg_command.specs.declared.status.Status.TheVariants.{Done}
+use Rattle.pg_course.specs.Calls.{WritesOn, over_shelf, over_sink}
 use Rattle.pg_course.specs.Counted.{CountsScript}
-use Rattle.pg_course.specs.Course.{Stop, opened_script}
+use Rattle.pg_course.specs.Course.{EditFront, EditSteps, Stop, opened_script}
 use Rattle.pg_course.proofs.Checks.{all_told}
 use Rattle.pg_course.proofs.Counts.{still_script, taken_counted, unless_memory, whatever}
 use Rattle.pg_course.proofs.Runs.{when_said}
@@ -33,7 +34,12 @@ returns-in-Ok-clause-goes g c =
     (g.H.Shelf.faults c.open_script.new.shelf) (g.H.Shelf.last_failed c.open_script.new.shelf)
     (over_sink (g.O.Sink.written c.args.out.now) (g.O.Sink.written c.make_steps.new.out)
     (g.O.Sink.faults c.args.out.now) (g.O.Sink.faults c.make_steps.new.out)) c.make_steps.result
-    c.in-Ok.ensures.script c.make_steps.ensures.writes
+    c.in-Ok.ensures.script (subst (λ (steps : List ScriptStep). WritesOn
+    (EditSteps c.args.labels c.args.session.now.style c.args.session.now.galley 1 Done steps)
+    (EditFront c.args.labels c.args.session.now.style c.args.session.now.galley steps)
+    (over_sink (g.O.Sink.written c.args.out.now) (g.O.Sink.written c.make_steps.new.out)
+    (g.O.Sink.faults c.args.out.now) (g.O.Sink.faults c.make_steps.new.out)) c.make_steps.result) c.as_slice.ensures
+    c.make_steps.ensures.writes)
 
 pub returns-in-Ok-clause-counted : goal.returns-in-Ok-clause-counted
 returns-in-Ok-clause-counted g c =
@@ -43,4 +49,7 @@ returns-in-Ok-clause-counted g c =
     (λ (held : Held). opened_script c.args.name.now (held c.args.name.now)) c.in-Ok.script
     c.in-Ok.ensures.script (taken_counted c.args.session.now.style c.args.session.now.galley
     (shows_from (show_of c.args.session.now) c.args.session.now.style c.in-Ok.script) c.args.steps.now
-    c.make_steps.new.steps c.requires.known c.requires.few counted)) c.make_steps.ensures.counted
+    c.make_steps.new.steps c.requires.known c.requires.few
+    (subst (λ (steps : List ScriptStep). AreCounted c.args.session.now.style
+    (shows_from (show_of c.args.session.now) c.args.session.now.style steps) c.args.steps.now
+    c.make_steps.new.steps) c.as_slice.ensures counted))) c.make_steps.ensures.counted
