@@ -88,12 +88,16 @@ module _ (labels : Bool) (first : SessionValue) where
     where
       taken : edit_fault now.galley first.style edit ≡ None
       taken = subst (λ (s : StyleValue). edit_fault now.galley s edit ≡ None) m.style none
+
       galley_is : new.galley ≡ edited now.galley edit
       galley_is = ap (λ (s : SessionValue). s.galley) e.is
+
       count : length (made ++ Change edit ∷ []) + 1 ≡ length made + 1 + 1
       count = ap (λ (n : ℕ). n + 1) (one_more made (Change edit))
+
       next_is : show_of new ≡ after_edit (show_of now) edit
       next_is = ap show_of e.is
+
       rest_is : (rest : List ScriptStep) → shows_from (after_edit (show_of now) edit) first.style rest
           ≡ shows_from (show_of new) first.style rest
       rest_is rest = ap (λ (at : Show). shows_from at first.style rest) (sym next_is)
@@ -121,13 +125,18 @@ module _ (labels : Bool) (first : SessionValue) where
     texts = m.texts ++ s.text ∷ [];
     goes_on = λ rest later last line steps.
         rw (append_assoc made (AShow ∷ []) rest, append_assoc m.texts (s.text ∷ []) later)
-        (m.goes_on (AShow ∷ rest) (s.text ∷ later) last line
-        (s.text, shown_end shown, later, out, refl,
-        subst (λ (end : Status). EditSteps labels first.style now.galley (length made + 1 + 1) end rest later last line)
-        (sym (both_end legal shown))
-        (subst (λ (n : ℕ). EditSteps labels first.style now.galley n (shown_end (legal && shown)) rest later last line)
-        count (subst (λ (g : GalleyValue). EditSteps labels first.style g (length (made ++ AShow ∷ []) + 1)
-        (shown_end (legal && shown)) rest later last line) galley_is steps))));
+        (m.goes_on (AShow ∷ rest) (s.text ∷ later) last line (
+          s.text,
+          shown_end shown,
+          later,
+          out,
+          refl,
+          subst (λ (end : Status). EditSteps labels first.style now.galley (length made + 1 + 1) end rest later last line)
+              (sym (both_end legal shown))
+              (subst (λ (n : ℕ). EditSteps labels first.style now.galley n (shown_end (legal && shown)) rest later last line)
+              count (subst (λ (g : GalleyValue). EditSteps labels first.style g (length (made ++ AShow ∷ []) + 1)
+              (shown_end (legal && shown)) rest later last line) galley_is steps)),
+        ));
     written =
         subst (Appends old newest) (sym (texts_more m.texts s.text))
         (appends_both old mid newest (concat m.texts) s.text m.written s.appends);
@@ -144,12 +153,16 @@ module _ (labels : Bool) (first : SessionValue) where
     where
       out : RunOut labels now.galley first.style s.text (shown_end shown)
       out = subst (λ (style : StyleValue). RunOut labels now.galley style s.text (shown_end shown)) m.style s.out
+
       galley_is : new.galley ≡ now.galley
       galley_is = ap (λ (v : SessionValue). v.galley) s.shown.solved.is
+
       count : length (made ++ AShow ∷ []) + 1 ≡ length made + 1 + 1
       count = ap (λ (n : ℕ). n + 1) (one_more made AShow)
+
       next_is : show_of new ≡ after_show (show_of now)
       next_is = ap show_of s.shown.solved.is
+
       rest_is : (rest : List ScriptStep) → shows_from (after_show (show_of now)) first.style rest
           ≡ shows_from (show_of new) first.style rest
       rest_is rest = ap (λ (at : Show). shows_from at first.style rest) (sym next_is)
@@ -179,9 +192,11 @@ module _ (labels : Bool) (first : SessionValue) where
   front_made : (now : SessionValue) (made rest : List ScriptStep) (legal : Bool) (old new : Option (List ℕ))
       (before after : ℕ) (m : AreMade labels first made now legal old new before after) →
       EditFront labels first.style first.galley (made ++ rest) m.texts (shown_end legal) []
-  front_made now made rest legal old new before after m =
-      (length made, subst (λ (xs : List ScriptStep). EditSteps labels first.style first.galley 1 Done xs m.texts
-      (shown_end legal) []) (sym (take-append_seam made rest)) (all_made now made legal old new before after m))
+  front_made now made rest legal old new before after m = (
+    length made,
+    subst (λ (xs : List ScriptStep). EditSteps labels first.style first.galley 1 Done xs m.texts
+        (shown_end legal) []) (sym (take-append_seam made rest)) (all_made now made legal old new before after m),
+  )
 
   -- and the steps that were taken
   made_counted : (now : SessionValue) (made rest : List ScriptStep) (legal : Bool) (old new : Option (List ℕ))
@@ -223,11 +238,15 @@ module _ (labels : Bool) (first : SessionValue) where
           settled = tt;
           write = tt;
           front = tt;
-          memory = (shown_end legal, [], record {
-            texts = m.texts;
-            course = front_made now made rest legal old mid before middle m;
-            written = subst (λ (w : Option (List ℕ)). Appends old w (concat m.texts)) (sym f.keeps) m.written;
-          });
+          memory = (
+            shown_end legal,
+            [],
+            record {
+              texts = m.texts;
+              course = front_made now made rest legal old mid before middle m;
+              written = subst (λ (w : Option (List ℕ)). Appends old w (concat m.texts)) (sym f.keeps) m.written;
+            },
+          );
           no_read = tt;
           no_usage = λ e. absurd (cc);
         },

@@ -97,11 +97,14 @@ script_stops labels style galley name shelf old faults end stopped = record {
   where
     C : Held → List (List ℕ) → Status → List ℕ → Type 0
     C held = EditScript labels style galley (opened_script name (held name))
+
     D : Held → List (List ℕ) → Status → List ℕ → Type 0
     D held = ScriptFront labels style galley (opened_script name (held name))
+
     ends : (held : Held) → opened_script name (held name) ≡ Err (stop (status_of end) (line_of end)) →
         EndsBy (C held) old old (status_of end) (line_of end)
     ends held is = record { texts = []; course = rw is (refl, refl, refl); written = appends_none old }
+
     front : (held : Held) → WritesTexts (D held) old old
     front held =
         let (how, line, course) = none_written labels style galley (opened_script name (held name)) in

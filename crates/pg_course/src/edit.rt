@@ -246,6 +246,8 @@ pub fn edit_course<'a, H: Shelf, O: Sink, L: Ledger>(
 {
     match open_style(alloc, StyleWord::Named(style), shelf) {
         Err(ending) => ending,
-        Ok(style) => edit_styled(alloc, style, galley, script, labels, wrap, shelf, out, steps),
+        Ok(style) => edit_styled(
+            alloc, style, galley, script, labels, wrap, shelf, out, steps,
+        ),
     }
 }

@@ -64,7 +64,13 @@ fn line_under<L: Ledger>(
     let mut session = session_of(alloc, count)?;
     let outcome = session.solve(steps)?;
     let items = session.galley().count_items();
-    line_of(alloc, count, items, &outcome, session.labels().as_slice().len())
+    line_of(
+        alloc,
+        count,
+        items,
+        &outcome,
+        session.labels().as_slice().len(),
+    )
 }
 
 // Writes the line of the galley of so many paragraphs in one piece, and answers how that ends the run.

@@ -7,6 +7,6 @@ invariant-loop-step g l = record {
   number : l.number ≡ l.step-index;
   made :
       AreMade l.labels l.initial.session (take l.step-index l.script) l.session l.legal
-          (g.O.Sink.written l.initial.out) (g.O.Sink.written l.out) l.initial.steps l.steps;
+      (g.O.Sink.written l.initial.out) (g.O.Sink.written l.out) l.initial.steps l.steps;
   later : g.O.Sink.faults l.initial.out ≤ g.O.Sink.faults l.out;
 }
