@@ -32,7 +32,8 @@ texts_tell : (blocks : List Block) (top : List ℕ) (pages : List Page) →
     heads_from top (map (page_items blocks) pages) ≡ heads_from top (map (page_text blocks) pages)
 texts_tell blocks top [] = refl
 texts_tell blocks top (page ∷ pages) =
-    let same : marks (page_items blocks page) ≡ marks (page_text blocks page) = page_tells mark_of no_mark blocks page in
+    let same : marks (page_items blocks page) ≡ marks (page_text blocks page) =
+    page_tells mark_of no_mark blocks page in
     ap₂ (λ found later. head_by top found later) same
     (ap (λ found. heads_from (last_or top found) (map (page_items blocks) pages)) same
     ∙ texts_tell blocks (last_or top (marks (page_text blocks page))) pages)

@@ -25,21 +25,25 @@ first_on name n (item ∷ items) behind = by (label_of item) (first_on name n it
   where
     either : (b : Bool) (labels : List (List ℕ)) (found : Option ℕ) →
         found ≡ here_or name n labels (first_page name behind) →
-        (if b then Some n else found) ≡ (if b || list_any (bytes_eq name) labels then Some n else first_page name behind)
+        (if b then Some n else found)
+        ≡ (if b || list_any (bytes_eq name) labels then Some n else first_page name behind)
     either true labels found rest = refl
     either false labels found rest = rest
 
     by : (label : Option (List ℕ)) →
-        first_page name (labels_on n items ++ behind) ≡ here_or name n (filter_map label_of items) (first_page name behind) →
+        first_page name (labels_on n items ++ behind)
+        ≡ here_or name n (filter_map label_of items) (first_page name behind) →
         first_page name ((labelled n label ++ labels_on n items) ++ behind)
         ≡ here_or name n (cons_option label (filter_map label_of items)) (first_page name behind)
     by None rest = rest
-    by (Some text) rest = either (bytes_eq name text) (filter_map label_of items) (first_page name (labels_on n items ++ behind)) rest
+    by (Some text) rest =
+        either (bytes_eq name text) (filter_map label_of items) (first_page name (labels_on n items ++ behind)) rest
 
 module _ (blocks : List Block) where
   -- a page has the labels of its texts
   label_here : (name : List ℕ) (page : Page) →
-      list_any (is_label name) (page_items blocks page) ≡ list_any (bytes_eq name) (filter_map label_of (page_text blocks page))
+      list_any (is_label name) (page_items blocks page)
+      ≡ list_any (bytes_eq name) (filter_map label_of (page_text blocks page))
   label_here name page = among_labels name (page_items blocks page)
       ∙ ap (list_any (bytes_eq name)) (page_tells label_of (no_name (codes "\\special{ref:label ")) blocks page)
 
@@ -47,12 +51,14 @@ module _ (blocks : List Block) where
       label_page name n (map (page_items blocks) pages) ≡ first_page name (labels_from n (map (page_text blocks) pages))
   page_found name n [] = refl
   page_found name n (page ∷ pages) =
-      ap₂ (λ (here : Bool) (later : Option ℕ). if here then Some n else later) (label_here name page) (page_found name (n + 1) pages)
+      ap₂ (λ (here : Bool) (later : Option ℕ). if here then Some n else later) (label_here name page)
+      (page_found name (n + 1) pages)
       ∙ sym (first_on name n (page_text blocks page) (labels_from (n + 1) (map (page_text blocks) pages)))
 
   -- ---- uses
 
-  uses_here : (all : List (List Item)) (labels : List (List ℕ × ℕ)) → ((name : List ℕ) → label_page name 1 all ≡ first_page name labels) →
+  uses_here : (all : List (List Item)) (labels : List (List ℕ × ℕ)) →
+      ((name : List ℕ) → label_page name 1 all ≡ first_page name labels) →
       (n : ℕ) (items : List Item) → map (reference_on all n) (uses items) ≡ uses_on labels n items
   uses_here all labels same n [] = refl
   uses_here all labels same n (item ∷ items) = by (use_of item) (uses_here all labels same n items)
@@ -60,9 +66,12 @@ module _ (blocks : List Block) where
       by : (name : Option (List ℕ)) → map (reference_on all n) (uses items) ≡ uses_on labels n items →
           map (reference_on all n) (cons_option name (uses items)) ≡ used labels n name ++ uses_on labels n items
       by None rest = rest
-      by (Some name) rest = ap₂ (λ (page : Option ℕ) (xs : List Reference). record { name = name; on = n; page = page } ∷ xs) (same name) rest
+      by (Some name) rest =
+          ap₂ (λ (page : Option ℕ) (xs : List Reference). record { name = name; on = n; page = page } ∷ xs)
+          (same name) rest
 
-  uses_found : (all : List (List Item)) (labels : List (List ℕ × ℕ)) → ((name : List ℕ) → label_page name 1 all ≡ first_page name labels) →
+  uses_found : (all : List (List Item)) (labels : List (List ℕ × ℕ)) →
+      ((name : List ℕ) → label_page name 1 all ≡ first_page name labels) →
       (n : ℕ) (pages : List Page) →
       references_from all n (map (page_items blocks) pages) ≡ uses_from labels n (map (page_text blocks) pages)
   uses_found all labels same n [] = refl
@@ -72,6 +81,7 @@ module _ (blocks : List Block) where
       (uses_found all labels same (n + 1) pages)
 
   pub references_found : (pages : List Page) →
-      references blocks pages ≡ uses_from (labels_from 1 (map (page_text blocks) pages)) 1 (map (page_text blocks) pages)
+      references blocks pages
+      ≡ uses_from (labels_from 1 (map (page_text blocks) pages)) 1 (map (page_text blocks) pages)
   references_found pages = uses_found (map (page_items blocks) pages) (labels_from 1 (map (page_text blocks) pages))
       (λ name. page_found name 1 pages) 1 pages

@@ -4,7 +4,8 @@ use Rattle.pg_lemmas.proofs.Lists.{one_more}
 use Rattle.pg_marks.specs.HeadsText.{head_line, heads_text}
 use Rattle.pg_marks.specs.declared.lists.Head.{Head}
 
-last_head : (n : ℕ) (xs : List Head) (x : Head) → heads_text n (xs ++ x ∷ []) ≡ heads_text n xs ++ head_line (n + length xs) x
+last_head : (n : ℕ) (xs : List Head) (x : Head) →
+    heads_text n (xs ++ x ∷ []) ≡ heads_text n xs ++ head_line (n + length xs) x
 last_head n [] x = let e : n ≡ n + 0 = omega arith in append-nil (head_line n x) ∙ ap (λ k. head_line k x) e
 last_head n (y ∷ ys) x =
     let e : (n + 1) + length ys ≡ n + suc (length ys) = omega arith in

@@ -148,7 +148,7 @@ fn push_all(
 /// exactly where no item of the pages is such a label. Pages are counted from 1.
 ///
 /// Conditions: each column fits the galley, as those of a legal pagination do (`legal_columns_fit` of pg_mark_laws), and
-/// there are fewer than 2^31 pages. The only refusal is for want of memory.
+/// there are fewer than 2^31 pages. The only refusal is for want of memory. For each use the labels are looked through.
 pub fn references(
     alloc: Global,
     galley: &Galley,

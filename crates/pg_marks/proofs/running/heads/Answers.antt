@@ -9,6 +9,7 @@ pub returns : goal.returns
 returns c =
     let none : c.pages.rest.now ≡ [] = no_items c.pages.rest.now (omega (arith, c.in_default.len_below)) in
     sym (append-nil c.pages.heads)
-    ∙ (ap (λ (rest : List Page). c.pages.heads ++ heads_from c.pages.top.now (map (page_text c.args.galley.now.blocks) rest))
+    ∙ (ap (λ (rest : List Page). c.pages.heads ++ heads_from c.pages.top.now
+    (map (page_text c.args.galley.now.blocks) rest))
     (sym none)
     ∙ (c.pages.invariant.heads ∙ sym (heads_carried c.args.galley.now.blocks c.args.plan.now.pages)))
