@@ -14,7 +14,10 @@ record IsHigher (face folded : Face) : Type 0 where
 higher_across : (face : Face) → IsHigher face (across face)
 higher_across face = by (nat_lt face.column (face.columns / 2))
   where
-    by : (b : Bool) → IsHigher face (if b then record face { place = face.height + face.place; columns = face.columns / 2; height = face.height * 2 }
+    by : (b : Bool) →
+        IsHigher face
+        (if b then record face
+        { place = face.height + face.place; columns = face.columns / 2; height = face.height * 2 }
         else record face {
           column = face.columns - 1 - face.column;
           place = face.height - 1 - face.place;
@@ -27,7 +30,9 @@ higher_across face = by (nat_lt face.column (face.columns / 2))
 higher_upwards : (face : Face) → IsHigher face (upwards face)
 higher_upwards face = by (nat_lt face.row (face.rows / 2))
   where
-    by : (b : Bool) → IsHigher face (if b then record face { place = face.height + face.place; rows = face.rows / 2; height = face.height * 2 }
+    by : (b : Bool) →
+        IsHigher face
+        (if b then record face { place = face.height + face.place; rows = face.rows / 2; height = face.height * 2 }
         else record face {
           row = face.rows - 1 - face.row;
           place = face.height - 1 - face.place;
@@ -40,7 +45,8 @@ higher_upwards face = by (nat_lt face.row (face.rows / 2))
 higher : (n : ℕ) (face : Face) → IsHigher (face_after n face) (face_after (suc n) face)
 higher n face = by (suc n % 2 == 1)
   where
-    by : (b : Bool) → IsHigher (face_after n face) (if b then across (face_after n face) else upwards (face_after n face))
+    by : (b : Bool) →
+        IsHigher (face_after n face) (if b then across (face_after n face) else upwards (face_after n face))
     by true = higher_across (face_after n face)
     by false = higher_upwards (face_after n face)
 
@@ -53,11 +59,13 @@ height_after (suc n) face two =
     doubled n = let e : suc n + 1 ≡ suc (n + 1) = omega arith in
         let p : 2 ^ suc (n + 1) ≡ 2 ^ (n + 1) * 2 = pow-suc 2 (n + 1) in sym (ap (λ k. 2 ^ k) e ∙ p)
 
-pub place_after : (n : ℕ) (face : Face) → face.place ≤ face.height → (face_after n face).place ≤ (face_after n face).height
+pub place_after : (n : ℕ) (face : Face) → face.place ≤ face.height →
+    (face_after n face).place ≤ (face_after n face).height
 place_after zero face within = within
 place_after (suc n) face within = (higher n face).place (place_after n face within)
 
-pub height_small : (n folds : ℕ) (side : Side) (cell : ℕ) (now : Face) → now ≡ face_after n (face_of folds side cell) → n ≤ 4 → now.height ≤ 32
+pub height_small : (n folds : ℕ) (side : Side) (cell : ℕ) (now : Face) →
+    now ≡ face_after n (face_of folds side cell) → n ≤ 4 → now.height ≤ 32
 height_small n folds side cell now is few =
     let e : now.height ≡ 2 ^ (n + 1) = ap (λ (f : Face). f.height) is ∙ height_after n (face_of folds side cell) refl in
     let m : 2 ^ (n + 1) ≤ 2 ^ 5 = pow_mono {i = n + 1} {j = 5} (omega (arith, few)) in

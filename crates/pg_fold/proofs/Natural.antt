@@ -72,7 +72,8 @@ map_reading : {A B : Type 0} (f : A → B) (n : ℕ) (rows : List (List (List A)
 map_reading f n rows = map_reverse f (only_pile (folded n rows))
     ∙ ap reverse (in_only f (folded n rows) ∙ ap only_pile (in_folded f n rows))
 
-in_parts : {A B : Type 0} (f : A → B) (n size : ℕ) (xs : List A) → map (map f) (parts n size xs) ≡ parts n size (map f xs)
+in_parts : {A B : Type 0} (f : A → B) (n size : ℕ) (xs : List A) →
+    map (map f) (parts n size xs) ≡ parts n size (map f xs)
 in_parts f zero size xs = refl
 in_parts f (suc n) size xs = ap₂ (λ z zs. z ∷ zs) (sym (take-map f size xs))
     (in_parts f n size (drop size xs) ∙ ap (parts n size) (sym (drop-map f size xs)))
@@ -86,4 +87,5 @@ piles_map f folds front back = in_parts (map f) (row_count folds) (column_count 
 -- what is read where each cell holds what f gives for its place
 pub reading_map : {A B : Type 0} (f : A → B) (folds : ℕ) (front back : List A) →
     reading folds (piles folds (map f front) (map f back)) ≡ map f (reading folds (piles folds front back))
-reading_map f folds front back = ap (reading folds) (sym (piles_map f folds front back)) ∙ sym (map_reading f folds (piles folds front back))
+reading_map f folds front back = ap (reading folds) (sym (piles_map f folds front back))
+    ∙ sym (map_reading f folds (piles folds front back))

@@ -1,14 +1,16 @@
 -- The text of sheets, one more at its end.
-use Rattle.std.proofs.Common.{◌≡◌, sym, ap, ◌∙◌, ℕ, suc, ◌+◌, ◌<◌, List, [], ◌∷◌, ◌++◌, length, take, get_or, append_assoc, append-nil, length-take, take-suc, take-take, arith}
+use Rattle.std.proofs.Common.{◌≡◌, sym, ap, ◌∙◌, ℕ, suc, ◌+◌, ◌<◌, List, [], ◌∷◌, ◌++◌, length, take, get_or, append_assoc, append-nil, length-take, arith}
 use Rattle.pg_lemmas.proofs.Lists.{one_more}
 use Rattle.pg_fold.specs.SheetsText.{sheet_lines, sheets_text}
 use Rattle.pg_fold.specs.declared.sheets.Sheet.{Sheet}
 
-last_sheet : (n : ℕ) (xs : List Sheet) (x : Sheet) → sheets_text n (xs ++ x ∷ []) ≡ sheets_text n xs ++ sheet_lines (n + length xs) x
+last_sheet : (n : ℕ) (xs : List Sheet) (x : Sheet) →
+    sheets_text n (xs ++ x ∷ []) ≡ sheets_text n xs ++ sheet_lines (n + length xs) x
 last_sheet n [] x = let e : n ≡ n + 0 = omega arith in append-nil (sheet_lines n x) ∙ ap (λ k. sheet_lines k x) e
 last_sheet n (y ∷ ys) x =
     let e : (n + 1) + length ys ≡ n + suc (length ys) = omega arith in
-    ap (λ text. sheet_lines n y ++ text) (last_sheet (n + 1) ys x ∙ ap (λ k. sheets_text (n + 1) ys ++ sheet_lines k x) e)
+    ap (λ text. sheet_lines n y ++ text) (last_sheet (n + 1) ys x
+    ∙ ap (λ k. sheets_text (n + 1) ys ++ sheet_lines k x) e)
     ∙ sym (append_assoc (sheet_lines n y) (sheets_text (n + 1) ys) (sheet_lines (n + suc (length ys)) x))
 
 pub text_more : (sheets : List Sheet) (i : ℕ) (x : Sheet) (number : ℕ) (old before after : List ℕ) →

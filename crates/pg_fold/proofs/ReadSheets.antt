@@ -25,7 +25,8 @@ places folds side = map (sheet_place folds side) (range_with_len 0 (2 ^ folds))
 
 -- the places are read in order, and there are two for each cell
 pub record AreInOrder (folds : ℕ) : Type 0 where
-  pub order : reading folds (piles folds (places folds Front) (places folds Back)) ≡ range_with_len 0 (sheet_pages folds)
+  pub order : reading folds (piles folds (places folds Front) (places folds Back))
+      ≡ range_with_len 0 (sheet_pages folds)
   pub twice : sheet_pages folds ≡ 2 ^ folds + 2 ^ folds
   pub some : 1 ≤ 2 ^ folds
 
@@ -49,7 +50,8 @@ halves f half =
           ∙ take-map-range_with_len f 0 (half + half) half (omega arith),
       ap (λ n. drop n (map f (range_with_len 0 (half + half)))) count
           ∙ (ap (drop half) (map_append_range f 0 half half)
-          ∙ (ap (λ n. drop n (map f (range_with_len 0 half) ++ map f (range_with_len (0 + half) half))) (sym (length-map-range_with_len f 0 half))
+          ∙ (ap (λ n. drop n (map f (range_with_len 0 half) ++ map f (range_with_len (0 + half) half)))
+          (sym (length-map-range_with_len f 0 half))
           ∙ (drop-append_seam (map f (range_with_len 0 half)) (map f (range_with_len (0 + half) half))
           ∙ (let z : 0 + half ≡ half = omega arith in ap (λ k. map f (range_with_len k half)) z)))),
     )
@@ -81,7 +83,8 @@ module _ (folds nest pages : ℕ) (order : AreInOrder folds) (signature : ℕ) w
 
   sheet_reads : (sheet : ℕ) →
       sheet_reading folds (sheet_of layout start sheet) ≡ map (of_sheet sheet) (range_with_len 0 (half + half))
-  sheet_reads sheet = ap₂ (λ front back. reading folds (piles folds front back)) (cells_are sheet Front) (cells_are sheet Back)
+  sheet_reads sheet =
+      ap₂ (λ front back. reading folds (piles folds front back)) (cells_are sheet Front) (cells_are sheet Back)
       ∙ (reading_map (of_sheet sheet) folds (places folds Front) (places folds Back)
       ∙ ap (map (of_sheet sheet)) (order.order ∙ ap (range_with_len 0) order.twice))
 
@@ -91,34 +94,43 @@ module _ (folds nest pages : ℕ) (order : AreInOrder folds) (signature : ℕ) w
       ∙ alike (of_sheet sheet) due 0 (0 + sheet * half) half (λ i l.
       let z : 0 + i ≡ i = omega arith in
       let e : sheet * half + i ≡ (0 + sheet * half) + i = omega arith in
-      ap (of_sheet sheet) z ∙ ap due (cond-true (ltb i half) (sheet * half + i) (nest * half + ((nest - 1 - sheet) * half + (i - half)))
+      ap (of_sheet sheet) z
+      ∙ ap due (cond-true (ltb i half) (sheet * half + i) (nest * half + ((nest - 1 - sheet) * half + (i - half)))
       (lt-ltb i half l) ∙ e)))
 
   second_reads : (sheet later : ℕ) → sheet + suc later ≡ nest →
-      second_half (sheet_reading folds (sheet_of layout start sheet)) ≡ map due (range_with_len (nest * half + later * half) half)
+      second_half (sheet_reading folds (sheet_of layout start sheet))
+      ≡ map due (range_with_len (nest * half + later * half) half)
   second_reads sheet later is = ap second_half (sheet_reads sheet) ∙ ((halves (of_sheet sheet) half).1
       ∙ alike (of_sheet sheet) due half (nest * half + later * half) half (λ i l.
       let d : nest - 1 - sheet ≡ later = omega (arith, is) in
       let b : (half + i) - half ≡ i = omega arith in
       let e : nest * half + (later * half + i) ≡ (nest * half + later * half) + i = omega arith in
-      ap due (cond-false (ltb (half + i) half) (sheet * half + (half + i)) (nest * half + ((nest - 1 - sheet) * half + ((half + i) - half)))
+      ap due (cond-false (ltb (half + i) half) (sheet * half + (half + i))
+      (nest * half + ((nest - 1 - sheet) * half + ((half + i) - half)))
       (le-ltb (half + i) half (omega arith))
       ∙ (ap₂ (λ x y. nest * half + (x * half + y)) d b ∙ e))))
 
   first_halves : flat_map (λ (sheet : Sheet). first_half (sheet_reading folds sheet)) (signature_of layout signature)
       ≡ map due (range_with_len 0 (nest * half))
-  first_halves = flat_map-map (λ (sheet : Sheet). first_half (sheet_reading folds sheet)) (sheet_of layout start) (range_with_len 0 nest)
+  first_halves =
+      flat_map-map (λ (sheet : Sheet). first_half (sheet_reading folds sheet)) (sheet_of layout start)
+      (range_with_len 0 nest)
       ∙ joined due (λ sheet. first_half (sheet_reading folds (sheet_of layout start sheet))) 0 0 half nest
       (λ i l. let z : 0 + i ≡ i = omega arith in
       ap (λ s. first_half (sheet_reading folds (sheet_of layout start s))) z ∙ first_reads i)
 
-  second_halves : flat_map (λ (sheet : Sheet). second_half (sheet_reading folds sheet)) (reverse (signature_of layout signature))
+  second_halves : flat_map (λ (sheet : Sheet). second_half (sheet_reading folds sheet))
+      (reverse (signature_of layout signature))
       ≡ map due (range_with_len (nest * half) (nest * half))
   second_halves =
       let z : nest * half + 0 * half ≡ nest * half = omega arith in
-      ap (flat_map (λ (sheet : Sheet). second_half (sheet_reading folds sheet))) (sym (map_reverse (sheet_of layout start) (range_with_len 0 nest)))
-      ∙ (flat_map-map (λ (sheet : Sheet). second_half (sheet_reading folds sheet)) (sheet_of layout start) (reverse (range_with_len 0 nest))
-      ∙ (joined_back due (λ sheet. second_half (sheet_reading folds (sheet_of layout start sheet))) (nest * half) half nest 0
+      ap (flat_map (λ (sheet : Sheet). second_half (sheet_reading folds sheet)))
+      (sym (map_reverse (sheet_of layout start) (range_with_len 0 nest)))
+      ∙ (flat_map-map (λ (sheet : Sheet). second_half (sheet_reading folds sheet)) (sheet_of layout start)
+      (reverse (range_with_len 0 nest))
+      ∙ (joined_back due (λ sheet. second_half (sheet_reading folds (sheet_of layout start sheet)))
+      (nest * half) half nest 0
       (λ i later e. second_reads i later (omega (arith, e)))
       ∙ ap (λ k. map due (range_with_len k (nest * half))) z))
 
@@ -127,7 +139,8 @@ module _ (folds nest pages : ℕ) (order : AreInOrder folds) (signature : ℕ) w
   signature_reads =
       let z : 0 + nest * half ≡ nest * half = omega arith in
       ap₂ (λ x y. x ++ y) first_halves (second_halves ∙ ap (λ k. map due (range_with_len k (nest * half))) (sym z))
-      ∙ (sym (map_append_range due 0 (nest * half) (nest * half)) ∙ ap (λ n. map due (range_with_len 0 n)) (whole (sheet_pages folds) order.twice))
+      ∙ (sym (map_append_range due 0 (nest * half) (nest * half))
+      ∙ ap (λ n. map due (range_with_len 0 n)) (whole (sheet_pages folds) order.twice))
     where
       whole : (size : ℕ) → size ≡ half + half → nest * half + nest * half ≡ nest * size
       whole size is = doubled nest half ∙ ap (λ n. nest * n) (sym is)
@@ -141,13 +154,15 @@ ceiling : (pages size : ℕ) → 1 ≤ size →
     (pages ≤ (pages + (size - 1)) / size * size)
     × ((fewer : ℕ) → pages ≤ fewer * size → (pages + (size - 1)) / size ≤ fewer)
 ceiling pages size some =
-    let whole : (pages + (size - 1)) / size * size + (pages + (size - 1)) % size ≡ pages + (size - 1) = div-add-mod' (pages + (size - 1)) size in
+    let whole : (pages + (size - 1)) / size * size + (pages + (size - 1)) % size ≡ pages + (size - 1) =
+    div-add-mod' (pages + (size - 1)) size in
     let small : (pages + (size - 1)) % size < size = mod-lt (pages + (size - 1)) (omega (arith, some)) in (
       omega (arith, whole, small, some),
       λ fewer holds.
           let more : suc fewer * size ≡ fewer * size + size = suc-mul fewer size in
           let below : (pages + (size - 1)) / size < suc fewer =
-          (div-lt_iff_lt-mul {k = size} {x = pages + (size - 1)} {y = suc fewer} (omega (arith, some))).1 (omega (arith, holds, more, some)) in
+          (div-lt_iff_lt-mul {k = size} {x = pages + (size - 1)} {y = suc fewer} (omega (arith, some))).1
+          (omega (arith, holds, more, some)) in
           omega (arith, below),
     )
 
@@ -166,14 +181,21 @@ module _ (folds nest pages : ℕ) (order : AreInOrder folds) (some : 1 ≤ nest)
       product (suc a) b one other = let e : suc a * b ≡ a * b + b = suc-mul a b in omega (arith, e, other)
 
   signature_long : (signature : ℕ) → length (signature_of (layout_of folds nest pages) signature) ≡ nest
-  signature_long signature = length-map-range_with_len (sheet_of (layout_of folds nest pages) (signature * signature_pages folds nest)) 0 nest
+  signature_long signature =
+      length-map-range_with_len (sheet_of (layout_of folds nest pages) (signature * signature_pages folds nest)) 0 nest
 
-  all_read : readings folds nest count (imposed folds nest pages) ≡ map (page_at pages) (range_with_len 0 (count * size))
-  all_read = ap (flat_map (signature_reading folds)) (cut_joined (signature_of (layout_of folds nest pages)) nest 0 count signature_long)
+  all_read : readings folds nest count (imposed folds nest pages)
+      ≡ map (page_at pages) (range_with_len 0 (count * size))
+  all_read =
+      ap (flat_map (signature_reading folds))
+      (cut_joined (signature_of (layout_of folds nest pages)) nest 0 count signature_long)
       ∙ (flat_map-map (signature_reading folds) (signature_of (layout_of folds nest pages)) (range_with_len 0 count)
-      ∙ joined (page_at pages) (λ signature. signature_reading folds (signature_of (layout_of folds nest pages) signature)) 0 0 size count (λ i l.
+      ∙ joined (page_at pages)
+      (λ signature. signature_reading folds (signature_of (layout_of folds nest pages) signature)) 0 0 size count
+      (λ i l.
       let z : 0 + i ≡ i = omega arith in
-      ap (λ s. signature_reading folds (signature_of (layout_of folds nest pages) s)) z ∙ (signature_reads folds nest pages order i
+      ap (λ s. signature_reading folds (signature_of (layout_of folds nest pages) s)) z
+      ∙ (signature_reads folds nest pages order i
       ∙ alike (due folds nest pages order i) (page_at pages) 0 (0 + i * size) size (λ j m.
       let e : i * size + (0 + j) ≡ (0 + i * size) + j = omega arith in ap (page_at pages) e))))
 
@@ -198,12 +220,16 @@ module _ (folds nest pages : ℕ) (order : AreInOrder folds) (some : 1 ≤ nest)
   sheets_count : length (imposed folds nest pages) ≡ count * nest
   sheets_count = counted 0 count
     where
-      counted : (a n : ℕ) → length (flat_map (signature_of (layout_of folds nest pages)) (range_with_len a n)) ≡ n * nest
+      counted : (a n : ℕ) →
+          length (flat_map (signature_of (layout_of folds nest pages)) (range_with_len a n)) ≡ n * nest
       counted a zero = let z : 0 ≡ 0 * nest = omega arith in z
-      counted a (suc n) = length_append_of (signature_of (layout_of folds nest pages) a) (flat_map (signature_of (layout_of folds nest pages)) (range_with_len (a + 1) n))
+      counted a (suc n) =
+          length_append_of (signature_of (layout_of folds nest pages) a)
+          (flat_map (signature_of (layout_of folds nest pages)) (range_with_len (a + 1) n))
           (signature_long a) (counted (a + 1) n)
         where
-          length_append_of : (xs ys : List Sheet) → length xs ≡ nest → length ys ≡ n * nest → length (xs ++ ys) ≡ suc n * nest
+          length_append_of : (xs ys : List Sheet) → length xs ≡ nest → length ys ≡ n * nest →
+              length (xs ++ ys) ≡ suc n * nest
           length_append_of xs ys long rest =
               let e : suc n * nest ≡ n * nest + nest = suc-mul n nest in
               let s : length (xs ++ ys) ≡ length xs + length ys = length-append xs ys in

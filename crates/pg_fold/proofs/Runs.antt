@@ -32,7 +32,8 @@ range_append a (suc n) m =
 
 pub map_append_range : {A : Type 0} (f : ℕ → A) (a n m : ℕ) →
     map f (range_with_len a (n + m)) ≡ map f (range_with_len a n) ++ map f (range_with_len (a + n) m)
-map_append_range f a n m = ap (map f) (range_append a n m) ∙ map-append f (range_with_len a n) (range_with_len (a + n) m)
+map_append_range f a n m = ap (map f) (range_append a n m)
+    ∙ map-append f (range_with_len a n) (range_with_len (a + n) m)
 
 -- runs of one length, one behind another
 pub joined : {A : Type 0} (v : ℕ → A) (run : ℕ → List A) (a start size n : ℕ) →
@@ -50,8 +51,10 @@ joined v run a start size (suc n) same =
     let e : suc i * size ≡ i * size + size = suc-mul i size in
     let si : start + suc i * size ≡ (start + size) + i * size = omega (arith, e) in
     ap run ai ∙ (same (suc i) (omega (arith, l)) ∙ ap (λ k. map v (range_with_len k size)) si)) in
-    let count : size + n * size ≡ suc n * size = let e : suc n * size ≡ n * size + size = suc-mul n size in omega (arith, e) in
-    ap₂ (λ x y. x ++ y) head rest ∙ (sym (map_append_range v start size (n * size)) ∙ ap (λ k. map v (range_with_len start k)) count)
+    let count : size + n * size ≡ suc n * size = let e : suc n * size ≡ n * size + size =
+    suc-mul n size in omega (arith, e) in
+    ap₂ (λ x y. x ++ y) head rest
+    ∙ (sym (map_append_range v start size (n * size)) ∙ ap (λ k. map v (range_with_len start k)) count)
 
 -- the same from the last to the first: the i-th of n stands n - 1 - i runs behind the start
 pub joined_back : {A : Type 0} (v : ℕ → A) (run : ℕ → List A) (start size n behind : ℕ) →
@@ -61,13 +64,17 @@ joined_back v run start size zero behind same =
     let z : 0 ≡ 0 * size = omega arith in ap (λ k. map v (range_with_len (start + behind * size) k)) z
 joined_back v run start size (suc n) behind same =
     let turn : reverse (range_with_len 0 (suc n)) ≡ n ∷ reverse (range_with_len 0 n) =
-    ap reverse (range_more 0 n) ∙ (turned (range_with_len 0 n) (0 + n) ∙ ap (λ k. k ∷ reverse (range_with_len 0 n)) (let z : 0 + n ≡ n = omega arith in z)) in
+    ap reverse (range_more 0 n)
+    ∙ (turned (range_with_len 0 n) (0 + n)
+    ∙ ap (λ k. k ∷ reverse (range_with_len 0 n)) (let z : 0 + n ≡ n = omega arith in z)) in
     let head : run n ≡ map v (range_with_len (start + behind * size) size) = same n behind (omega arith) in
-    let rest : flat_map run (reverse (range_with_len 0 n)) ≡ map v (range_with_len (start + suc behind * size) (n * size)) =
+    let rest : flat_map run (reverse (range_with_len 0 n))
+    ≡ map v (range_with_len (start + suc behind * size) (n * size)) =
     joined_back v run start size n (suc behind) (λ i later e. same i later (omega (arith, e))) in
     let more : start + suc behind * size ≡ (start + behind * size) + size =
     let e : suc behind * size ≡ behind * size + size = suc-mul behind size in omega (arith, e) in
-    let count : size + n * size ≡ suc n * size = let e : suc n * size ≡ n * size + size = suc-mul n size in omega (arith, e) in
+    let count : size + n * size ≡ suc n * size = let e : suc n * size ≡ n * size + size =
+    suc-mul n size in omega (arith, e) in
     ap (flat_map run) turn
     ∙ (ap₂ (λ x y. x ++ y) head (rest ∙ ap (λ k. map v (range_with_len k (n * size))) more)
     ∙ (sym (map_append_range v (start + behind * size) size (n * size))
@@ -91,9 +98,11 @@ cut_joined run size a (suc n) long = ap₂ (λ x xs. x ∷ xs)
 
 pub all_zero : (f : ℕ → ℕ) (a n : ℕ) → ((i : ℕ) → a ≤ i → f i ≡ 0) → map f (range_with_len a n) ≡ replicate n 0
 all_zero f a zero zeros = refl
-all_zero f a (suc n) zeros = ap₂ (λ x xs. x ∷ xs) (zeros a (omega arith)) (all_zero f (a + 1) n (λ i l. zeros i (omega (arith, l))))
+all_zero f a (suc n) zeros =
+    ap₂ (λ x xs. x ∷ xs) (zeros a (omega arith)) (all_zero f (a + 1) n (λ i l. zeros i (omega (arith, l))))
 
-pub map_same : {A : Type 0} (f : ℕ → ℕ) (a n : ℕ) → (v : ℕ → A) → map (λ i. v (f i)) (range_with_len a n) ≡ map v (map f (range_with_len a n))
+pub map_same : {A : Type 0} (f : ℕ → ℕ) (a n : ℕ) → (v : ℕ → A) →
+    map (λ i. v (f i)) (range_with_len a n) ≡ map v (map f (range_with_len a n))
 map_same f a zero v = refl
 map_same f a (suc n) v = ap (λ xs. v (f a) ∷ xs) (map_same f (a + 1) n v)
 
@@ -103,7 +112,8 @@ pub joined_more : {A : Type 0} (run : ℕ → List A) (n : ℕ) →
 joined_more run n =
     let z : 0 + n ≡ n = omega arith in
     ap (flat_map run) (range_append 0 n 1 ∙ ap (λ k. range_with_len 0 n ++ k ∷ []) z)
-    ∙ (flat_map-append run (range_with_len 0 n) (n ∷ []) ∙ ap (λ xs. flat_map run (range_with_len 0 n) ++ xs) (append-nil (run n)))
+    ∙ (flat_map-append run (range_with_len 0 n) (n ∷ [])
+    ∙ ap (λ xs. flat_map run (range_with_len 0 n) ++ xs) (append-nil (run n)))
 
 pub joined_next : {A : Type 0} (run : ℕ → List A) (n : ℕ) (old new : List A) →
     old ≡ flat_map run (range_with_len 0 n) → new ≡ old ++ run n → new ≡ flat_map run (range_with_len 0 (n + 1))

@@ -12,7 +12,8 @@ two_pages = refl
 folded_twice : imposed 2 1 8 ≡ record { front = 2 ∷ 3 ∷ 7 ∷ 6 ∷ []; back = 1 ∷ 4 ∷ 8 ∷ 5 ∷ [] } ∷ []
 folded_twice = refl
 
-two_nested : imposed 1 2 8 ≡ record { front = 2 ∷ 7 ∷ []; back = 1 ∷ 8 ∷ [] } ∷ record { front = 4 ∷ 5 ∷ []; back = 3 ∷ 6 ∷ [] } ∷ []
+two_nested : imposed 1 2 8 ≡ record { front = 2 ∷ 7 ∷ []; back = 1 ∷ 8 ∷ [] }
+    ∷ record { front = 4 ∷ 5 ∷ []; back = 3 ∷ 6 ∷ [] } ∷ []
 two_nested = refl
 
 no_pages : imposed 1 1 0 ≡ []
@@ -20,7 +21,8 @@ no_pages = refl
 
 -- ---- texts, and sheets of more folds
 
-two_pages_text : fold_text 1 1 2 (imposed 1 1 2) ≡ codes "signatures 1 sheets 1 pages 2 blank 2\nsheet 1 front 2 -\nsheet 1 back 1 -\n"
+two_pages_text : fold_text 1 1 2 (imposed 1 1 2)
+    ≡ codes "signatures 1 sheets 1 pages 2 blank 2\nsheet 1 front 2 -\nsheet 1 back 1 -\n"
 unfolding head_line head_front side_line digits
 two_pages_text = refl
 
@@ -47,12 +49,14 @@ two_signatures : imposed 2 2 17 ≡ record { front = 2 ∷ 3 ∷ 15 ∷ 14 ∷ [
     ∷ record { front = 0 ∷ 0 ∷ 0 ∷ 0 ∷ []; back = 0 ∷ 0 ∷ 0 ∷ 0 ∷ [] } ∷ []
 two_signatures = refl
 
-three_nested : imposed 1 3 9 ≡ record { front = 2 ∷ 0 ∷ []; back = 1 ∷ 0 ∷ [] } ∷ record { front = 4 ∷ 9 ∷ []; back = 3 ∷ 0 ∷ [] }
+three_nested : imposed 1 3 9 ≡ record { front = 2 ∷ 0 ∷ []; back = 1 ∷ 0 ∷ [] }
+    ∷ record { front = 4 ∷ 9 ∷ []; back = 3 ∷ 0 ∷ [] }
     ∷ record { front = 6 ∷ 7 ∷ []; back = 5 ∷ 8 ∷ [] } ∷ []
 three_nested = refl
 
 -- a sheet that is read in another order than it is printed: the definition alone, with pages laid by hand
-read_by_hand : readings 2 1 1 (record { front = 2 ∷ 3 ∷ 7 ∷ 6 ∷ []; back = 1 ∷ 4 ∷ 8 ∷ 5 ∷ [] } ∷ []) ≡ 1 ∷ 2 ∷ 3 ∷ 4 ∷ 5 ∷ 6 ∷ 7 ∷ 8 ∷ []
+read_by_hand : readings 2 1 1 (record { front = 2 ∷ 3 ∷ 7 ∷ 6 ∷ []; back = 1 ∷ 4 ∷ 8 ∷ 5 ∷ [] } ∷ []) ≡ 1 ∷ 2 ∷ 3 ∷ 4
+    ∷ 5 ∷ 6 ∷ 7 ∷ 8 ∷ []
 read_by_hand = refl
 
 swapped_reads : readings 1 1 1 (record { front = 1 ∷ 4 ∷ []; back = 2 ∷ 3 ∷ [] } ∷ []) ≡ 2 ∷ 1 ∷ 4 ∷ 3 ∷ []

@@ -72,7 +72,8 @@ sheet_place folds side cell = sheet_pages folds - 1 - (face_after folds (face_of
 
 -- ---- pages
 
--- the place in the reading of a signature of what stands at a place in the reading of its sheet, counted from the outermost
+-- the place in the reading of a signature of what stands at a place in the reading of its sheet; sheets are counted from
+-- the outermost
 abbrev pub signature_place : ℕ → ℕ → ℕ → ℕ → ℕ
 signature_place half nest sheet place =
     if nat_lt place half then sheet * half + place else nest * half + ((nest - 1 - sheet) * half + (place - half))
@@ -84,7 +85,8 @@ page_at pages place = if nat_lt place pages then place + 1 else 0
 -- the page of a cell of a sheet; `start` is the number of pages that the signatures before this one hold
 abbrev pub cell_page : Layout → ℕ → ℕ → Side → ℕ → ℕ
 cell_page layout start sheet side cell =
-    page_at layout.pages (start + signature_place (2 ^ layout.folds) layout.nest sheet (sheet_place layout.folds side cell))
+    page_at layout.pages
+    (start + signature_place (2 ^ layout.folds) layout.nest sheet (sheet_place layout.folds side cell))
 
 abbrev pub cells : Layout → ℕ → ℕ → Side → List ℕ
 cells layout start sheet side = map (cell_page layout start sheet side) (range_with_len 0 (2 ^ layout.folds))

@@ -25,7 +25,8 @@ fn print_both(
     other: u128,
     out: &mut Vec<u8>,
 ) -> Result<(), AllocError>
-    ensures ok { OnOk result (out.new.items ≡ out.old.items ++ ((first.now ++ decimal one) ++ (second.now ++ decimal other))) }
+    ensures ok { OnOk result (out.new.items
+        ≡ out.old.items ++ ((first.now ++ decimal one) ++ (second.now ++ decimal other))) }
     ensures grows { Grows out.old.items out.new.items }
 {
     print_counted(first, one, out)?;

@@ -8,4 +8,5 @@ pub loop-sheet-preserved : goal.loop-sheet-preserved
 loop-sheet-preserved c =
     mapped_next (sheet_of c.args.layout.now c.args.start)
     c.loop-sheet.sheet c.args.sheets.now c.loop-sheet.sheets c.push.new.self c.loop-sheet.invariant
-    (c.in_ok-push.ensures.ok ∙ ap (λ it. c.loop-sheet.sheets ++ it ∷ []) (ap₂ sheet c.in_ok-cells.ensures c.in_ok-cells-2.ensures))
+    (c.in_ok-push.ensures.ok
+    ∙ ap (λ it. c.loop-sheet.sheets ++ it ∷ []) (ap₂ sheet c.in_ok-cells.ensures c.in_ok-cells-2.ensures))
