@@ -1,6 +1,6 @@
 -- What stands behind so many items of a page.
-use Rattle.std.proofs.Common.{◌≡◌, ◌∙◌, refl, sym, ap, subst, arith, ℕ, zero, suc, ◌+◌, ◌-◌, ◌<◌, ◌≤◌, Bool, true, false, true≢false, List, [], ◌∷◌, take, drop, length, ◌^◌, Option, Some, None, pos}
-use Rattle.std.specs.Prelude.{◌==◌, ◌&&◌, if◌then◌else◌, slice_get, option_copied, IfSome, ℤ, ◌+ℤ◌, ◌-ℤ◌}
+use Rattle.std.proofs.Common.{◌≡◌, ◌∙◌, sym, ap, arith, ℕ, zero, suc, ◌+◌, ◌-◌, ◌<◌, ◌≤◌, Bool, true, false, true≢false, List, [], take, length, ◌^◌, Option, Some, None}
+use Rattle.std.specs.Prelude.{◌==◌, slice_get, option_copied, IfSome, ℤ, ◌+ℤ◌, ◌-ℤ◌}
 use Rattle.std.specs.List.{list_any, AllByRecursion}
 use Rattle.std.specs.Borrow.{Bor}
 use Rattle.std.proofs.lemmas.Bool.{eqb-true}
@@ -17,11 +17,10 @@ use Rattle.pg_flat.specs.Flat.{blocks_at, flat_items_at, steps_to}
 use Rattle.pg_flat.specs.Totals.{trimmed}
 use Rattle.pg_breaks.specs.Read.{AreNamed, items_at}
 use Rattle.pg_column.proofs.Spans.{item_range}
-use Rattle.pg_style.specs.Values.{StyleValue}
 use Rattle.pg_rules.specs.Room.{extra, notes}
 use Rattle.pg_greedy.specs.Breaks.{front_goal}
 use Rattle.pg_greedy.specs.Looking.{AreRead, IsBuilder, items_from, style_of}
-use Rattle.pg_greedy.specs.Single.{AreSingle, singles}
+use Rattle.pg_greedy.specs.Single.{singles}
 use Rattle.pg_greedy.specs.declared.look.Builder.{Builder}
 use Rattle.pg_greedy.specs.declared.read.Read.{Read}
 use Rattle.pg_greedy.proofs.Singles.{get_behind, item_single, items_single, no_picks, rest_long, steps_single}

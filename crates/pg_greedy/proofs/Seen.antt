@@ -1,8 +1,8 @@
 -- What a look at one break finds.
-use Rattle.std.proofs.Common.{◌≡◌, ◌∙◌, refl, sym, ap, ap₂, arith, ℕ, suc, ◌+◌, ◌≤◌, Bool, true, false, List, take, length, Option, Some, None, pos, negsuc}
-use Rattle.std.specs.Prelude.{◌==◌, ◌&&◌, ◌||◌, if◌then◌else◌, is_some, unwrap_or, option_map, ℤ, ◌+ℤ◌, ◌-ℤ◌, int_le, IfSome}
+use Rattle.std.proofs.Common.{◌≡◌, ◌∙◌, refl, sym, ap, ap₂, ℕ, ◌+◌, Bool, true, false, List, take, length, Option, Some, None, pos, negsuc}
+use Rattle.std.specs.Prelude.{◌==◌, ◌&&◌, ◌||◌, if◌then◌else◌, is_some, unwrap_or, ℤ, int_le}
 use Rattle.std.specs.List.{list_any}
-use Rattle.pg_lemmas.proofs.Bools.{both, both_of, if_false, if_true}
+use Rattle.pg_lemmas.proofs.Bools.{both, if_false, if_true}
 use Rattle.pg_lemmas.proofs.Numbers.{eq_yes}
 use Rattle.pg_list.specs.Shapes.{is_box}
 use Rattle.pg_list.specs.declared.item.Item.{Item}
@@ -11,7 +11,7 @@ use Rattle.pg_flat.specs.Break.{break_penalty, is_spent}
 use Rattle.pg_flat.specs.Totals.{shrink}
 use Rattle.pg_style.specs.Values.{StyleValue}
 use Rattle.pg_greedy.specs.Ahead.{better, look}
-use Rattle.pg_greedy.specs.Breaks.{badness_at, break_cost, cost_by, ejects_at, front, front_goal, front_total, is_over_at, is_seen, penalty_at, stops_at}
+use Rattle.pg_greedy.specs.Breaks.{badness_at, break_cost, cost_by, front, front_goal, front_total, is_over_at, is_seen, penalty_at, stops_at}
 use Rattle.pg_greedy.specs.Looking.{IsLook, IsPriced, counted, judged_at, seen_penalty}
 use Rattle.pg_greedy.specs.declared.judged.Judged.{Judged}
 use Rattle.pg_greedy.specs.declared.look.Candidate.{Candidate}

@@ -1,5 +1,5 @@
 -- Galleys without choices: the items from a block on, and how many stand before a place.
-use Rattle.std.proofs.Common.{◌≡◌, ◌∙◌, refl, sym, ap, subst, arith, ℕ, zero, suc, ◌+◌, ◌-◌, ◌<◌, ◌≤◌, Bool, true, false, List, [], ◌∷◌, ◌++◌, map, length, take, drop, Option, Some, None}
+use Rattle.std.proofs.Common.{◌≡◌, ◌∙◌, refl, sym, ap, arith, ℕ, zero, suc, ◌+◌, ◌-◌, ◌<◌, ◌≤◌, Bool, true, false, List, [], ◌∷◌, ◌++◌, map, length, take, drop, Option, Some, None}
 use Rattle.std.specs.Prelude.{◌==◌, ◌&&◌, if◌then◌else◌, is_some, nat_lt, option_map, slice_get}
 use Rattle.std.specs.List.{position}
 use Rattle.std.proofs.lemmas.Bool.{eqb-true}
@@ -9,9 +9,8 @@ use Rattle.pg_lemmas.proofs.Numbers.{eq_no, eq_not, eq_yes, less_true, not_less}
 use Rattle.pg_list.specs.Places.{item_at, place}
 use Rattle.pg_list.specs.declared.blocks.Block.{Block}
 use Rattle.pg_list.specs.declared.blocks.Block.TheVariants.{One, Choice}
-use Rattle.pg_list.specs.declared.galley.Place.{Place}
 use Rattle.pg_list.specs.declared.item.Item.{Item}
-use Rattle.pg_flat.specs.Flat.{FlatItem, blocks_at, end_of, flat, flat_items_at, flat_items_from, is_same_place, picked_variants, steps_to}
+use Rattle.pg_flat.specs.Flat.{FlatItem, end_of, flat, flat_items_at, flat_items_from, is_same_place, steps_to}
 use Rattle.pg_breaks.specs.Read.{AreNamed, items_at}
 use Rattle.pg_column.proofs.Leads.{is_at, position_here, position_later}
 use Rattle.pg_style.specs.Values.{StyleValue}

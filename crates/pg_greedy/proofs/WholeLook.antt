@@ -1,5 +1,5 @@
 -- A whole look, break by break, and what it comes to.
-use Rattle.std.proofs.Common.{◌≡◌, ◌∙◌, refl, sym, ap, arith, ℕ, zero, suc, ◌+◌, ◌-◌, ◌<◌, ◌≤◌, Bool, true, false, List, [], ◌∷◌, take, drop, length, length-take, Option, Some, None}
+use Rattle.std.proofs.Common.{◌≡◌, ◌∙◌, sym, ap, arith, ℕ, suc, ◌+◌, ◌-◌, ◌≤◌, List, length, length-take, Option, Some, None}
 use Rattle.std.specs.Prelude.{unwrap_or, slice_get}
 use Rattle.pg_lemmas.proofs.Bools.{by_bool}
 use Rattle.pg_lemmas.proofs.Lists.{some_at}

@@ -14,7 +14,7 @@ use Rattle.pg_greedy.specs.Breaks.{break_cost}
 use Rattle.pg_greedy.specs.Faults.{greedy_fault}
 use Rattle.pg_greedy.specs.declared.fault.GreedyFault.TheVariants.{Columns, Choice, Float}
 use Rattle.pg_greedy.specs.Ahead.{first_fit}
-use Rattle.pg_greedy.specs.Compare.{best_line, broken_text, first_line, none_line, pages_text, saved_text}
+use Rattle.pg_greedy.specs.Compare.{best_line, breach_text, broken_text, first_line, pages_text, saved_text}
 
 -- pages of one column each, cut at these blocks
 abbrev from : ℕ → List ℕ → List Page
@@ -82,7 +82,7 @@ high_fit = refl
 high_text : first_line 2
     (breach (galley (BoxItem (points 60) (pos 0) [] ∷ gap ∷ line ∷ [])) (plain 34) (cut (1 ∷ 3 ∷ []))) (pos 0) (pos 0)
     ≡ codes "first fit pages 2 illegal rule 4 column 1\n"
-unfolding breach pages_text broken_text digits
+unfolding breach pages_text breach_text broken_text digits
 high_text = refl
 
 -- one box that no page can hold
@@ -93,9 +93,9 @@ tall_fit : first_fit tall (plain 550) ≡ cut (1 ∷ [])
 unfolding first_fit
 tall_fit = refl
 
-tall_text : first_line 1 (breach tall (plain 550) (cut (1 ∷ []))) (pos 0) (pos 0) ++ none_line
-    ≡ codes "first fit pages 1 illegal rule 4 column 1\nno legal pagination\n"
-unfolding breach pages_text broken_text none_line digits
+tall_text : first_line 1 (breach tall (plain 550) (cut (1 ∷ []))) (pos 0) (pos 0)
+    ≡ codes "first fit pages 1 illegal rule 4 column 1\n"
+unfolding breach pages_text breach_text broken_text digits
 tall_text = refl
 
 -- of breaks of one cost the last is taken

@@ -1,4 +1,4 @@
-use Rattle.std.proofs.Common.{◌≡◌, ◌++◌, ◌-◌, ◌≤◌, length, List}
+use Rattle.std.proofs.Common.{◌++◌, ◌-◌, ◌≤◌, length, List}
 use Rattle.pg_plan.specs.declared.pages.Page.{Page}
 use Rattle.pg_greedy.specs.FirstFit.{AreFirstFit}
 use Rattle.pg_greedy.specs.Looking.{items_from, style_of}

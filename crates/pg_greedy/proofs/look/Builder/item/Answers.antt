@@ -1,6 +1,4 @@
-use Rattle.std.proofs.Common.{◌∙◌, ◌+◌, ap}
-use Rattle.pg_list.specs.Places.{item_at}
-use Rattle.pg_greedy.specs.Single.{singles}
+use Rattle.std.proofs.Common.{◌∙◌}
 use Rattle.pg_greedy.proofs.Places.{few_behind, in_range, item_here}
 use Rattle.pg_greedy.proofs.look.Builder.item.Goals as goal
 

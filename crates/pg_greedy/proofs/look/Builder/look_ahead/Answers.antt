@@ -1,11 +1,11 @@
-use Rattle.std.proofs.Common.{◌≡◌, ◌∙◌, ◌+◌, ◌-◌, ◌<◌, sym, ap, subst, arith, length, Option, None, ℕ}
+use Rattle.std.proofs.Common.{◌≡◌, ◌-◌, ◌<◌, sym, subst, arith, length, Option, None, ℕ}
 use Rattle.std.proofs.lemmas.Option.{slice_get_within}
 use Rattle.pg_greedy.specs.Looking.{IsLook, items_from, style_of}
 use Rattle.pg_greedy.specs.declared.look.Candidate.{Candidate}
 use Rattle.pg_greedy.specs.declared.look.Looked.TheVariants.{GoesOn}
 use Rattle.pg_greedy.proofs.Places.{read_within}
 use Rattle.pg_greedy.proofs.Singles.{take_next}
-use Rattle.pg_greedy.proofs.WholeLook.{Looks, ended, ends_taken, found_taken, looks_first, looks_next, none_taken, read_counts}
+use Rattle.pg_greedy.proofs.WholeLook.{Looks, ended, ends_taken, found_taken, looks_first, looks_next, none_taken}
 use Rattle.pg_greedy.proofs.look.Builder.look_ahead.Goals as goal
 
 pub items-init : goal.items-init

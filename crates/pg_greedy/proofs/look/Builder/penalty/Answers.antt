@@ -1,7 +1,5 @@
-use Rattle.std.proofs.Common.{◌≡◌, ◌∙◌, sym, ap, rules, Some, to_z, of_z, w32, w64}
+use Rattle.std.proofs.Common.{◌∙◌, sym, ap, rules, Some, w32, w64}
 use Rattle.std.proofs.lemmas.Int.{to_z-of_z}
-use Rattle.std.specs.Prelude.{ℤ}
-use Rattle.pg_flat.specs.Break.{break_penalty}
 use Rattle.pg_greedy.specs.Looking.{items_from}
 use Rattle.pg_greedy.proofs.Places.{last_here, not_last, penalty_here}
 use Rattle.pg_greedy.proofs.Seen.{break_at_end, break_inside, no_break}

@@ -1,4 +1,4 @@
-use Rattle.std.proofs.Common.{◌≡◌, ◌≤◌, sym, subst, arith, length}
+use Rattle.std.proofs.Common.{◌≤◌, sym, subst, arith, length}
 use Rattle.pg_greedy.specs.FirstFit.{Takes}
 use Rattle.pg_greedy.specs.Looking.{items_from, style_of}
 use Rattle.pg_greedy.proofs.LookAhead.{takes}
