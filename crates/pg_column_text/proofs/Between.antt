@@ -30,7 +30,8 @@ module _ (blocks : List Block) (all : AllByRecursion IsBlock blocks) (at : Place
 
     pub between_on : (not is_end && is_same_place at to) ≡ false → (more : List Item) → more ≡ read ++ item ∷ [] →
         more ++ items_to is_end to (later blocks all at picks is named) ≡ whole
-    between_on f more push = ap (λ (items : List Item). items ++ items_to is_end to (later blocks all at picks is named)) push
+    between_on f more push =
+        ap (λ (items : List Item). items ++ items_to is_end to (later blocks all at picks is named)) push
         ∙ append_assoc read (item ∷ []) (items_to is_end to (later blocks all at picks is named))
         ∙ ap (λ (items : List Item). read ++ items)
         (sym (ap (items_to is_end to) (opened blocks all at picks is named item e)

@@ -1,5 +1,5 @@
 -- The items up to a place are those of as many steps.
-use Rattle.std.proofs.Common.{◌≡◌, ◌∙◌, refl, sym, ap, arith, ℕ, suc, Bool, true, false, List, [], ◌∷◌, ◌++◌, map, length, take, Option, Some, None}
+use Rattle.std.proofs.Common.{◌≡◌, ◌∙◌, refl, sym, ap, arith, ℕ, suc, Bool, true, false, List, [], ◌∷◌, map, length, take, Option, Some, None}
 use Rattle.std.specs.Prelude.{◌&&◌, ◌==◌, if◌then◌else◌, option_map}
 use Rattle.std.specs.List.{position}
 use Rattle.std.specs.Option.{option_map_or}
@@ -35,7 +35,8 @@ items_part to (x ∷ xs) n e = by_bool (is_at to x)
     same a b e = cc
 
     later : (o : Option ℕ) → position (is_at to) xs ≡ o → option_map suc (position (is_at to) xs) ≡ Some n →
-        ((m : ℕ) → position (is_at to) xs ≡ Some m → items_to false to xs ≡ take m (map (λ (x : FlatItem). x.item) xs)) →
+        ((m : ℕ) → position (is_at to) xs ≡ Some m →
+        items_to false to xs ≡ take m (map (λ (x : FlatItem). x.item) xs)) →
         x.item ∷ items_to false to xs ≡ take n (map (λ (x : FlatItem). x.item) (x ∷ xs))
     later None p q more = absurd (let k : None ≡ Some n = sym (ap (option_map suc) p) ∙ q in cc)
     later (Some m) p q more = let s : suc m ≡ n = same (suc m) n (sym (ap (option_map suc) p) ∙ q) in
@@ -75,7 +76,8 @@ fits blocks from picks to = by (steps_to blocks (flat_items_at blocks from picks
     by (Some n) e does = record {
       n = n;
       steps = e;
-      named = (both_of (fronts (flat_items_at blocks from picks) n == length picks) (are_named blocks from picks) does).1;
+      named = (both_of (fronts (flat_items_at blocks from picks) n == length picks)
+          (are_named blocks from picks) does).1;
     }
 
 pub fit_named : (blocks : List Block) (from : Place) (picks : List ℕ) (to : Place) →
