@@ -1,0 +1,10 @@
+mod Costs
+mod FitPages
+mod LookAhead
+mod OneFit
+mod OnePage
+mod Places
+mod Seen
+mod Singles
+mod WholeLook
+mod WorkedFits

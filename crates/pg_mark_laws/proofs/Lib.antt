@@ -1,0 +1,3 @@
+mod FittingColumns
+mod FlatMarks
+mod OneBest

@@ -1,0 +1,5 @@
+pub mod Carried
+mod FoundLabels
+pub mod PassedOver
+mod Printed
+mod WorkedMarks
