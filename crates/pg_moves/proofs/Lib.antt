@@ -1,5 +1,4 @@
 pub mod AllSteps
-pub mod Added
 pub mod Standing
 pub mod Stepped
 pub mod Built

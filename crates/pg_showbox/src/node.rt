@@ -184,9 +184,9 @@ fn name_len(bytes: &[u8]) -> usize
     bytes.iter().take_while(|b| **b != b')').count()
 }
 
-/// What a glue says behind its name, or its leftmost fault.
+// Glue, behind its name.
 #[tactic(auto, unfolding(crate::specs::Nodes::glue_at))]
-pub fn glue_node(bytes: &[u8]) -> Result<Node, ListKind>
+fn glue_node(bytes: &[u8]) -> Result<Node, ListKind>
     ensures value { result ≡ glue_at bytes.now }
     ensures range { IfOk result (λ node. IsNodeInRange node) }
 {
@@ -196,18 +196,18 @@ pub fn glue_node(bytes: &[u8]) -> Result<Node, ListKind>
     }
 }
 
-/// What leaders say behind their name, or their leftmost fault.
+// Leaders, behind their name.
 #[tactic(auto, unfolding(crate::specs::Nodes::leaders_at))]
-pub fn leaders_node(bytes: &[u8]) -> Result<Node, ListKind>
+fn leaders_node(bytes: &[u8]) -> Result<Node, ListKind>
     ensures value { result ≡ leaders_at bytes.now }
     ensures range { IfOk result (λ node. IsNodeInRange node) }
 {
     glue_text(true, expect(b" ", bytes)?)
 }
 
-/// What a kern says behind its name, or its leftmost fault.
+// A kern, behind its name.
 #[tactic(auto, unfolding(crate::specs::Nodes::kern_at))]
-pub fn kern_node(bytes: &[u8]) -> Result<Node, ListKind>
+fn kern_node(bytes: &[u8]) -> Result<Node, ListKind>
     ensures value { result ≡ kern_at bytes.now }
     ensures range { IfOk result (λ node. IsNodeInRange node) }
 {
@@ -215,9 +215,9 @@ pub fn kern_node(bytes: &[u8]) -> Result<Node, ListKind>
     Ok(Node::Kern { width })
 }
 
-/// What a penalty says behind its name, or its leftmost fault.
+// A penalty, behind its name.
 #[tactic(auto, unfolding(crate::specs::Nodes::penalty_at))]
-pub fn penalty_node(bytes: &[u8]) -> Result<Node, ListKind>
+fn penalty_node(bytes: &[u8]) -> Result<Node, ListKind>
     ensures value { result ≡ penalty_at bytes.now }
     ensures range { IfOk result (λ node. IsNodeInRange node) }
 {

@@ -1,4 +1,0 @@
-pub mod Items
-pub mod Nodes
-pub mod ParsedLine
-pub mod Reading
