@@ -1,7 +1,7 @@
 -- The steps of all columns.
-use Rattle.std.proofs.Common.{◌≡◌, refl, sym, ap, subst, ◌∙◌, List, [], ◌∷◌, ◌++◌, map, Bool, true, false, ℕ}
+use Rattle.std.proofs.Common.{◌≡◌, refl, sym, ap, subst, ◌∙◌, List, [], ◌∷◌, ◌++◌, map, Bool, true, false, ℕ, ℤ}
 use Rattle.std.specs.Prelude.{Contains, if◌then◌else◌, Result, Ok, Err, IfOk, IsErr, OnOk}
-use Rattle.std.specs.List.{filter, flat_map}
+use Rattle.std.specs.List.{AllByRecursion, filter, flat_map}
 use Rattle.pg_list.specs.GalleyValue.{GalleyValue}
 use Rattle.pg_list.specs.declared.galley.Place.{Place}
 use Rattle.pg_plan.specs.declared.pages.PageMove.{PageMove}
@@ -18,17 +18,24 @@ use Rattle.pg_rules.specs.Room.{Document}
 use Rattle.pg_reach_laws.specs.Laws.{IsTheReach}
 use Rattle.pg_reach_laws.specs.ReachAt.{reach_at}
 use Rattle.pg_space_laws.specs.PageSpace.{page_meaning}
-use Rattle.pg_table.specs.Space.{AreMoves}
+use Rattle.pg_table.specs.Space.{AreMoves, AreWanted}
+use Rattle.pg_table.specs.declared.step.Opened.{Opened}
+use Rattle.pg_table.proofs.Spared.{all_wanted}
+use Rattle.pg_walk.specs.declared.place.PlaceWalk.{PlaceWalk}
+use Rattle.pg_walk_laws.specs.Candidates.{AreCandidates}
+use Rattle.pg_walk_laws.specs.Reached.{tallest}
 use Rattle.pg_table.specs.declared.step.Step.{Step}
 use Rattle.pg_move_laws.specs.Laws.{ListedAreMoves, ReachIsCeiling}
-use Rattle.pg_move_laws.specs.Listed.{beyond, listed_floats, listed_stay, stays_on}
+use Rattle.pg_move_laws.specs.Listed.{beyond, listed_floats, listed_stay, listed_text, stays_on}
 use Rattle.pg_move_laws.specs.Steps.{IsCeiling, text_room}
 use Rattle.pg_laid.specs.Laid.{laid_of}
-use Rattle.pg_rooms.specs.PlaceEnds.{ArePlaceEnds, ends_in, has_room}
+use Rattle.pg_rooms.specs.PlaceEnds.{ArePlaceEnds, AreRoomEnds, ends_in, has_room}
 use Rattle.pg_rooms.specs.declared.place_ends.PlaceEnds.{PlaceEnds}
 use Rattle.pg_rooms.proofs.Kept.{room_right}
 use Rattle.pg_moves.specs.Stepping.{AreTextSteps, stay_in, steps_in}
 use Rattle.pg_laid.specs.declared.laid.Laid.{Laid}
+use Rattle.pg_moves.specs.Thinned.{Adds, Thins}
+use Rattle.pg_moves.proofs.Added.{thinned_moves, thins_all, thins_append}
 use Rattle.pg_moves.proofs.Stepped.{laid_steps}
 
 -- what layouts make of their pages is what each makes
@@ -38,19 +45,22 @@ laid_own doc u layouts it c = of_map (laid_of doc u) layouts it (contains_among 
     (λ layout a e. sym e ∙ ap (λ (x : Laid). laid_of doc u x.layout) e)
 
 pub text_steps_are : (doc : Document) (u : State) (ceiling : List ℕ) (kept : PlaceEnds) (laid : List Laid)
-    (old steps : List (Step State PageMove)) → laid ≡ map (laid_of doc u) (text_layouts doc u ceiling) →
+    (spared : State → ℤ → Bool) (old steps : List (Step State PageMove)) → laid ≡ map (laid_of doc u) (text_layouts doc u ceiling) →
     ((it : Laid) → Contains laid it → has_room kept.rooms.items it.room ≡ true) → ArePlaceEnds doc u.place kept →
-    old ≡ [] → steps ≡ old ++ flat_map (steps_in doc u kept.rooms.items) laid → AreTextSteps doc u ceiling steps
-text_steps_are doc u ceiling kept laid old steps e held right none is = record {
+    old ≡ [] → Adds spared old (flat_map (steps_in doc u kept.rooms.items) laid) steps →
+    AreTextSteps doc u ceiling spared steps
+text_steps_are doc u ceiling kept laid spared old steps e held right none adds = record {
   ends = λ layout. ends_in kept.rooms.items (text_room doc u layout);
   are = λ layout c. room_right doc u.place kept (text_room doc u layout) right
       (held (laid_of doc u layout) (subst (λ (xs : List Laid). Contains xs (laid_of doc u layout)) (sym e)
       (among_contains (map (laid_of doc u) (text_layouts doc u ceiling)) (laid_of doc u layout)
       (in_map (laid_of doc u) (text_layouts doc u ceiling) layout
       (contains_among (text_layouts doc u ceiling) layout c)))));
-  is = is ∙ (ap (λ (front : List (Step State PageMove)). front ++ flat_map (steps_in doc u kept.rooms.items) laid) none
-      ∙ (ap (flat_map (steps_in doc u kept.rooms.items)) e
-      ∙ laid_steps doc u kept.rooms.items (text_layouts doc u ceiling)));
+  thins = subst (Thins spared steps)
+      (ap (flat_map (steps_in doc u kept.rooms.items)) e
+      ∙ laid_steps doc u kept.rooms.items (text_layouts doc u ceiling))
+      (subst (λ (these : List (Step State PageMove)). Thins spared these (flat_map (steps_in doc u kept.rooms.items) laid))
+      (sym (adds.is ∙ ap (λ (front : List (Step State PageMove)). front ++ adds.kept) none)) adds.thins);
 }
 
 -- the steps of laid columns without text are those that are listed
@@ -75,17 +85,40 @@ floats_are doc u ceiling laid e c =
     ap (flat_map (stay_in doc u)) e ∙ (laid_stays doc u (float_layouts doc u ceiling)
     ∙ ap (λ (counts : List ℕ). map (listed_stay doc u) (filter (stays_on doc u) (float_layouts doc u counts))) c)
 
-pub opened : (galley : GalleyValue) (style : StyleValue) (u : State) (ceiling : List ℕ)
+pub opened : (galley : GalleyValue) (style : StyleValue) (u : State) (ceiling : List ℕ) (spared : State → ℤ → Bool)
     (mid new : List (Step State PageMove)) → ListedAreMoves galley style → ReachIsCeiling galley style →
     IsState (document galley style) u →
     ceiling ≡ called galley.blocks style (beyond (document galley style) u.place) →
-    AreTextSteps (document galley style) u ceiling mid →
-    new ≡ mid ++ listed_floats (document galley style) u → AreMoves (page_meaning (document galley style)) u new
-opened galley style u ceiling mid new listed reach own e text is =
-    subst (AreMoves (page_meaning (document galley style)) u)
-    (sym (is ∙ ap (λ (steps : List (Step State PageMove)). steps ++ listed_floats (document galley style) u) text.is))
+    AreTextSteps (document galley style) u ceiling spared mid →
+    new ≡ mid ++ listed_floats (document galley style) u →
+    AreWanted (page_meaning (document galley style)) u spared new
+opened galley style u ceiling spared mid new listed reach own e text is =
+    subst (AreWanted (page_meaning (document galley style)) u spared) (sym is)
+    (thinned_moves spared (page_meaning (document galley style)) u (mid ++ floats) (texts ++ floats)
+    (thins_append spared mid floats texts floats text.thins (thins_all spared floats))
     (listed u ceiling text.ends own (subst (λ (counts : List ℕ). IsCeiling (document galley style) u counts) (sym e)
-    (reach u own)) text.are)
+    (reach u own)) text.are))
+  where
+    texts : List (Step State PageMove)
+    texts = listed_text (document galley style) u ceiling text.ends
+
+    floats : List (Step State PageMove)
+    floats = listed_floats (document galley style) u
+
+-- a walk with no room asked for is kept of its place
+pub begun : (doc : Document) (from : Place) (it : PlaceEnds) (walk : PlaceWalk) → it.walk ≡ walk →
+    it.rooms.items ≡ [] → AreCandidates doc from (tallest doc.style) walk.found → ArePlaceEnds doc from it
+begun doc from it walk w r found = record {
+  found = subst (λ (x : PlaceWalk). AreCandidates doc from (tallest doc.style) x.found) (sym w) found;
+  rooms = subst (AllByRecursion (AreRoomEnds doc from)) (sym r) tt;
+}
+
+-- where every move is wanted, all are made
+pub all_made : {E : Type 0} (doc : Document) (u : State) (r : Result (Opened State PageMove) E) (P : Type 0) → P →
+    IfOk r (λ it. P → AreWanted (page_meaning doc) u (λ v c. false) it.steps) →
+    IfOk r (λ it. AreMoves (page_meaning doc) u it.steps)
+all_made doc u (Ok it) P p h = all_wanted (page_meaning doc) u (λ v c. false) it.steps (λ v c e. absurd cc) (h p)
+all_made doc u (Err e) P p h = tt
 
 -- a walk that tells a reach tells the one
 pub on_reach : {V E : Type 0} (reach : V → ℕ) (doc : Document) (from : Place) (r : Result V E) → IsTheReach doc →

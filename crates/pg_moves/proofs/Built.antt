@@ -1,6 +1,10 @@
 -- A step of the parts that were settled.
-use Rattle.std.proofs.Common.{◌≡◌, ap, ◌∙◌, ℕ, ◌+◌, List, [], Option, Some, None, ℤ}
+use Rattle.std.proofs.Common.{◌≡◌, refl, sym, subst, ap, ◌∙◌, ℕ, ◌+◌, ◌*◌, ◌^◌, ◌≤◌, List, [], length, Option, Some, None, ℤ, arith}
 use Rattle.std.specs.Prelude.{◌==◌, if◌then◌else◌, pos, ◌+ℤ◌}
+use Rattle.pg_style.specs.Values.{StyleValue}
+use Rattle.pg_rules.specs.Floats.{entry, float_numbers, plus_counts}
+use Rattle.pg_layouts.proofs.Areas.{slots_long}
+use Rattle.pg_space_laws.specs.PageSpace.{place_rank, rank}
 use Rattle.pg_list.specs.declared.galley.Place.{Place}
 use Rattle.pg_plan.specs.declared.pages.PageMove.{PageMove}
 use Rattle.pg_plan.specs.declared.states.State.{State}
@@ -17,7 +21,8 @@ use Rattle.pg_laid.specs.Laid.{laid_of}
 use Rattle.pg_laid.specs.declared.laid.Laid.{Laid}
 use Rattle.pg_waiting.specs.Settling.{Settles}
 use Rattle.pg_waiting.specs.declared.settling.Settled.{Settled}
-use Rattle.pg_moves.specs.Stepping.{cost_at, fitness_behind, page_price, state_behind, stay_price}
+use Rattle.pg_moves.specs.Stepping.{IsBehind, cost_at, fitness_behind, page_price, rank_tail, state_behind, stay_price}
+use Rattle.pg_moves.specs.declared.behind.Behind.{Behind}
 
 module _ (doc : Document) (u : State) (laid : Laid) (is : laid ≡ laid_of doc u laid.layout) where
   after_is : laid.after ≡ placed_with doc.style u.placed laid.layout
@@ -80,3 +85,43 @@ module _ (doc : Document) (u : State) (laid : Laid) (is : laid ≡ laid_of doc u
       (state_to doc u laid.layout u.place (fitness_behind doc.style u)) by (move_of u laid.layout u.place []) cost _
       (s ∙ state_is u.place (fitness_behind doc.style u) settled settles) m
       (p ∙ ap (λ (price : ℤ). pos doc.style.float_column.demerits +ℤ price) (price_is u.place settled settles))
+
+  -- the state that is asked about, and the cost, are those of the step
+  pub asked_is : (end : End) (settled : Settled) (it new : Behind) (cost : ℤ) → new ≡ record it {
+    state = record it.state { place = end.to; fitness = kept_fitness doc.style end.cost.fitness };
+  } → IsBehind doc.style u laid settled it → cost ≡ (end.cost.demerits +ℤ end.pick_demerits)
+      +ℤ (it.page +ℤ fitness_cost doc.style u.fitness end.cost.fitness) →
+      Settles doc u end.to laid.after (Some settled) →
+      step new.state (move_of u laid.layout end.to end.picks) cost ≡ listed_end doc u laid.layout end
+  asked_is end settled it new cost e b k settles = end_is end settled new.state
+      (move_of u laid.layout end.to end.picks) cost
+      (ap (λ (x : Behind). x.state) e ∙ ap (λ (s : State).
+      record s { place = end.to; fitness = kept_fitness doc.style end.cost.fitness }) b.state) refl
+      (k ∙ ap (λ (page : ℤ). (end.cost.demerits +ℤ end.pick_demerits)
+      +ℤ (page +ℤ fitness_cost doc.style u.fitness end.cost.fitness)) b.page) settles
+
+-- it stays behind the column, up to another end
+pub still_behind : (style : StyleValue) (u : State) (laid : Laid) (settled : Settled) (it new : Behind) (to : Place)
+    (fitness : Option ℕ) → new ≡ record it { state = record it.state { place = to; fitness = fitness } } →
+    IsBehind style u laid settled it → IsBehind style u laid settled new
+still_behind style u laid settled it new to fitness e b = subst (IsBehind style u laid settled) (sym e) (record {
+  state = ap (λ (s : State). record s { place = to; fitness = fitness }) b.state;
+  page = b.page;
+  small = b.small;
+  tail = b.tail;
+})
+
+-- the count of the floats behind a column is that of few classes
+pub few_after : (doc : Document) (u : State) (laid : Laid) (counts : List ℕ) (n : ℕ) →
+    laid ≡ laid_of doc u laid.layout → counts ≡ laid.after → n ≡ length (float_numbers doc.style) → n ≤ 8 →
+    length counts ≤ 8
+few_after doc u laid counts n is c e l =
+    let long : length counts ≡ length (float_numbers doc.style) =
+    ap length (c ∙ ap (λ (it : Laid). it.after) is) ∙ slots_long doc.style (λ (slot : ℕ).
+    entry (plus_counts doc.style (plus_counts doc.style u.placed laid.layout.wide) laid.layout.top) slot
+    + entry laid.layout.bottom slot) in omega (arith, long, e, l)
+
+-- a rank of its parts, and what 64 bits hold of it
+pub rank_is : (doc : Document) (u : State) (place tail : ℕ) → place ≡ place_rank u.place → tail ≡ rank_tail u →
+    2 ^ 18 * place + tail ≡ rank doc u
+rank_is doc u place tail p t = omega (arith, p, t)

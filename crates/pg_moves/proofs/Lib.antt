@@ -1,4 +1,5 @@
 pub mod AllSteps
+pub mod Added
 pub mod Standing
 pub mod Stepped
 pub mod Built

@@ -1,5 +1,5 @@
 -- The parts of a step to an end, from what is settled there.
-use Rattle.std.specs.Prelude.{◌≡◌, ℕ, ◌+◌, Bool, true, ◌==◌, ◌&&◌, ◌||◌, nat_lt, if◌then◌else◌, is_some, List, [], ◌∷◌, Option, Some, None, ℤ, pos, ◌+ℤ◌}
+use Rattle.std.specs.Prelude.{◌≡◌, ℕ, ◌+◌, ◌*◌, ◌^◌, ◌≤◌, nat_abs, Bool, true, ◌==◌, ◌&&◌, ◌||◌, nat_lt, if◌then◌else◌, is_some, List, [], ◌∷◌, Option, Some, None, ℤ, pos, ◌+ℤ◌}
 use Rattle.pg_list.specs.declared.galley.Place.{Place}
 use Rattle.pg_plan.specs.declared.states.State.{State}
 use Rattle.pg_style.specs.Values.{StyleValue}
@@ -19,6 +19,9 @@ use Rattle.pg_rooms.specs.declared.place_ends.RoomEnds.{RoomEnds}
 use Rattle.pg_waiting.specs.Settling.{Settles}
 use Rattle.pg_waiting.specs.declared.settling.Settled.{Settled}
 use Rattle.pg_laid.specs.declared.laid.Laid.{Laid}
+use Rattle.pg_space_laws.specs.PageSpace.{side_run}
+use Rattle.pg_moves.specs.Thinned.{Thins}
+use Rattle.pg_moves.specs.declared.behind.Behind.{Behind}
 
 -- the state behind a column of a layout, up to a place, with a fitness and the ages of the floats that wait there
 abbrev pub state_behind : StyleValue → State → Laid → Place → Option ℕ → List ℕ → State
@@ -44,6 +47,17 @@ cost_at style u laid end price =
     (end.cost.demerits +ℤ end.pick_demerits)
     +ℤ (page_price style u laid price +ℤ fitness_cost style u.fitness end.cost.fitness)
 
+-- what a state gives to its rank, but for its place
+abbrev pub rank_tail : State → ℕ
+rank_tail u = 32 * total_count u.placed + (if u.column == 1 then 16 else 0) + side_run u
+
+-- the state behind a column of a layout up to some end, what the column pays for its page, and the tail of its rank
+pub record IsBehind (style : StyleValue) (u : State) (laid : Laid) (settled : Settled) (it : Behind) : Type 0 where
+  pub state : it.state ≡ state_behind style u laid it.state.place it.state.fitness settled.ages
+  pub page : it.page ≡ page_price style u laid settled.price
+  pub small : nat_abs it.page ≤ 2 ^ 52
+  pub tail : it.tail ≡ rank_tail it.state
+
 -- an end before which the floats of a layout are called and none is left too old, and this is left and paid
 abbrev pub IsOpenEnd : Document → State → Laid → Settled → End → Type 0
 IsOpenEnd doc u laid settled end =
@@ -53,12 +67,12 @@ IsOpenEnd doc u laid settled end =
 abbrev pub steps_in : Document → State → List RoomEnds → Laid → List (Step State PageMove)
 steps_in doc u rooms it = listed_with doc u (λ layout. ends_in rooms it.room) it.layout
 
--- the steps of the columns of text with counts up to a ceiling, by the ends of each layout
-pub record AreTextSteps (doc : Document) (u : State) (ceiling : List ℕ) (steps : List (Step State PageMove)) :
-    Type 0 where
+-- the steps of the columns of text with counts up to a ceiling, by the ends of each layout, but for some that are spared
+pub record AreTextSteps (doc : Document) (u : State) (ceiling : List ℕ) (spared : State → ℤ → Bool)
+    (steps : List (Step State PageMove)) : Type 0 where
   pub ends : Layout → List End
   pub are : AreEndsOf doc u ceiling ends
-  pub is : steps ≡ listed_text doc u ceiling ends
+  pub thins : Thins spared steps (listed_text doc u ceiling ends)
 
 -- ---- columns without text
 

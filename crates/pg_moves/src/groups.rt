@@ -1,5 +1,5 @@
 //! The steps to the ends of a layout, group by group.
-ghost use Rattle.std.specs.Prelude.{◌≡◌, ◌++◌, take, drop, OnOk};
+ghost use Rattle.std.specs.Prelude.{◌≡◌, take, drop, OnOk};
 ghost use Rattle.std.specs.List.{AllByRecursion};
 ghost use Rattle.pg_ends.specs.declared.end.End.{End as AnEnd};
 ghost use Rattle.pg_rules.specs.Floats.{called as called_of};
@@ -9,6 +9,7 @@ ghost use Rattle.pg_sources.specs.Document.{doc_of};
 ghost use Rattle.pg_laid.specs.Laid.{laid_of};
 ghost use Rattle.pg_rooms.specs.PlaceEnds.{AreGroups};
 ghost use Rattle.pg_waiting.specs.Settling.{known_of};
+ghost use Rattle.pg_moves.specs.Thinned.{Adds};
 
 use crate::steps::add_ends;
 use pg_ends::End;
@@ -16,18 +17,19 @@ use pg_laid::Laid;
 use pg_plan::{PageMove, State};
 use pg_rooms::Group;
 use pg_sources::Sources;
-use pg_table::StepList;
+use pg_table::{StepList, Wants};
 use pg_waiting::{Known, calls_all, settle};
 use std::alloc::AllocError;
 
-// Adds the steps to ends before each of which the same floats are called.
-fn add_group(
+// Adds the wanted steps to ends before each of which the same floats are called.
+fn add_group<W: Wants<State = State>>(
     sources: &Sources<'_>,
     state: &State,
     known: &Known,
     laid: &Laid,
     called: &[u16],
     ends: &[End],
+    wants: &W,
     steps: &mut StepList<State, PageMove>,
 ) -> Result<(), AllocError>
     requires own { IsState (doc_of sources.now) state.now }
@@ -35,15 +37,15 @@ fn add_group(
     requires laid { laid.now ≡ laid_of (doc_of sources.now) state.now laid.now.layout }
     ensures { OnOk result (AllByRecursion (λ (end : AnEnd).
         called.now ≡ called_of sources.now.galley.now.blocks sources.now.style.now end.to) ends.now →
-        steps.new ≡ steps.old
-        ++ listed_with (doc_of sources.now) state.now (λ layout. ends.now) laid.now.layout) }
+        Adds (W.spares wants.now) steps.old
+        (listed_with (doc_of sources.now) state.now (λ layout. ends.now) laid.now.layout) steps.new) }
 {
     if !calls_all(sources, called, laid.after.as_slice()) {
         return Ok(());
     }
     match settle(sources, state, known, called, &laid.after)? {
         None => Ok(()),
-        Some(settled) => add_ends(sources, state, laid, ends, &settled, steps),
+        Some(settled) => add_ends(sources, state, laid, ends, &settled, wants, steps),
     }
 }
 
@@ -67,22 +69,23 @@ fn later_ends(ends: &[End], count: usize) -> &[End]
     }
 }
 
-/// Adds the steps to the ends of a layout at which the column may end.
-pub fn add_groups(
+/// Adds the wanted steps to the ends of a layout at which the column may end.
+pub fn add_groups<W: Wants<State = State>>(
     sources: &Sources<'_>,
     state: &State,
     known: &Known,
     laid: &Laid,
     groups: &[Group],
     ends: &[End],
+    wants: &W,
     steps: &mut StepList<State, PageMove>,
 ) -> Result<(), AllocError>
     requires own { IsState (doc_of sources.now) state.now }
     requires known { known.now ≡ known_of (doc_of sources.now) state.now }
     requires laid { laid.now ≡ laid_of (doc_of sources.now) state.now laid.now.layout }
     ensures { OnOk result (AreGroups (doc_of sources.now) groups.now ends.now →
-        steps.new ≡ steps.old
-        ++ listed_with (doc_of sources.now) state.now (λ layout. ends.now) laid.now.layout) }
+        Adds (W.spares wants.now) steps.old
+        (listed_with (doc_of sources.now) state.now (λ layout. ends.now) laid.now.layout) steps.new) }
 {
     let mut left = groups;
     let mut rest = ends;
@@ -95,6 +98,7 @@ pub fn add_groups(
             laid,
             group.called.as_slice(),
             first,
+            wants,
             steps,
         )?;
         rest = later_ends(rest, group.count);

@@ -4,7 +4,7 @@ ghost use Rattle.pg_rules.specs.Floats.{called};
 ghost use Rattle.pg_rules.specs.IsState.{IsPlace, IsState};
 ghost use Rattle.pg_reach_laws.specs.ReachAt.{reach_at};
 ghost use Rattle.pg_space_laws.specs.PageSpace.{page_meaning};
-ghost use Rattle.pg_table.specs.Space.{AreMoves};
+ghost use Rattle.pg_table.specs.Space.{AreMoves, AreWanted};
 ghost use Rattle.pg_walk_laws.specs.Candidates.{AreCandidates};
 ghost use Rattle.pg_walk_laws.specs.Reached.{tallest};
 ghost use Rattle.pg_move_laws.specs.Listed.{beyond, listed_floats};
@@ -21,7 +21,7 @@ use pg_plan::{Counts, PageMove, State};
 use pg_reach_laws::laws::reach_is_the_greatest;
 use pg_rooms::PlaceEnds;
 use pg_sources::Sources;
-use pg_table::{Opened, StepList};
+use pg_table::{EveryMove, Opened, StepList, Wants};
 use pg_waiting::{Known, known};
 use pg_walk::{PlaceWalk, walk_from};
 use std::alloc::AllocError;
@@ -75,19 +75,20 @@ fn add_floats(
     add_stays(sources, state, known, laid, steps)
 }
 
-/// All columns that may follow a state, from what is kept of its place: each once with its best picks, and how far an
-/// edit can be felt there. What it works out is kept.
+/// The columns that may follow a state and are wanted, from what is kept of its place: each once with its best picks, and
+/// how far an edit can be felt there. What it works out is kept. Columns without text are all made, wanted or not.
 ///
 /// Condition: it is a state of the galley. The one refusal is want of memory.
-pub fn open_by(
+pub fn open_by<W: Wants<State = State>>(
     sources: &Sources<'_>,
     state: &State,
     kept: &mut PlaceEnds,
+    wants: &W,
 ) -> Result<Opened<State, PageMove>, AllocError>
     requires own { IsState (doc_of sources.now) state.now }
     requires reach { kept.old.walk.reach ≡ reach_at (doc_of sources.now) state.now.place }
     ensures moves { IfOk result (λ it. ArePlaceEnds (doc_of sources.now) state.now.place kept.old →
-        AreMoves (page_meaning (doc_of sources.now)) state.now it.steps) }
+        AreWanted (page_meaning (doc_of sources.now)) state.now (W.spares wants.now) it.steps) }
     ensures reach { IfOk result (λ it. it.reach ≡ reach_at (doc_of sources.now) state.now.place) }
     ensures kept { OnOk result (ArePlaceEnds (doc_of sources.now) state.now.place kept.old →
         ArePlaceEnds (doc_of sources.now) state.now.place kept.new) }
@@ -97,12 +98,12 @@ pub fn open_by(
     let reach = kept.walk.reach;
     let waiting = known(sources, state)?;
     let most = ceiling(sources, state.place, reach)?;
-    let mut steps = text_steps(sources, state, &waiting, &most, kept)?;
+    let mut steps = text_steps(sources, state, &waiting, &most, kept, wants)?;
     add_floats(sources, state, &waiting, &mut steps)?;
     Ok(Opened { steps, reach })
 }
 
-/// The same, with a walk of its own.
+/// All columns that may follow a state, with a walk of its own.
 pub fn open(sources: &Sources<'_>, state: &State) -> Result<Opened<State, PageMove>, AllocError>
     requires { IsState (doc_of sources.now) state.now }
     ensures moves { IfOk result (λ it. AreMoves (page_meaning (doc_of sources.now)) state.now it.steps) }
@@ -110,5 +111,5 @@ pub fn open(sources: &Sources<'_>, state: &State) -> Result<Opened<State, PageMo
 {
     let walk = walk_place(sources, state.place)?;
     let mut kept = PlaceEnds::new(sources.alloc, walk);
-    open_by(sources, state, &mut kept)
+    open_by(sources, state, &mut kept, &EveryMove::<State>::new())
 }

@@ -7,26 +7,26 @@ ghost use Rattle.pg_rules.specs.Follow.{fills_page as fills_page_of, keeps_run, 
 ghost use Rattle.pg_rules.specs.IsState.{IsState};
 ghost use Rattle.pg_layouts.specs.Layouts.{move_of};
 ghost use Rattle.pg_flat.specs.Flat.{is_same_place};
-ghost use Rattle.pg_move_laws.specs.Listed.{listed_end, listed_with};
+ghost use Rattle.pg_move_laws.specs.Listed.{listed_with};
 ghost use Rattle.pg_move_laws.specs.Steps.{fitness_cost as fitness_cost_of, kept_fitness as kept_fitness_of};
 ghost use Rattle.pg_sources.specs.Document.{doc_of};
 ghost use Rattle.pg_laid.specs.Laid.{laid_of};
-ghost use Rattle.pg_waiting.specs.Settling.{Settles};
-ghost use Rattle.pg_moves.specs.Stepping.{IsOpenEnd, cost_at, page_price as page_price_of, state_behind as state_behind_of};
+ghost use Rattle.pg_moves.specs.Stepping.{IsBehind, IsOpenEnd, page_price as page_price_of, state_behind as state_behind_of};
+ghost use Rattle.pg_moves.specs.Thinned.{Adds};
 
+use crate::behind::{Behind, first_behind};
 use pg_ends::End;
 use pg_laid::Laid;
 use pg_list::Place;
 use pg_plan::{Ages, Column, PageMove, Side, State};
 use pg_sources::Sources;
 use pg_style::{Run, Style};
-use pg_table::{Step, StepList};
+use pg_table::{Step, StepList, Wants};
 use pg_waiting::Settled;
-use pg_whole::large_plus;
 use std::alloc::AllocError;
 
-// The fitness that the next column is compared with.
-fn kept_fitness(style: &Style, fitness: u8) -> Option<u8>
+/// The fitness that the next column is compared with.
+pub(crate) fn kept_fitness(style: &Style, fitness: u8) -> Option<u8>
     ensures { result ≡ kept_fitness_of style.now fitness }
 {
     if style.version == 1 {
@@ -159,34 +159,20 @@ pub fn page_price(style: &Style, state: &State, laid: &Laid, price: u128) -> i12
     i128::from(run_price(style, state, laid.layout.run)) + price as i128
 }
 
-// What the text of a column costs.
-fn text_price(end: &End) -> i128
+/// What the text of a column costs.
+pub(crate) fn text_price(end: &End) -> i128
     ensures value { result ≡ end.now.cost.demerits +ℤ end.now.pick_demerits }
     ensures size { nat_abs result ≤ 2 ^ 65 }
 {
     i128::from(end.cost.demerits) + i128::from(end.pick_demerits)
 }
 
-// What a column of this fitness pays behind one of another.
-fn fitness_price(style: &Style, last: Option<u8>, fitness: u8) -> i128
+/// What a column of this fitness pays behind one of another.
+pub(crate) fn fitness_price(style: &Style, last: Option<u8>, fitness: u8) -> i128
     ensures value { result ≡ fitness_cost_of style.now last fitness }
     ensures size { nat_abs result ≤ 2 ^ 32 }
 {
     i128::from(fitness_cost(style, last, fitness))
-}
-
-// What the column of text to an end costs.
-fn cost_to(style: &Style, state: &State, laid: &Laid, end: &End, price: u128) -> i128
-    requires { price ≤ 2 ^ 51 }
-    ensures { result ≡ cost_at style.now state.now laid.now end.now price }
-{
-    large_plus(
-        text_price(end),
-        large_plus(
-            page_price(style, state, laid, price),
-            fitness_price(style, state.fitness, end.cost.fitness),
-        ),
-    )
 }
 
 // Whether an end is where the state is.
@@ -198,72 +184,86 @@ fn ends_here(state: &State, end: &End) -> bool
     from.block == to.block && from.variant == to.variant && from.index == to.index
 }
 
-// The step to an end.
+// The step to an end, behind which there is this state, at this cost.
 fn step_to(
-    sources: &Sources<'_>,
     state: &State,
     laid: &Laid,
     end: &End,
-    settled: &Settled,
+    next: &State,
+    cost: i128,
 ) -> Result<Step<State, PageMove>, AllocError>
-    requires own { IsState (doc_of sources.now) state.now }
-    requires laid { laid.now ≡ laid_of (doc_of sources.now) state.now laid.now.layout }
-    requires price { settled.now.price ≤ 2 ^ 51 }
-    ensures { IfOk result (λ step. Settles (doc_of sources.now) state.now end.now.to laid.now.after (Some settled.now) →
-        step ≡ listed_end (doc_of sources.now) state.now laid.now.layout end.now) }
+    ensures { IfOk result (λ step. step ≡ record {
+      to = next.now;
+      by = move_of state.now laid.now.layout end.now.to end.now.picks;
+      cost = cost;
+    }) }
 {
-    let style = sources.style;
-    let cost = cost_to(style, state, laid, end, settled.price);
-    let fitness = kept_fitness(style, end.cost.fitness);
     Ok(Step {
-        to: state_behind(style, state, laid, end.to, fitness, settled.ages.copy()?)?,
+        to: next.copy()?,
         by: move_to(state, laid, end)?,
         cost,
     })
 }
 
-// Adds the step to an end before which the floats of a layout are called and no float is left too old.
-fn add_end(
+// Adds the step to an end before which the floats of a layout are called and no float is left too old, if it is wanted.
+fn add_end<W: Wants<State = State>>(
     sources: &Sources<'_>,
     state: &State,
     laid: &Laid,
     end: &End,
     settled: &Settled,
+    behind: &mut Behind,
+    wants: &W,
     steps: &mut StepList<State, PageMove>,
 ) -> Result<(), AllocError>
-    requires own { IsState (doc_of sources.now) state.now }
     requires laid { laid.now ≡ laid_of (doc_of sources.now) state.now laid.now.layout }
-    requires price { settled.now.price ≤ 2 ^ 51 }
-    ensures { OnOk result (IsOpenEnd (doc_of sources.now) state.now laid.now settled.now end.now →
-        steps.new ≡ steps.old
-        ++ listed_with (doc_of sources.now) state.now (λ layout. end.now ∷ []) laid.now.layout) }
+    requires behind { IsBehind sources.now.style.now state.now laid.now settled.now behind.old }
+    ensures behind { OnOk result (IsBehind sources.now.style.now state.now laid.now settled.now behind.new) }
+    ensures added { OnOk result (IsOpenEnd (doc_of sources.now) state.now laid.now settled.now end.now →
+        Adds (W.spares wants.now) steps.old
+        (listed_with (doc_of sources.now) state.now (λ layout. end.now ∷ []) laid.now.layout) steps.new) }
 {
     if ends_here(state, end) {
         return Ok(());
     }
-    steps.push(step_to(sources, state, laid, end, settled)?)?;
+    let cost = behind.cost_to(sources.style, state, end);
+    behind.end_at(sources.style, end);
+    if !wants.wants(&behind.state, behind.rank(), cost) {
+        return Ok(());
+    }
+    steps.push(step_to(state, laid, end, &behind.state, cost)?)?;
     Ok(())
 }
 
-/// Adds the steps to ends before which the floats of a layout are called and no float is left too old.
-pub fn add_ends(
+/// Adds the steps that are wanted to ends before which the floats of a layout are called and no float is left too old.
+pub fn add_ends<W: Wants<State = State>>(
     sources: &Sources<'_>,
     state: &State,
     laid: &Laid,
     ends: &[End],
     settled: &Settled,
+    wants: &W,
     steps: &mut StepList<State, PageMove>,
 ) -> Result<(), AllocError>
     requires own { IsState (doc_of sources.now) state.now }
     requires laid { laid.now ≡ laid_of (doc_of sources.now) state.now laid.now.layout }
     requires price { settled.now.price ≤ 2 ^ 51 }
     ensures { OnOk result (AllByRecursion (IsOpenEnd (doc_of sources.now) state.now laid.now settled.now) ends.now →
-        steps.new ≡ steps.old
-        ++ listed_with (doc_of sources.now) state.now (λ layout. ends.now) laid.now.layout) }
+        Adds (W.spares wants.now) steps.old
+        (listed_with (doc_of sources.now) state.now (λ layout. ends.now) laid.now.layout) steps.new) }
 {
-    steps.reserve(ends.len())?;
+    let mut behind = first_behind(sources, state, laid, settled)?;
     for end in ends {
-        add_end(sources, state, laid, end, settled, steps)?;
+        add_end(
+            sources,
+            state,
+            laid,
+            end,
+            settled,
+            &mut behind,
+            wants,
+            steps,
+        )?;
     }
     Ok(())
 }

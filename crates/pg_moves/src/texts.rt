@@ -1,5 +1,5 @@
 //! The steps of columns of text, layout by layout.
-ghost use Rattle.std.specs.Prelude.{◌≡◌, ◌++◌, Contains, IfOk, OnOk};
+ghost use Rattle.std.specs.Prelude.{◌≡◌, Contains, IfOk, OnOk};
 ghost use Rattle.std.specs.List.{flat_map};
 ghost use Rattle.pg_rules.specs.IsState.{IsState};
 ghost use Rattle.pg_sources.specs.Document.{doc_of};
@@ -7,6 +7,7 @@ ghost use Rattle.pg_laid.specs.Laid.{HasSoMany, laid_of};
 ghost use Rattle.pg_rooms.specs.PlaceEnds.{ArePlaceEnds};
 ghost use Rattle.pg_waiting.specs.Settling.{known_of};
 ghost use Rattle.pg_moves.specs.Stepping.{AreTextSteps, steps_in};
+ghost use Rattle.pg_moves.specs.Thinned.{Adds};
 ghost use Rattle.pg_laid.specs.declared.laid.Laid.{Laid as ALaid};
 
 use crate::groups::add_groups;
@@ -14,64 +15,69 @@ use pg_laid::{Laid, lay_texts};
 use pg_plan::{Counts, PageMove, State};
 use pg_rooms::PlaceEnds;
 use pg_sources::Sources;
-use pg_table::StepList;
+use pg_table::{StepList, Wants};
 use pg_waiting::Known;
 use std::alloc::AllocError;
 
-// Adds the steps to the ends in the room of a layout.
-fn add_laid(
+// Adds the wanted steps to the ends in the room of a layout.
+fn add_laid<W: Wants<State = State>>(
     sources: &Sources<'_>,
     state: &State,
     known: &Known,
     laid: &Laid,
     kept: &PlaceEnds,
+    wants: &W,
     steps: &mut StepList<State, PageMove>,
 ) -> Result<(), AllocError>
     requires own { IsState (doc_of sources.now) state.now }
     requires known { known.now ≡ known_of (doc_of sources.now) state.now }
     requires laid { laid.now ≡ laid_of (doc_of sources.now) state.now laid.now.layout }
     ensures { OnOk result (ArePlaceEnds (doc_of sources.now) state.now.place kept.now →
-        steps.new ≡ steps.old ++ steps_in (doc_of sources.now) state.now kept.now.rooms.items laid.now) }
+        Adds (W.spares wants.now) steps.old
+        (steps_in (doc_of sources.now) state.now kept.now.rooms.items laid.now) steps.new) }
 {
     let groups = kept.groups_in(laid.room);
     let ends = kept.ends_in(laid.room);
-    add_groups(sources, state, known, laid, groups, ends, steps)
+    add_groups(sources, state, known, laid, groups, ends, wants, steps)
 }
 
-/// Adds the steps of columns of text in these layouts, by the ends in their rooms.
-pub fn add_all(
+/// Adds the wanted steps of columns of text in these layouts, by the ends in their rooms.
+pub fn add_all<W: Wants<State = State>>(
     sources: &Sources<'_>,
     state: &State,
     known: &Known,
     laid: &[Laid],
     kept: &PlaceEnds,
+    wants: &W,
     steps: &mut StepList<State, PageMove>,
 ) -> Result<(), AllocError>
     requires own { IsState (doc_of sources.now) state.now }
     requires known { known.now ≡ known_of (doc_of sources.now) state.now }
     requires laid { (it : ALaid) → Contains laid.now it → it ≡ laid_of (doc_of sources.now) state.now it.layout }
     ensures { OnOk result (ArePlaceEnds (doc_of sources.now) state.now.place kept.now →
-        steps.new ≡ steps.old ++ flat_map (steps_in (doc_of sources.now) state.now kept.now.rooms.items) laid.now) }
+        Adds (W.spares wants.now) steps.old
+        (flat_map (steps_in (doc_of sources.now) state.now kept.now.rooms.items) laid.now) steps.new) }
 {
     for it in laid {
-        add_laid(sources, state, known, it, kept, steps)?;
+        add_laid(sources, state, known, it, kept, wants, steps)?;
     }
     Ok(())
 }
 
-/// The steps of the columns of text, with counts up to a ceiling, from what is kept of the state's place.
-pub fn text_steps(
+/// The wanted steps of the columns of text, with counts up to a ceiling, from what is kept of the state's place.
+pub fn text_steps<W: Wants<State = State>>(
     sources: &Sources<'_>,
     state: &State,
     known: &Known,
     ceiling: &Counts,
     kept: &mut PlaceEnds,
+    wants: &W,
 ) -> Result<StepList<State, PageMove>, AllocError>
     requires own { IsState (doc_of sources.now) state.now }
     requires known { known.now ≡ known_of (doc_of sources.now) state.now }
     requires ceiling { HasSoMany (doc_of sources.now) ceiling.now }
     ensures steps { IfOk result (λ steps. ArePlaceEnds (doc_of sources.now) state.now.place kept.old →
-        AreTextSteps (doc_of sources.now) state.now ceiling.now steps) }
+        AreTextSteps (doc_of sources.now) state.now ceiling.now (W.spares wants.now) steps) }
     ensures kept { OnOk result (ArePlaceEnds (doc_of sources.now) state.now.place kept.old →
         ArePlaceEnds (doc_of sources.now) state.now.place kept.new) }
     ensures walk { OnOk result (kept.new.walk ≡ kept.old.walk) }
@@ -80,6 +86,6 @@ pub fn text_steps(
     let laid = layouts.as_slice();
     kept.ask_all(sources, laid)?;
     let mut steps = StepList::new(sources.alloc);
-    add_all(sources, state, known, laid, kept, &mut steps)?;
+    add_all(sources, state, known, laid, kept, wants, &mut steps)?;
     Ok(steps)
 }

@@ -184,9 +184,9 @@ fn name_len(bytes: &[u8]) -> usize
     bytes.iter().take_while(|b| **b != b')').count()
 }
 
-// Glue, behind its name.
+/// What a glue says behind its name, or its leftmost fault.
 #[tactic(auto, unfolding(crate::specs::Nodes::glue_at))]
-fn glue_node(bytes: &[u8]) -> Result<Node, ListKind>
+pub fn glue_node(bytes: &[u8]) -> Result<Node, ListKind>
     ensures value { result ≡ glue_at bytes.now }
     ensures range { IfOk result (λ node. IsNodeInRange node) }
 {
@@ -196,18 +196,18 @@ fn glue_node(bytes: &[u8]) -> Result<Node, ListKind>
     }
 }
 
-// Leaders, behind their name.
+/// What leaders say behind their name, or their leftmost fault.
 #[tactic(auto, unfolding(crate::specs::Nodes::leaders_at))]
-fn leaders_node(bytes: &[u8]) -> Result<Node, ListKind>
+pub fn leaders_node(bytes: &[u8]) -> Result<Node, ListKind>
     ensures value { result ≡ leaders_at bytes.now }
     ensures range { IfOk result (λ node. IsNodeInRange node) }
 {
     glue_text(true, expect(b" ", bytes)?)
 }
 
-// A kern, behind its name.
+/// What a kern says behind its name, or its leftmost fault.
 #[tactic(auto, unfolding(crate::specs::Nodes::kern_at))]
-fn kern_node(bytes: &[u8]) -> Result<Node, ListKind>
+pub fn kern_node(bytes: &[u8]) -> Result<Node, ListKind>
     ensures value { result ≡ kern_at bytes.now }
     ensures range { IfOk result (λ node. IsNodeInRange node) }
 {
@@ -215,9 +215,9 @@ fn kern_node(bytes: &[u8]) -> Result<Node, ListKind>
     Ok(Node::Kern { width })
 }
 
-// A penalty, behind its name.
+/// What a penalty says behind its name, or its leftmost fault.
 #[tactic(auto, unfolding(crate::specs::Nodes::penalty_at))]
-fn penalty_node(bytes: &[u8]) -> Result<Node, ListKind>
+pub fn penalty_node(bytes: &[u8]) -> Result<Node, ListKind>
     ensures value { result ≡ penalty_at bytes.now }
     ensures range { IfOk result (λ node. IsNodeInRange node) }
 {

@@ -10,7 +10,7 @@ ghost use Rattle.pg_rules.specs.Legal.{document};
 ghost use Rattle.pg_space_laws.specs.PageSpace.{page_meaning};
 ghost use Rattle.pg_style.specs.Plain.{plain};
 ghost use Rattle.pg_style.specs.Values.{StyleValue};
-ghost use Rattle.pg_table.specs.Space.{AreMoves};
+ghost use Rattle.pg_table.specs.Space.{AreWanted};
 ghost use Rattle.pg_space.specs.OneProof.{galley_set, style_set};
 
 use crate::space::PageSpace;
@@ -19,9 +19,10 @@ use pg_list::{Galley, Place};
 use pg_moves::{open_by, walk_place};
 use pg_plan::{PageKey, PageMove, State};
 use pg_rooms::PlaceEnds;
+use pg_states::no_worse;
 use pg_steps::Steps;
 use pg_style::Style;
-use pg_table::{Opened, Space};
+use pg_table::{EveryMove, Offering, Opened, Space, Wants};
 use std::alloc::{AllocError, Global};
 use std::cell::RefCell;
 use std::cmp::Ordering;
@@ -59,7 +60,7 @@ struct OpenedBy<D: Document> {
 }
 
 /// The pages of a galley under a style. States of one place that are opened one after another share one walk, and the
-/// ends in each room that one of them asks for.
+/// ends in each room that one of them asks for. To a table it offers its columns of text before it makes them.
 #[derive(Drop)]
 pub struct KeptPages<'a, D: Document> {
     pub pages: PageSpace<'a>,
@@ -115,18 +116,23 @@ impl<'a, D: Document> KeptPages<'a, D> {
         self.walk(from)
     }
 
-    // All columns that may follow a state, by what is kept of its place.
-    fn open_by(&self, state: &State, kept: Kept<D>) -> Result<OpenedBy<D>, AllocError>
+    // The columns that may follow a state and are wanted, by what is kept of its place.
+    fn open_by<W: Wants<State = State>>(
+        &self,
+        state: &State,
+        kept: Kept<D>,
+        wants: &W,
+    ) -> Result<OpenedBy<D>, AllocError>
         requires own { IsState (doc_of self.now.pages.sources) state.now }
         requires from { kept.from ≡ state.now.place }
-        ensures moves { IfOk result (λ it.
-            AreMoves (page_meaning (doc_of self.now.pages.sources)) state.now it.opened.steps) }
+        ensures moves { IfOk result (λ it. AreWanted (page_meaning (doc_of self.now.pages.sources)) state.now
+            (W.spares wants.now) it.opened.steps) }
         ensures reach { IfOk result (λ it.
             it.opened.reach ≡ reach_at (doc_of self.now.pages.sources) state.now.place) }
     {
         let from = kept.from;
         let mut ends = kept.ends;
-        let opened = open_by(&self.pages.sources, state, &mut ends)?;
+        let opened = open_by(&self.pages.sources, state, &mut ends, wants)?;
         Ok(OpenedBy {
             opened,
             kept: Kept {
@@ -137,15 +143,19 @@ impl<'a, D: Document> KeptPages<'a, D> {
         })
     }
 
-    // All columns that may follow a state. What is kept of its place serves for the next state.
-    fn open(&self, state: &State) -> Result<Opened<State, PageMove>, AllocError>
+    // The columns that may follow a state and are wanted. What is kept of its place serves for the next state.
+    fn open<W: Wants<State = State>>(
+        &self,
+        state: &State,
+        wants: &W,
+    ) -> Result<Opened<State, PageMove>, AllocError>
         requires { IsState (doc_of self.now.pages.sources) state.now }
-        ensures moves { IfOk result (λ it.
-            AreMoves (page_meaning (doc_of self.now.pages.sources)) state.now it.steps) }
+        ensures moves { IfOk result (λ it. AreWanted (page_meaning (doc_of self.now.pages.sources)) state.now
+            (W.spares wants.now) it.steps) }
         ensures reach { IfOk result (λ it. it.reach ≡ reach_at (doc_of self.now.pages.sources) state.now.place) }
     {
         let kept = self.take(state.place)?;
-        let by = self.open_by(state, kept)?;
+        let by = self.open_by(state, kept, wants)?;
         let _was = self.kept.try_replace(Some(by.kept));
         Ok(by.opened)
     }
@@ -200,6 +210,22 @@ impl<D: Document> Space for KeptPages<'_, D> {
         steps: &mut Steps<L>,
     ) -> Result<Opened<State, PageMove>, AllocError> {
         steps.tick();
-        self.open(state)
+        self.open(state, &EveryMove::<State>::new())
+    }
+}
+
+impl<D: Document> Offering for KeptPages<'_, D> {
+    fn outdoes(&self, a: &State, b: &State) -> bool {
+        no_worse(a, b)
+    }
+
+    fn offer<L: Ledger, W: Wants<State = State>>(
+        &self,
+        state: &State,
+        steps: &mut Steps<L>,
+        wants: &W,
+    ) -> Result<Opened<State, PageMove>, AllocError> {
+        steps.tick();
+        self.open(state, wants)
     }
 }

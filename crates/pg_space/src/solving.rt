@@ -72,7 +72,7 @@ fn refill_kept<D: Document, L: Ledger>(
     ensures counted { OnOk result (steps.new ≡ steps.old + count_reaching below table.new) }
 {
     let space = KeptPages::<D>::new(alloc, galley, style, floats);
-    table.refill(&space, below, steps)?;
+    table.refill_offered(&space, below, steps)?;
     Ok(())
 }
 

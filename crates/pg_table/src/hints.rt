@@ -55,8 +55,8 @@ impl Hints {
         }
     }
 
-    /// Counts one more opened label, which has so many moves. It takes memory for the hints where such labels
-    /// become many.
+    /// Counts one more opened label, which has so many moves: before there are hints, all its moves are wanted. It
+    /// takes memory for the hints where such labels become many.
     pub(crate) fn count_opened(&mut self, moves: usize) -> Result<(), AllocError> {
         if moves < MANY {
             return Ok(());

@@ -1,14 +1,54 @@
-use Rattle.std.proofs.Common.{◌∙◌, sym}
+use Rattle.std.proofs.Common.{◌∙◌, sym, rules, of_z, to_z}
+use Rattle.std.proofs.lemmas.Int.{to_z-of_z}
+use Rattle.std.specs.Int.{w128}
 use Rattle.pg_sources.specs.Document.{doc_of}
-use Rattle.pg_moves.proofs.Stepped.{not_stepped, stepped}
+use Rattle.pg_moves.specs.Stepping.{IsBehind}
+use Rattle.pg_layouts.specs.Layouts.{move_of}
+use Rattle.pg_moves.proofs.Built.{asked_is, step, still_behind}
+use Rattle.pg_moves.proofs.Stepped.{not_stepped, not_wanted, stepped}
 use Rattle.pg_moves.proofs.steps.add_end.Goals as goal
+use Rattle.pg_moves.proofs.steps.add_end.Goals.{After-end_at}
 
-pub returns-then-ends_here : goal.returns-then-ends_here
-returns-then-ends_here c = λ goes. not_stepped (doc_of c.args.sources.now) c.args.state.now c.args.laid.now
-    c.requires.laid c.args.end.now c.args.settled.now c.args.steps.now (sym c.ends_here.ensures ∙ c.if-ends_here.true)
-    goes
+-- up to the end it stays behind the column
+behind : (g : _) (c : After-end_at g) → IsBehind c.args.sources.now.style.now c.args.state.now c.args.laid.now
+    c.args.settled.now c.end_at.new.self
+behind g c = still_behind c.args.sources.now.style.now c.args.state.now c.args.laid.now c.args.settled.now
+    c.args.behind.now c.end_at.new.self _ _ c.end_at.ensures c.requires.behind
 
-pub returns : goal.returns
-returns c = λ goes. stepped (doc_of c.args.sources.now) c.args.state.now c.args.laid.now c.requires.laid
-    c.args.end.now c.args.settled.now c.in_ok-step_to.field-0 c.args.steps.now c.push.new.self
-    (sym c.ends_here.ensures ∙ c.if-ends_here.false) c.in_ok-step_to.ensures c.in_ok-push.ensures.ok goes
+pub cost_to-cost-requires : goal.cost_to-cost-requires
+cost_to-cost-requires g c = c.requires.behind.small
+
+pub rank-requires : goal.rank-requires
+rank-requires g c = (behind g (goal.at.rank-requires g c).After-end_at).tail
+
+pub returns-then-ends_here-clause-added : goal.returns-then-ends_here-clause-added
+returns-then-ends_here-clause-added g c = λ goes. not_stepped (doc_of c.args.sources.now) c.args.state.now
+    c.args.laid.now c.requires.laid (g.W.Wants.spares c.args.wants.now) c.args.end.now c.args.settled.now
+    c.args.steps.now (sym c.ends_here.ensures ∙ c.if-ends_here.true) goes
+
+pub returns-then-not-wants-clause-behind : goal.returns-then-not-wants-clause-behind
+returns-then-not-wants-clause-behind g c = behind g (goal.at.returns-then-not-wants-clause-behind g c).After-end_at
+
+pub returns-then-not-wants-clause-added : goal.returns-then-not-wants-clause-added
+returns-then-not-wants-clause-added g c = λ goes. not_wanted (doc_of c.args.sources.now) c.args.state.now
+    c.args.laid.now c.requires.laid (g.W.Wants.spares c.args.wants.now) c.args.end.now c.args.settled.now
+    (step (doc_of c.args.sources.now) c.args.state.now c.args.laid.now c.requires.laid c.end_at.new.self.state
+    (move_of c.args.state.now c.args.laid.now.layout c.args.end.now.to c.args.end.now.picks)
+    (to_z w128 (of_z w128 c.cost_to-cost.result)))
+    (sym c.ends_here.ensures ∙ c.if-ends_here.false)
+    (asked_is (doc_of c.args.sources.now) c.args.state.now c.args.laid.now c.requires.laid c.args.end.now
+    c.args.settled.now c.args.behind.now c.end_at.new.self _ c.end_at.ensures c.requires.behind
+    (to_z-of_z w128 c.cost_to-cost.result (record { sfits = search rules }) ∙ c.cost_to-cost.ensures)) goes c.args.steps.now (c.wants.ensures c.if-not-wants.true)
+
+pub returns-clause-behind : goal.returns-clause-behind
+returns-clause-behind g c = behind g (goal.at.returns-clause-behind g c).After-end_at
+
+pub returns-clause-added : goal.returns-clause-added
+returns-clause-added g c = λ goes. stepped (doc_of c.args.sources.now) c.args.state.now
+    c.args.laid.now c.requires.laid (g.W.Wants.spares c.args.wants.now) c.args.end.now c.args.settled.now
+    c.in_ok-step_to.field-0 (sym c.ends_here.ensures ∙ c.if-ends_here.false)
+    (λ settles. c.in_ok-step_to.ensures ∙ asked_is (doc_of c.args.sources.now) c.args.state.now c.args.laid.now
+    c.requires.laid c.args.end.now c.args.settled.now c.args.behind.now c.end_at.new.self _
+    c.end_at.ensures c.requires.behind
+    (to_z-of_z w128 c.cost_to-cost.result (record { sfits = search rules }) ∙ c.cost_to-cost.ensures) settles)
+    goes c.args.steps.now c.push.new.self c.in_ok-push.ensures.ok

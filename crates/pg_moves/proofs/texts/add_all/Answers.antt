@@ -1,11 +1,25 @@
-use Rattle.std.proofs.Common.{rules}
-use Rattle.pg_layouts.proofs.OneMore.{flat_next}
+use Rattle.std.proofs.Common.{rules, ◌≡◌, ◌∙◌, ap, length, take, ℕ}
+use Rattle.std.specs.List.{flat_map}
+use Rattle.std.proofs.Math.Seq.{take-length}
 use Rattle.pg_sources.specs.Document.{doc_of}
 use Rattle.pg_moves.specs.Stepping.{steps_in}
+use Rattle.pg_moves.proofs.Added.{adds_none, adds_same}
+use Rattle.pg_moves.proofs.Stepped.{layouts_more}
 use Rattle.pg_moves.proofs.texts.add_all.Goals as goal
 
+pub loop-it-init : goal.loop-it-init
+loop-it-init g c = λ right. adds_none (g.W.Wants.spares c.args.wants.now) c.args.steps.now
+
 pub loop-it-preserved : goal.loop-it-preserved
-loop-it-preserved c = λ right. flat_next
+loop-it-preserved g c = λ right. layouts_more
     (steps_in (doc_of c.args.sources.now) c.args.state.now c.args.kept.now.rooms.items)
-    c.args.steps.now c.loop-it.steps c.add_laid.new.steps c.args.laid.now c.loop-it.it-index c.it-item.result
-    (search rules) (search rules) (c.loop-it.invariant right) (c.in_ok-add_laid.ensures right)
+    (g.W.Wants.spares c.args.wants.now) c.args.steps.now c.loop-it.steps c.add_laid.new.steps c.args.laid.now
+    c.loop-it.it-index c.it-item.result (search rules) (search rules) (c.loop-it.invariant right)
+    (c.in_ok-add_laid.ensures right)
+
+pub returns : goal.returns
+returns g c = λ right.
+    let e : c.loop-it.it-index ≡ length c.args.laid.now = search rules in
+    adds_same (g.W.Wants.spares c.args.wants.now) c.args.steps.now c.loop-it.steps _ _
+    (ap (flat_map (steps_in (doc_of c.args.sources.now) c.args.state.now c.args.kept.now.rooms.items))
+    (ap (λ (n : ℕ). take n c.args.laid.now) e ∙ take-length c.args.laid.now)) (c.loop-it.invariant right)

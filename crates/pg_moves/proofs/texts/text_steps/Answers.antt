@@ -10,27 +10,27 @@ use Rattle.pg_moves.proofs.AllSteps.{laid_own, text_steps_are}
 use Rattle.pg_moves.proofs.texts.text_steps.Goals as goal
 
 pub lay_texts-requires-clause-ceiling : goal.lay_texts-requires-clause-ceiling
-lay_texts-requires-clause-ceiling c =
+lay_texts-requires-clause-ceiling g c =
     subst (HasSoMany (doc_of c.args.sources.now)) (sym c.as_slice.ensures) c.requires.ceiling
 
 pub add_all-requires-clause-laid : goal.add_all-requires-clause-laid
-add_all-requires-clause-laid c = λ it m. laid_own (doc_of c.args.sources.now) c.args.state.now
+add_all-requires-clause-laid g c = λ it m. laid_own (doc_of c.args.sources.now) c.args.state.now
     (text_layouts (doc_of c.args.sources.now) c.args.state.now c.as_slice.result.now) it
     (subst (λ (xs : List Laid). Contains xs it) (c.as_slice-laid.ensures.value ∙ c.in_ok-layouts.ensures.laid) m)
 
 pub returns-clause-steps : goal.returns-clause-steps
-returns-clause-steps c = λ right.
+returns-clause-steps g c = λ right.
     let now = c.in_ok-ask_all.ensures.right c.args.state.now.place
     (subst (AllByRecursion (λ (it : Laid). it.room ≤ℤ tallest c.args.sources.now.style.now))
     (sym c.as_slice-laid.ensures.value) c.in_ok-layouts.ensures.low) right in
     text_steps_are (doc_of c.args.sources.now) c.args.state.now c.args.ceiling.now c.ask_all.new.self
-    c.as_slice-laid.result.now c.new-steps.result c.add_all.new.steps
+    c.as_slice-laid.result.now (g.W.Wants.spares c.args.wants.now) c.new-steps.result c.add_all.new.steps
     (c.as_slice-laid.ensures.value ∙ (c.in_ok-layouts.ensures.laid
     ∙ ap (λ (counts : List ℕ). map (laid_of (doc_of c.args.sources.now) c.args.state.now)
     (text_layouts (doc_of c.args.sources.now) c.args.state.now counts)) c.as_slice.ensures))
     c.in_ok-ask_all.ensures.has now c.new-steps.ensures (c.in_ok-add_all.ensures now)
 
 pub returns-clause-kept : goal.returns-clause-kept
-returns-clause-kept c = c.in_ok-ask_all.ensures.right c.args.state.now.place
+returns-clause-kept g c = c.in_ok-ask_all.ensures.right c.args.state.now.place
     (subst (AllByRecursion (λ (it : Laid). it.room ≤ℤ tallest c.args.sources.now.style.now))
     (sym c.as_slice-laid.ensures.value) c.in_ok-layouts.ensures.low)

@@ -8,12 +8,12 @@ use Rattle.pg_table.specs.Label.{IsTable}
 use Rattle.pg_space.proofs.Telling.{of_equal}
 use Rattle.pg_space.proofs.solving.refill_kept.Goals as goal
 
-pub refill-requires : goal.refill-requires
-refill-requires g c = of_equal (λ (galley : GalleyValue) (style : StyleValue).
+pub refill_offered-requires : goal.refill_offered-requires
+refill_offered-requires g c = of_equal (λ (galley : GalleyValue) (style : StyleValue).
     (c.args.below ≡ 0) ⊎ IsRightBelow (page_meaning (document galley style)) c.args.below c.args.table.now)
     _ _ _ _ (sym c.new-space.ensures.galley) (sym c.new-space.ensures.style) c.requires.right
 
 pub returns-clause-table : goal.returns-clause-table
 returns-clause-table g c = of_equal
-    (λ (galley : GalleyValue) (style : StyleValue). IsTable (page_meaning (document galley style)) c.refill.new.self)
-    _ _ _ _ c.new-space.ensures.galley c.new-space.ensures.style c.in_ok-refill.ensures.ok
+    (λ (galley : GalleyValue) (style : StyleValue). IsTable (page_meaning (document galley style)) c.refill_offered.new.self)
+    _ _ _ _ c.new-space.ensures.galley c.new-space.ensures.style c.in_ok-refill_offered.ensures.ok

@@ -1,0 +1,13 @@
+use Rattle.std.proofs.Common.{◌≡◌, ◌<◌, ◌≤◌, ◌-◌, length, ℕ, Some}
+use Rattle.std.specs.Prelude.{slice_get}
+use Rattle.pg_table.specs.declared.table.Entry.{Entry}
+use Rattle.pg_line_space.specs.declared.state.LineState.{LineState}
+use Rattle.pg_line_space.specs.LineSpace.{line_state}
+use Rattle.pg_break_lines.proofs.ways.label_at.Given as goal
+
+abbrev pub invariant-labels : goal.invariant-labels
+invariant-labels l = (i : ℕ) (e : Entry LineState ℕ) → i < l.index → slice_get l.labels i ≡ Some e →
+    e.state ≡ line_state l.place l.lines → ⊥
+
+abbrev pub decreases-labels : goal.decreases-labels
+decreases-labels l = length l.labels - l.index

@@ -1,0 +1,4 @@
+pub mod Items
+pub mod Nodes
+pub mod ParsedLine
+pub mod Reading

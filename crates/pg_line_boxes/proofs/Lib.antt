@@ -1,0 +1,4 @@
+pub mod Widths
+pub mod Back
+pub mod SumsLaws
+pub mod Texts

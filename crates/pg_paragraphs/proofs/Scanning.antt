@@ -1,0 +1,109 @@
+-- What a scan along the breaks from a place needs: the items of a line by its first box, its sums by differences, and
+-- where it may stop.
+use Rattle.std.proofs.Common.{◌≡◌, refl, ap, ◌∙◌, subst, ℕ, ◌+◌, ◌-◌, ◌<◌, List, [], ◌∷◌, ◌++◌, Bool, true, false, inl, inr, arith}
+use Rattle.std.specs.Prelude.{◌&&◌, ◌||◌, not, nat_le, is_some, if◌then◌else◌, take, drop, ℤ, pos, ◌+ℤ◌, ◌-ℤ◌, ◌<ℤ◌, ◌≤ℤ◌, int_le, int_lt, T}
+use Rattle.std.specs.List.{list_all, range_with_len}
+use Rattle.std.proofs.lemmas.Int.{ints}
+use Rattle.pg_list.specs.Shapes.{is_box}
+use Rattle.pg_flat.specs.Badness.{is_over}
+use Rattle.pg_flat.specs.Whole.{whole_sum_by}
+use Rattle.pg_hlist.specs.declared.item.HItem.{HItem}
+use Rattle.pg_hlist.specs.Items.{as_item}
+use Rattle.pg_paragraphs.specs.declared.rule.LineRule.{LineRule}
+use Rattle.pg_paragraphs.specs.Lines.{from_box, holds_box, is_forced_at, is_line, line_badness, passes_forced, penalty_at, line_items, line_is_over}
+use Rattle.pg_lemmas.proofs.Bools.{both_of}
+use Rattle.pg_paragraphs.proofs.Members.{Among, range_among}
+
+-- ---- the first box
+
+skip_boxless : (xs ys : List HItem) → holds_box xs ≡ false → from_box (xs ++ ys) ≡ from_box ys
+skip_boxless [] ys e = refl
+skip_boxless (x ∷ xs) ys e = by (is_box (as_item x)) refl e (skip_boxless xs ys)
+  where
+    by : (b : Bool) → b ≡ is_box (as_item x) → (b || holds_box xs) ≡ false →
+        (holds_box xs ≡ false → from_box (xs ++ ys) ≡ from_box ys) →
+        (if b then x ∷ xs ++ ys else from_box (xs ++ ys)) ≡ from_box ys
+    by true t h more = absurd cc
+    by false t h more = more h
+
+-- behind items without a box, a line begins with the first box
+pub begins_with_first : (xs : List HItem) (x : HItem) (ys : List HItem) → holds_box xs ≡ false →
+    is_box (as_item x) ≡ true → from_box (xs ++ x ∷ ys) ≡ x ∷ ys
+begins_with_first xs x ys e b = skip_boxless xs (x ∷ ys) e ∙ by (is_box (as_item x)) b
+  where
+    by : (c : Bool) → c ≡ true → (if c then x ∷ ys else from_box ys) ≡ x ∷ ys
+    by true t = refl
+    by false t = absurd cc
+
+-- ---- sums
+
+pub sum_append : {X : Type 0} (f : X → ℤ) (xs ys : List X) →
+    whole_sum_by f (xs ++ ys) ≡ whole_sum_by f xs +ℤ whole_sum_by f ys
+sum_append f [] ys = zero (whole_sum_by f ys)
+  where
+    zero : (z : ℤ) → z ≡ pos 0 +ℤ z
+    zero z = omega (arith, ints)
+sum_append f (x ∷ xs) ys =
+    ap (λ (z : ℤ). f x +ℤ z) (sum_append f xs ys) ∙ group (f x) (whole_sum_by f xs) (whole_sum_by f ys)
+  where
+    group : (a b c : ℤ) → a +ℤ (b +ℤ c) ≡ (a +ℤ b) +ℤ c
+    group a b c = omega (arith, ints)
+
+-- the sum of what follows a front is the difference of two sums of fronts
+pub sum_between : {X : Type 0} (f : X → ℤ) (front middle : List X) →
+    whole_sum_by f middle ≡ whole_sum_by f (front ++ middle) -ℤ whole_sum_by f front
+sum_between f front middle = less (whole_sum_by f (front ++ middle)) (whole_sum_by f front) (whole_sum_by f middle)
+    (sum_append f front middle)
+  where
+    less : (a b c : ℤ) → a ≡ b +ℤ c → c ≡ a -ℤ b
+    less a b c e = omega (arith, ints)
+
+-- ---- where a scan may stop
+
+all_at : {X : Type 0} (p : X → Bool) (xs : List X) (x : X) → list_all p xs ≡ true → Among x xs → p x ≡ true
+all_at p [] x h a = absurd a
+all_at p (y ∷ ys) x h (inl e) = subst (λ z. p z ≡ true) e (both_of (p y) (list_all p ys) h).0
+all_at p (y ∷ ys) x h (inr a) = all_at p ys x (both_of (p y) (list_all p ys) h).1 a
+
+-- no line goes on behind a forced break that stands behind its first box
+pub stops_when_forced : (rule : LineRule) (para : List HItem) (a j k : ℕ) → a < j → j < k →
+    is_forced_at para j ≡ true → holds_box (drop a (take j para)) ≡ true → is_line rule para a k ≡ true → ⊥
+stops_when_forced rule para a j k low high forced box h =
+    let four = both_of (nat_le (line_badness rule (line_items para a k)) rule.tolerance || is_forced_at para k)
+    (passes_forced para a k) (both_of (not (line_is_over rule (line_items para a k)))
+    ((nat_le (line_badness rule (line_items para a k)) rule.tolerance || is_forced_at para k) && passes_forced para a k)
+    (both_of (holds_box (drop a (take k para))) (not (line_is_over rule (line_items para a k))
+    && ((nat_le (line_badness rule (line_items para a k)) rule.tolerance || is_forced_at para k)
+    && passes_forced para a k)) (both_of (is_some (penalty_at para k)) (holds_box (drop a (take k para))
+    && (not (line_is_over rule (line_items para a k))
+    && ((nat_le (line_badness rule (line_items para a k)) rule.tolerance || is_forced_at para k)
+    && passes_forced para a k))) h).1).1).1 in
+    clash (is_forced_at para j) (holds_box (drop a (take j para))) forced box
+    (all_at (λ (i : ℕ). not (is_forced_at para i && holds_box (drop a (take i para))))
+    (range_with_len (a + 1) (k - (a + 1))) j four.1
+    (range_among (a + 1) (k - (a + 1)) j (omega arith) (omega arith)))
+  where
+    clash : (b c : Bool) → b ≡ true → c ≡ true → not (b && c) ≡ true → ⊥
+    clash true true p q e = absurd cc
+    clash false c p q e = absurd cc
+    clash true false p q e = absurd cc
+
+-- a line whose total, and whose total less its shrink, pass the width is over
+pub over_by_bounds : (total shrink width : ℤ) → width ≤ℤ total → width <ℤ (total -ℤ shrink) →
+    is_over total shrink width ≡ true
+over_by_bounds total shrink width a b = two (int_le width total) (int_lt shrink (total -ℤ width)) (le_of a)
+    (lt_of (omega (arith, ints)))
+  where
+    true_of : (b : Bool) → T b → b ≡ true
+    true_of true t = refl
+    true_of false t = absurd t
+
+    le_of : width ≤ℤ total → int_le width total ≡ true
+    le_of h = true_of (int_le width total) h.le
+
+    lt_of : shrink <ℤ (total -ℤ width) → int_lt shrink (total -ℤ width) ≡ true
+    lt_of h = true_of (int_lt shrink (total -ℤ width)) h.lt
+
+    two : (b c : Bool) → b ≡ true → c ≡ true → (b && c) ≡ true
+    two true c p q = q
+    two false c p q = absurd cc
