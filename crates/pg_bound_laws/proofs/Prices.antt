@@ -116,7 +116,7 @@ break_low flat k = low_if (k == length flat) (Some (pos 0)) _ zero_low (by (slic
     by None = none_low
     by (Some item) = item_low flat k item
 
-penalty_few : (z : ℤ) → z <ℤ pos 10000 → nat_abs (penalty_demerits z) ≤ 100000000
+pub penalty_few : (z : ℤ) → z <ℤ pos 10000 → nat_abs (penalty_demerits z) ≤ 100000000
 penalty_few (pos p) h =
     let l : p ≤ 10000 = omega (arith, ints) in
     let s : p * p ≤ 10000 * 10000 = square_few p 10000 l in

@@ -10,10 +10,10 @@ use Rattle.pg_flat.specs.Whole.{whole_sum_by}
 use Rattle.pg_hlist.specs.declared.item.HItem.{HItem}
 use Rattle.pg_hlist.specs.Items.{IsInRange, IsPara, as_item, width_of}
 use Rattle.pg_lemmas.proofs.Lists.{all_drop}
-use Rattle.pg_paragraphs.proofs.Tests.{less_int, not_less_int}
 use Rattle.pg_break_lines.specs.declared.ahead.Fall.{Fall}
 use Rattle.pg_break_lines.specs.Ahead.{IsBounded, at_most_zero, fall_before, fall_of, falls_of, least_front, tight_width}
 use Rattle.pg_line_boxes.proofs.SumsLaws.{shrink_small, width_small}
+use Rattle.pg_place_laws.proofs.Tests.{less_int, not_less_int}
 
 -- ---- the list
 

@@ -7,7 +7,7 @@ use Rattle.std.proofs.lemmas.List.FromFn.{get_or-map-range_with_len, length-map-
 use Rattle.std.proofs.lemmas.Option.{slice_get-get_or}
 use Rattle.std.proofs.lemmas.Bool.Decides.{nat_tests}
 use Rattle.pg_lemmas.proofs.Bools.{by_bool, if_true}
-use Rattle.pg_lemmas.proofs.Numbers.{eq_not, less_true, not_less}
+use Rattle.pg_lemmas.proofs.Numbers.{eq_not, less_true, not_less, le_true, true_le}
 use Rattle.pg_table.specs.Space.{AreMoves}
 use Rattle.pg_table.specs.declared.step.Step.{Step}
 use Rattle.pg_hlist.specs.declared.item.HItem.{HItem}
@@ -15,33 +15,17 @@ use Rattle.pg_paragraphs.specs.declared.rule.LineRule.{LineRule}
 use Rattle.pg_paragraphs.specs.Lines.{is_line, line_demerits}
 use Rattle.pg_paragraphs.proofs.LineFacts.{line_within}
 use Rattle.pg_paragraphs.proofs.Tests.{eq_true}
-use Rattle.pg_paragraphs.proofs.Members.{Among, among_cases, among_left, among_right}
 use Rattle.pg_line_space.specs.declared.state.LineState.{LineState}
 use Rattle.pg_line_space.specs.BestSpace.{NextBreak, best_meaning, unit}
 use Rattle.pg_line_space.specs.LineSpace.{NextLine, line_meaning, line_state}
 use Rattle.pg_break_lines.specs.declared.ends.LineEnd.{LineEnd}
 use Rattle.pg_break_lines.specs.Ends.{all_ends, end_at, ends_from, ends_on}
 use Rattle.pg_break_lines.specs.Moves.{best_step, ends_at, line_step}
+use Rattle.pg_place_laws.proofs.Among.{among_cases, Among, among_left, among_right}
+use Rattle.pg_member_laws.proofs.Members.{among_contains, contains_among}
+use Rattle.pg_member_laws.proofs.Pairs.{at_among}
 
 -- ---- members
-
-pub among_contains : {X : Type 0} (xs : List X) (x : X) → Among x xs → Contains xs x
-among_contains [] x a = absurd a
-among_contains (y ∷ ys) x (inl p) = (0, omega arith, p)
-among_contains (y ∷ ys) x (inr a) = let r = among_contains ys x a in (suc r.0, omega (arith, r.1), r.2)
-
-pub contains_among : {X : Type 0} (xs : List X) (x : X) → Contains xs x → Among x xs
-contains_among {X} xs x (k, h, e) = at xs k h e
-  where
-    at : (xs : List X) (k : ℕ) → k < length xs → get_or xs k x ≡ x → Among x xs
-    at [] k h e = absurd (omega (arith, h))
-    at (y ∷ ys) zero h e = inl e
-    at (y ∷ ys) (suc k) h e = inr (at ys k (omega (arith, h)) e)
-
-get_among : {X : Type 0} (xs : List X) (i : ℕ) (d : X) → i < length xs → Among (get_or xs i d) xs
-get_among [] i d h = absurd (omega (arith, h))
-get_among (x ∷ xs) zero d h = inl refl
-get_among (x ∷ xs) (suc i) d h = inr (get_among xs i d (omega (arith, h)))
 
 -- ---- what is listed
 
@@ -130,7 +114,7 @@ module _ (rule : LineRule) (para : List HItem) (u : ℕ) where
     cons : (x : Step S ℕ) (xs : List (Step S ℕ)) → ((s : Step S ℕ) → Among s xs → x.by < s.by) → Apart xs → Apart (x ∷ xs)
     cons x xs less r i zero d lt within = absurd (omega (arith, lt))
     cons x xs less r zero (suc j) d lt within = λ e.
-        let l = less (get_or xs j d) (get_among xs j d (omega (arith, within))) in omega (arith, l, e)
+        let l = less (get_or xs j d) (at_among xs j d (omega (arith, within))) in omega (arith, l, e)
     cons x xs less r (suc i) (suc j) d lt within = r i j d (omega (arith, lt)) (omega (arith, within))
 
     later : (k m : ℕ) (s : Step S ℕ) → Among s (steps_of (ends_on rule para u k m)) → k ≤ s.by
@@ -222,12 +206,6 @@ module _ (low : ℕ → ℕ) (most lines : ℕ) where
   line_by : (e : LineEnd) (s : Step LineState ℕ) → Among s (line_step low most lines e) → s.by ≡ e.place
   line_by e s a = sym (ap (λ (t : Step LineState ℕ). t.by) (line_step_is e s a).is)
 
-le_true : (a b : ℕ) → nat_le a b ≡ true → a ≤ b
-le_true a b h = grind (arith, nat_tests)
-
-le_of : (a b : ℕ) → a ≤ b → nat_le a b ≡ true
-le_of a b h = grind (arith, nat_tests)
-
 pub line_moves : (rule : LineRule) (para : List HItem) (low : ℕ → ℕ) (most : ℕ) (u : LineState) →
     AreMoves (line_meaning rule para low most) u (flat_map (line_step low most u.lines) (ends_from rule para u.index))
 line_moves rule para low most u = record {
@@ -243,7 +221,7 @@ line_moves rule para low most u = record {
       (on_end rule para u.index 0 (length para + 1) k (omega arith)
       (let w = line_within rule para u.index k f.stands in omega (arith, w)) f.stands)
       (subst (Among (record { to = line_state k (u.lines + 1); by = k; cost = line_demerits rule para u.index k }))
-      (sym (if_true (nat_le (u.lines + 1 + low k) most) _ _ (le_of (u.lines + 1 + low k) most f.fits))) (inl refl))));
+      (sym (if_true (nat_le (u.lines + 1 + low k) most) _ _ (true_le (u.lines + 1 + low k) most f.fits))) (inl refl))));
   once = once rule para u.index step (line_single low most u.lines) (line_by low most u.lines) 0 (length para + 1);
 }
   where

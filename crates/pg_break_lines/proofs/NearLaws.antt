@@ -14,6 +14,8 @@ use Rattle.pg_hlist.specs.declared.item.HItem.TheVariants.{BoxItem, Glue, Kern, 
 use Rattle.pg_hlist.specs.Items.{as_item, as_items}
 use Rattle.pg_paragraphs.specs.Lines.{is_forced_at, penalty_at}
 use Rattle.pg_break_lines.specs.Near.{box_end, follows_box, forces, is_hbox, is_hglue, item_penalty, near_forced, near_penalty, passes_at}
+use Rattle.pg_breaks.proofs.Kept.{front_step, back_step}
+use Rattle.pg_list.proofs.Sizes.{last_step}
 
 -- ---- breaks
 
@@ -63,16 +65,6 @@ penalty_is para k = sym (
 
 -- ---- boxes behind a place
 
-front_step : (t any : Bool) (n : ℕ) → any ≡ nat_lt 0 n →
-    (t || any) ≡ nat_lt 0 (if nat_lt 0 n then n + 1 else (if t then 1 else 0))
-front_step true any n e = grind (arith, nat_tests)
-front_step false any n e = grind (arith, nat_tests)
-
-back_step : (t any : Bool) (n b : ℕ) → any ≡ nat_lt b n →
-    any ≡ nat_lt (suc b) (if nat_lt 0 n then n + 1 else (if t then 1 else 0))
-back_step true any n b e = grind (arith, nat_tests)
-back_step false any n b e = grind (arith, nat_tests)
-
 any_from : (para : List HItem) (b : ℕ) → list_any is_box (drop b (as_items para)) ≡ nat_lt b (box_end para)
 any_from [] zero = refl
 any_from [] (suc b) = grind (arith, nat_tests)
@@ -90,11 +82,6 @@ forced_is para k = sym (
     ∙ ap (λ (b : Bool). (k == length para) || (passes_at forces para k && b)) (any_from para (k + 1)))
 
 -- ---- the last box
-
-last_step : (x y n : ℕ) (p q : Bool) → x ≡ (if p then n + 1 else y) →
-    (if nat_lt 0 x then x + 1 else (if q then 1 else 0))
-    ≡ (if p then suc n + 1 else (if nat_lt 0 y then y + 1 else (if q then 1 else 0)))
-last_step x y n p q e = grind (arith, nat_tests)
 
 last_push : (items : List HItem) (item : HItem) →
     box_end (items ++ item ∷ []) ≡ (if is_hbox item then length items + 1 else box_end items)

@@ -6,10 +6,11 @@ use Rattle.pg_flat.specs.Badness.{is_over}
 use Rattle.pg_flat.specs.Whole.{square}
 use Rattle.pg_hlist.specs.declared.item.HItem.{HItem}
 use Rattle.pg_paragraphs.specs.declared.rule.LineRule.{LineRule}
-use Rattle.pg_paragraphs.specs.Lines.{is_line, line_demerits, penalty_at, penalty_demerits}
+use Rattle.pg_paragraphs.specs.Lines.{is_line, line_demerits, penalty_at}
 use Rattle.pg_break_lines.specs.declared.ends.LineEnd.{LineEnd}
 use Rattle.pg_line_boxes.specs.declared.sums.LineSums.{LineSums}
 use Rattle.pg_line_boxes.specs.Sums.{sums_badness}
+use Rattle.pg_rules.specs.Cost.{penalty_demerits}
 
 -- the line from a up to k, where it may stand
 abbrev pub end_at : LineRule → List HItem → ℕ → ℕ → List LineEnd

@@ -6,12 +6,12 @@ use Rattle.std.proofs.lemmas.Bool.Decides.{nat_tests}
 use Rattle.pg_list.specs.declared.blocks.Block.{Block}
 use Rattle.pg_list.specs.Places.{count_to_last}
 
-front_step : (t any : Bool) (n : ℕ) → any ≡ nat_lt 0 n →
+pub front_step : (t any : Bool) (n : ℕ) → any ≡ nat_lt 0 n →
     (t || any) ≡ nat_lt 0 (if nat_lt 0 n then n + 1 else (if t then 1 else 0))
 front_step true any n e = grind (arith, nat_tests)
 front_step false any n e = grind (arith, nat_tests)
 
-back_step : (t any : Bool) (n b : ℕ) → any ≡ nat_lt b n →
+pub back_step : (t any : Bool) (n b : ℕ) → any ≡ nat_lt b n →
     any ≡ nat_lt (suc b) (if nat_lt 0 n then n + 1 else (if t then 1 else 0))
 back_step true any n b e = grind (arith, nat_tests)
 back_step false any n b e = grind (arith, nat_tests)

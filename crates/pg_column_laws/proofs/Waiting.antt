@@ -6,22 +6,13 @@ use Rattle.pg_style.specs.Values.{StyleValue}
 use Rattle.pg_rules.specs.Floats.{numbered, floats_between, entry, slots, plus_counts, float_numbers}
 use Rattle.pg_plan.specs.declared.pages.PageMove.{PageMove}
 use Rattle.pg_rules.specs.History.{with_wide, placed_after}
-use Rattle.pg_place_laws.proofs.Among.{Among, among_left, among_right}
+use Rattle.pg_place_laws.proofs.Among.{Among, among_left, among_right, among_cases}
 
 -- the float is one of the class's slots, from the one count up to the other
 pub record IsBetween (style : StyleValue) (a b : List ℕ) (float : ℕ × ℕ) : Type 0 where
   pub slot : float.0 < length (float_numbers style)
   pub from : entry a float.0 ≤ float.1
   pub to : float.1 < entry b float.0
-
-among_append : {X : Type 0} (x : X) (xs ys : List X) → Among x (xs ++ ys) → Among x xs ⊎ Among x ys
-among_append x [] ys a = inr a
-among_append x (z ∷ xs) ys (inl e) = inl (inl e)
-among_append {X} x (z ∷ xs) ys (inr a) = by (among_append x xs ys a)
-  where
-    by : Among x xs ⊎ Among x ys → ((z ≡ x) ⊎ Among x xs) ⊎ Among x ys
-    by (inl b) = inl (inr b)
-    by (inr b) = inr b
 
 numbered_at : (s n k : ℕ) (float : ℕ × ℕ) → Among float (numbered s n k) →
     (float.0 ≡ s) × ((n ≤ float.1) × (float.1 < n + k))
@@ -45,7 +36,7 @@ slots_at : (a b : List ℕ) (f k : ℕ) (float : ℕ × ℕ) → Among float (sl
     (float.0 < f + k) × ((entry a float.0 ≤ float.1) × (float.1 < entry b float.0))
 slots_at a b f zero float h = absurd h
 slots_at a b f (suc k) float h =
-    elim (among_append float (numbered f (entry a f) (entry b f - entry a f))
+    elim (among_cases float (numbered f (entry a f) (entry b f - entry a f))
     (slotted a b (range_with_len (f + 1) k)) h) [
       | inl x ↦ here x (numbered_at f (entry a f) (entry b f - entry a f) float x)
       | inr x ↦ there (slots_at a b (f + 1) k float x)

@@ -14,15 +14,15 @@ use Rattle.pg_column.specs.Fits.{are_named, does_fit_from}
 use Rattle.pg_column.proofs.Leads.{is_at, position_here, position_later}
 use Rattle.pg_column_text.specs.Between.{column_text, items_to}
 
-items_whole : (to : Place) (xs : List FlatItem) → items_to true to xs ≡ map (λ (x : FlatItem). x.item) xs
+pub items_whole : (to : Place) (xs : List FlatItem) → items_to true to xs ≡ map (λ (x : FlatItem). x.item) xs
 items_whole to [] = refl
 items_whole to (x ∷ xs) = ap (λ (items : List Item). x.item ∷ items) (items_whole to xs)
 
-map_length : (xs : List FlatItem) → length (map (λ (x : FlatItem). x.item) xs) ≡ length xs
+pub map_length : (xs : List FlatItem) → length (map (λ (x : FlatItem). x.item) xs) ≡ length xs
 map_length [] = refl
 map_length (x ∷ xs) = ap suc (map_length xs)
 
-items_part : (to : Place) (xs : List FlatItem) (n : ℕ) → position (is_at to) xs ≡ Some n →
+pub items_part : (to : Place) (xs : List FlatItem) (n : ℕ) → position (is_at to) xs ≡ Some n →
     items_to false to xs ≡ take n (map (λ (x : FlatItem). x.item) xs)
 items_part to [] n e = absurd cc
 items_part to (x ∷ xs) n e = by_bool (is_at to x)
@@ -44,7 +44,7 @@ items_part to (x ∷ xs) n e = by_bool (is_at to x)
         ∙ ap (λ (k : ℕ). take k (map (λ (x : FlatItem). x.item) (x ∷ xs))) s
 
 -- the items up to a place are as many as stand before it
-items_are : (blocks : List Block) (to : Place) (xs : List FlatItem) (n : ℕ) → steps_to blocks xs to ≡ Some n →
+pub items_are : (blocks : List Block) (to : Place) (xs : List FlatItem) (n : ℕ) → steps_to blocks xs to ≡ Some n →
     items_to (is_same_place to (end_of blocks)) to xs ≡ take n (map (λ (x : FlatItem). x.item) xs)
 items_are blocks to xs n e = by (is_same_place to (end_of blocks)) e
   where

@@ -29,8 +29,9 @@ use Rattle.pg_course.specs.Course.{EndsBy, OnWriteFault}
 use Rattle.pg_course.specs.Course.{ReadLine, Stop, read_by, said_galley}
 use Rattle.pg_course.specs.Course.{fetched, opened, opened_output, opened_style, stop}
 use Rattle.pg_course.specs.Verdict.{yes_line}
-use Rattle.pg_course.proofs.Runs.{appends_none, begins_as, ends_as, few_test, keeps_all, no_floats, on_read_fault}
+use Rattle.pg_course.proofs.Runs.{appends_none, begins_as, ends_as, keeps_all, no_floats, on_read_fault}
 use Rattle.pg_course.proofs.Runs.{on_settled, on_write_fault, writes_as}
+use Rattle.pg_lemmas.proofs.Numbers.{true_le}
 
 -- ---- the answer of a check
 
@@ -239,7 +240,7 @@ module _ (style galley output : List ℕ) (wrap : Option ℕ) where
       GoesOn (λ held. CheckText s g (opened_output output (held output))) output shelf out end →
       Goes This shelf out end
   taken_goes s g shelf out end known few read goes =
-      let test : nat_le (float_total g.blocks s) (2 ^ 12) ≡ true = few_test (float_total g.blocks s) (2 ^ 12) few in
+      let test : nat_le (float_total g.blocks s) (2 ^ 12) ≡ true = true_le (float_total g.blocks s) (2 ^ 12) few in
       goes_on (λ held. CheckText s g (opened_output output (held output))) shelf out end
       (if_some shelf.told (λ held (of_style, of_galley) texts status line course.
       rw (of_style, of_galley, known, test) course) read)

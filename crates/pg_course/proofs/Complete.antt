@@ -29,6 +29,7 @@ use Rattle.pg_course.specs.Out.{Out, RunOut}
 use Rattle.pg_course.specs.Verdict.{Answers}
 use Rattle.pg_course.proofs.Checks.{all_told, earlier_rose, if_some}
 use Rattle.pg_course.proofs.Runs.{on_read_fault}
+use Rattle.pg_lemmas.proofs.Numbers.{le_true}
 
 -- ---- the text that a run with labels writes tells the solution
 
@@ -76,9 +77,6 @@ text_answered g s name text file texts end line tells short is course =
     answered g s tells.output answer texts end line tells.shows answers told
 
 -- ---- a galley of which a run wrote a text is taken
-
-few_of : (n m : ℕ) → nat_le n m ≡ true → n ≤ m
-few_of n m e = grind (arith, nat_tests)
 
 no_text : (text : List ℕ) (end : Status) (line : List ℕ) (said : Stop) → Stops (text ∷ []) end line said → ⊥
 no_text text end line said (none, ends, says) = absurd (cc)
@@ -170,7 +168,7 @@ module _ (style galley output : List ℕ) (wrap : Option ℕ) where
         let (few, (text, out, one, quiet), tested) = both_taken _ _ _ (unknown_class g.blocks s)
         (nat_le (float_total g.blocks s) (2 ^ 12)) _ it.text it.end it.line _ _ ran checked in
         let same : text ≡ it.text = cc in
-        let tells = run_tells g s best none it.text it.end (few_of (float_total g.blocks s) (2 ^ 12) few) it.short
+        let tells = run_tells g s best none it.text it.end (le_true (float_total g.blocks s) (2 ^ 12) few) it.short
         (subst (λ (t : List ℕ). RunOut true g s t it.end) same out) in
         text_answered g s output it.text (held output) texts status line tells it.short it.is_held tested
 

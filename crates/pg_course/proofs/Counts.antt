@@ -16,7 +16,7 @@ use Rattle.pg_command.specs.declared.status.Status.TheVariants.{Memory, NotProve
 use Rattle.pg_course.specs.Counted.{CountsEdit, CountsRun, CountsScript, IsShown, UnlessMemory, taken_shows}
 use Rattle.pg_course.specs.Course.{Stop}
 use Rattle.pg_course.proofs.Checks.{if_both}
-use Rattle.pg_course.proofs.Runs.{few_test}
+use Rattle.pg_lemmas.proofs.Numbers.{true_le}
 
 pub unless_memory : {P Q : Type 0} → (status : Status) → (P → Q) → UnlessMemory status P → UnlessMemory status Q
 unless_memory Memory f p = tt
@@ -77,7 +77,7 @@ taken_all : (style : StyleValue) (galley : GalleyValue) (shown : List Show) → 
     float_total galley.blocks style ≤ 2 ^ 12 → taken_shows style galley shown ≡ shown
 taken_all style galley shown known few =
     let test : nat_le (float_total galley.blocks style) (2 ^ 12) ≡ true =
-    few_test (float_total galley.blocks style) (2 ^ 12) few in
+    true_le (float_total galley.blocks style) (2 ^ 12) few in
     rw (known, test) refl
 
 -- what is counted of them

@@ -21,6 +21,7 @@ use Rattle.pg_command.proofs.Fronts.{appends_nothing, front_of_more}
 use Rattle.pg_course.specs.Calls.{OverSink, Writes, ending_of, over_sink}
 use Rattle.pg_course.specs.Course.{Stop, opened, opened_style, OneText, PaginateGalley, RunGalley, RunCourse, OnTaken}
 use Rattle.pg_course.specs.Course.{StyledCourse, EndsBy, BeginsBy, EndedBefore, OnSettled, OnReadFault, OnWriteFault}
+use Rattle.pg_lemmas.proofs.Numbers.{true_le}
 
 pub on_settled : {P Q : Type 0} → (status : Status) → (P → Q) → OnSettled status P → OnSettled status Q
 on_settled ReadFault f p = tt
@@ -144,9 +145,6 @@ pub keeps_all : (old : Option (List ℕ)) → Keeps old old
 keeps_all None = tt
 keeps_all (Some xs) = refl
 
-pub few_test : (a b : ℕ) → a ≤ b → nat_le a b ≡ true
-few_test a b few = grind (arith, nat_tests)
-
 many_test : (a b : ℕ) → b < a → nat_le a b ≡ false
 many_test a b many = grind (arith, nat_tests)
 
@@ -196,7 +194,7 @@ pub taken_writes : (labels : Bool) (style : StyleValue) (galley : GalleyValue) (
     Writes (PaginateGalley labels style galley) out end → Writes (RunGalley labels style galley) out end
 taken_writes labels style galley out end known few w =
     let test : nat_le (float_total galley.blocks style) (2 ^ 12) ≡ true =
-    few_test (float_total galley.blocks style) (2 ^ 12) few in
+    true_le (float_total galley.blocks style) (2 ^ 12) few in
     writes_as (PaginateGalley labels style galley) (RunGalley labels style galley) out end
     (λ texts status line course. rw (known, test) course) w
 

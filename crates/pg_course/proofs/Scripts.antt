@@ -24,8 +24,9 @@ use Rattle.pg_course.specs.Course.{Ended, OnMemory, OnReadFault, OnSettled, OnTa
 use Rattle.pg_course.specs.Course.{fetched, first_steps, opened, opened_script, opened_style, read_by, said_galley}
 use Rattle.pg_course.specs.Course.{Stops, said_style, stop}
 use Rattle.pg_course.proofs.Checks.{all_told, if_both, if_some, no_front, on_memory, read_line, settled_of}
-use Rattle.pg_course.proofs.Runs.{appends_none, begins_as, ends_as, few_test, keeps_all, no_floats, on_read_fault}
+use Rattle.pg_course.proofs.Runs.{appends_none, begins_as, ends_as, keeps_all, no_floats, on_read_fault}
 use Rattle.pg_course.proofs.Runs.{on_settled, on_write_fault, when_said}
+use Rattle.pg_lemmas.proofs.Numbers.{true_le}
 
 pub when_memory : {P Q : Type 0} → (status : Status) → (P → Q) → OnMemory status P → OnMemory status Q
 when_memory Memory f p = f p
@@ -194,7 +195,7 @@ module _ (style galley script : List ℕ) (labels : Bool) (wrap : Option ℕ) wh
       (λ held. ScriptFront labels s g (opened_script script (held script))) script shelf out end →
       Goes This shelf out end
   taken_goes s g shelf out end known few read goes =
-      let test : nat_le (float_total g.blocks s) (2 ^ 12) ≡ true = few_test (float_total g.blocks s) (2 ^ 12) few in
+      let test : nat_le (float_total g.blocks s) (2 ^ 12) ≡ true = true_le (float_total g.blocks s) (2 ^ 12) few in
       goes_through (λ held. EditScript labels s g (opened_script script (held script)))
       (λ held. ScriptFront labels s g (opened_script script (held script))) shelf out end
       (if_some shelf.told (λ held (of_style, of_galley) texts status line course.

@@ -6,7 +6,7 @@ use Rattle.pg_list.specs.declared.blocks.Block.{Block}
 use Rattle.pg_showbox.specs.declared.kinds.ListFault.{ListFault}
 use Rattle.pg_edits.specs.Instructions.{instruction_of, or_bad, words_said}
 use Rattle.pg_edits.specs.Kinds.{IsScriptKind}
-use Rattle.pg_edits.specs.Script.{◌>>=◌, Gives, OrMemory, as_blocks, blocks_at, has_point, items_said, line_said, no_items, step_said, steps_from, told}
+use Rattle.pg_edits.specs.Script.{◌>>=◌, Gives, OrMemory, as_blocks, blocks_at, items_said, line_said, no_items, step_said, steps_from, told}
 use Rattle.pg_edits.specs.declared.instruction.Instruction.{Instruction}
 use Rattle.pg_edits.specs.declared.instruction.Instruction.TheVariants as said
 use Rattle.pg_edits.specs.declared.kinds.ScriptFault.{ScriptFault}
@@ -14,6 +14,7 @@ use Rattle.pg_edits.specs.declared.kinds.ScriptKind.{ScriptKind}
 use Rattle.pg_edits.specs.declared.kinds.ScriptKind.TheVariants.{UnknownWord, BadNumber, NoBlocks, Blocks, Memory}
 use Rattle.pg_edits.specs.declared.script.ScriptStep.{ScriptStep}
 use Rattle.pg_edits.proofs.ListKinds.{NamedAt, blocks_named}
+use Rattle.pg_scan.specs.Lines.{has_point}
 
 -- ---- one line
 

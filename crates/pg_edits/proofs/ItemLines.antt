@@ -7,10 +7,10 @@ use Rattle.std.proofs.lemmas.Bool.{cases_Bool}
 use Rattle.std.proofs.lemmas.Bool.Decides.{nat_tests}
 use Rattle.std.proofs.lemmas.List.{take_at, map-append}
 use Rattle.pg_lemmas.proofs.Lists.{all_append}
-use Rattle.pg_scan.specs.Lines.{lines_of, raw_lines, trimmed, in_front, is_no_feed, onto_first}
+use Rattle.pg_scan.specs.Lines.{lines_of, raw_lines, trimmed, in_front, is_no_feed, onto_first, has_point}
 use Rattle.pg_scan.specs.Parts.{parts_of}
-use Rattle.pg_edits.specs.Script.{has_point}
 use Rattle.pg_edits.proofs.TextParts.{IsUncut, first_part, only_part, uncut}
+use Rattle.pg_showbox.proofs.ReadBack.{no_feed_is}
 
 abbrev pub IsItem : List ℕ → Type 0
 IsItem line = IsTrue (has_point line)
@@ -85,13 +85,6 @@ are_items (line ∷ lines) = elim (cases_Bool (has_point line)) [
 ]
 
 -- ---- a text that is cut behind lines
-
-no_feed_is : (c : ℕ) → IsTrue (is_no_feed c) → (c == 10) ≡ false
-no_feed_is c h = by (c == 10) h
-  where
-    by : (b : Bool) → IsTrue (not b) → b ≡ false
-    by true h = absurd cc
-    by false h = refl
 
 lines_line : (line rest : List ℕ) → IsUncut 10 line → lines_of (line ++ 10 ∷ rest) ≡ line ∷ lines_of rest
 unfolding lines_of

@@ -4,8 +4,8 @@ use Rattle.std.specs.Prelude.{Result, Ok, Err, take_while}
 use Rattle.std.specs.List.{AllByRecursion, cons_option}
 use Rattle.std.specs.Option.{option_to_list}
 use Rattle.std.proofs.lemmas.Bool.Decides.{nat_tests}
-use Rattle.pg_scan.specs.Lines.{Line, joined, raw_lines}
-use Rattle.pg_edits.specs.Script.{◌>>=◌, OrMemory, fault_at, has_point, line_said, no_items, script_of, steps_from}
+use Rattle.pg_scan.specs.Lines.{Line, joined, raw_lines, has_point}
+use Rattle.pg_edits.specs.Script.{◌>>=◌, OrMemory, fault_at, line_said, no_items, script_of, steps_from}
 use Rattle.pg_edits.specs.declared.kinds.ScriptFault.{ScriptFault}
 use Rattle.pg_edits.specs.declared.kinds.ScriptKind.TheVariants.{UnknownWord}
 use Rattle.pg_edits.specs.declared.script.ScriptStep.{ScriptStep}

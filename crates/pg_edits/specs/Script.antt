@@ -2,7 +2,7 @@
 use Rattle.std.specs.Prelude.{◌≡◌, ⊤, ℕ, ◌+◌, ◌==◌, Bool, false, if◌then◌else◌, List, [], ◌∷◌, length, take_while, Option, Some, None, Result, Ok, Err}
 use Rattle.std.specs.List.{cons_option}
 use Rattle.pg_list.specs.declared.blocks.Block.{Block}
-use Rattle.pg_scan.specs.Lines.{joined, raw_lines}
+use Rattle.pg_scan.specs.Lines.{joined, raw_lines, has_point}
 use Rattle.pg_showbox.specs.Reading.{at_line, run, then_ok}
 use Rattle.pg_showbox.specs.State.{ended, started}
 use Rattle.pg_showbox.specs.declared.kinds.ListFault.{ListFault}
@@ -27,11 +27,6 @@ abbrev pub ◌>>=◌ : {A B : Type 0} → Result A ScriptFault → (A → Result
 (Err fault) >>= f = Err fault
 
 -- ---- item lines
-
--- an item line has a point in front
-abbrev pub has_point : List ℕ → Bool
-has_point [] = false
-has_point (c ∷ cs) = c == 46
 
 -- no item line stands behind the line of this number
 abbrev pub no_items : ℕ → List (List ℕ) → Result (Unit {0}) ScriptFault

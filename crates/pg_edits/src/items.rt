@@ -1,7 +1,6 @@
 //! The item lines in front of a text.
 ghost use Rattle.std.specs.Prelude.{◌≡◌, ◌<◌, ◌≤◌, ◌+◌, ◌++◌, ◌^◌, false, length, take_while};
-ghost use Rattle.pg_scan.specs.Lines.{raw_lines};
-ghost use Rattle.pg_edits.specs.Script.{has_point as begins_with_point};
+ghost use Rattle.pg_scan.specs.Lines.{raw_lines, has_point as begins_with_point};
 
 use pg_scan::split_part;
 

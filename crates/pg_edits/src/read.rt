@@ -2,9 +2,9 @@
 ghost use Rattle.std.specs.Prelude.{◌≡◌, ◌<◌, ◌+◌, ◌^◌, ◌++◌, length, false, IfErr, OnOk};
 ghost use Rattle.std.specs.List.{cons_option};
 ghost use Rattle.std.specs.Option.{option_to_list};
-ghost use Rattle.pg_scan.specs.Lines.{raw_lines};
+ghost use Rattle.pg_scan.specs.Lines.{raw_lines, has_point as begins_with_point};
 ghost use Rattle.pg_edits.specs.Kinds.{IsScriptKind, script_kind};
-ghost use Rattle.pg_edits.specs.Script.{has_point as begins_with_point, no_items as none_of, items_said, step_said, line_said, steps_from, script_of, Gives};
+ghost use Rattle.pg_edits.specs.Script.{no_items as none_of, items_said, step_said, line_said, steps_from, script_of, Gives};
 
 use crate::instruction::{Instruction, parse_instruction};
 use crate::items::{has_point, split_items};

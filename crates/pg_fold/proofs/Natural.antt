@@ -3,9 +3,7 @@ use Rattle.std.proofs.Common.{◌≡◌, ◌∙◌, refl, sym, ap, ap₂, ℕ, z
 use Rattle.std.specs.Prelude.{reverse, ◌==◌, if◌then◌else◌}
 use Rattle.std.proofs.lemmas.List.{map-append, reverse-append, length-map, take-map, drop-map}
 use Rattle.pg_fold.specs.Folding.{paired, halved, turned_over, fold, folded, only_pile, reading, row_count, column_count, parts, faces, piles}
-
-pub reverse_cons : {A : Type 0} (x : A) (xs : List A) → reverse (x ∷ xs) ≡ reverse xs ++ x ∷ []
-reverse_cons x xs = reverse-append (x ∷ []) xs
+use Rattle.pg_lemmas.proofs.Lists.{reverse_cons}
 
 pub map_reverse : {A B : Type 0} (f : A → B) (xs : List A) → map f (reverse xs) ≡ reverse (map f xs)
 map_reverse f [] = refl

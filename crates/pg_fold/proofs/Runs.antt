@@ -6,9 +6,8 @@ use Rattle.std.proofs.lemmas.List.{map-append, append-nil}
 use Rattle.std.proofs.lemmas.Grind.{flat_map-append}
 use Rattle.std.proofs.Math.Seq.{take-append_seam, drop-append_seam}
 use Rattle.std.proofs.lemmas.List.FromFn.{map-range_with_len_more}
-use Rattle.pg_lemmas.proofs.Lists.{range_more}
+use Rattle.pg_lemmas.proofs.Lists.{range_more, reverse_cons}
 use Rattle.pg_fold.specs.Folding.{parts}
-use Rattle.pg_fold.proofs.Natural.{reverse_cons}
 
 -- two functions that say the same of two rows
 pub alike : {A : Type 0} (f g : ℕ → A) (a b n : ℕ) → ((i : ℕ) → i < n → f (a + i) ≡ g (b + i)) →

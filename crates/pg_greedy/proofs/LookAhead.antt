@@ -10,15 +10,7 @@ use Rattle.pg_style.specs.Values.{StyleValue}
 use Rattle.pg_greedy.specs.Breaks.{break_cost, is_seen, stops_at}
 use Rattle.pg_greedy.specs.FirstFit.{IsBestBreak, IsLookedAt, Takes}
 use Rattle.pg_greedy.specs.Ahead.{better, look, taken}
-
-le_yes : (a b : ℤ) → int_le a b ≡ true → a ≤ℤ b
-le_yes a b e = le_z_yes (subst T (sym e) tt)
-
-le_no : (a b : ℤ) → int_le a b ≡ false → b <ℤ a
-le_no a b e = omega (arith, ints, e)
-
-at_most : (a b c : ℤ) → a ≤ℤ b → b ≤ℤ c → a ≤ℤ c
-at_most a b c h k = omega (arith, ints, h, k)
+use Rattle.pg_place_laws.proofs.Tests.{int_le_trans, not_le_int, le_int, both_same}
 
 same_most : (a b : ℤ) → a ≡ b → a ≤ℤ b
 same_most a b e = omega (arith, ints, e)
@@ -28,9 +20,6 @@ less_most a b h = omega (arith, ints, h)
 
 less_not : (a b : ℤ) → a <ℤ b → b ≡ a → ⊥
 less_not a b h e = absurd (omega (arith, ints, h, e))
-
-both_same : (a b : ℤ) → a ≤ℤ b → b ≤ℤ a → a ≡ b
-both_same a b h k = omega (arith, ints, h, k)
 
 module _ (style : StyleValue) (items : List Item) where
   abbrev at : ℕ → ℤ
@@ -75,7 +64,7 @@ module _ (style : StyleValue) (items : List Item) where
         below = omega arith;
         seen = seen;
         least = λ j l s. below_or_at (λ i. is_seen items i ≡ true → at k ≤ℤ at i) j k l
-            (λ m t. at_most (at k) (at best) (at j) (le_yes (at k) (at best) e) (so_far.least j m t))
+            (λ m t. int_le_trans (at k) (at best) (at j) (le_int (at k) (at best) e) (so_far.least j m t))
             (λ t. same_most (at k) (at k) refl) s;
         last = λ j l s f. omega (arith, l);
       }
@@ -83,9 +72,9 @@ module _ (style : StyleValue) (items : List Item) where
         below = omega (arith, so_far.below);
         seen = so_far.seen;
         least = λ j l s. below_or_at (λ i. is_seen items i ≡ true → at best ≤ℤ at i) j k l
-            (λ m t. so_far.least j m t) (λ t. less_most (at best) (at k) (le_no (at k) (at best) e)) s;
+            (λ m t. so_far.least j m t) (λ t. less_most (at best) (at k) (not_le_int (at k) (at best) e)) s;
         last = λ j l s f. below_or_at (λ i. is_seen items i ≡ true → at i ≡ at best → i ≤ best) j k l
-            (λ m t g. so_far.last j m t g) (λ t g. absurd (less_not (at best) (at k) (le_no (at k) (at best) e) g)) s f;
+            (λ m t g. so_far.last j m t g) (λ t g. absurd (less_not (at best) (at k) (not_le_int (at k) (at best) e) g)) s f;
       }
 
   -- a place that is no break behind a box

@@ -41,9 +41,6 @@ pub run_end : (s : Draft) (lines : List Line) → lines ≡ [] → run s lines �
 unfolding run
 run_end s lines e = rw e refl
 
-pub no_raw_lines : (text : List ℕ) → length text ≡ 0 → raw_lines text ≡ []
-no_raw_lines text e = rw (no_items text e, no_line) refl
-
 pub joined_none : (n : ℕ) (lines : List (List ℕ)) → lines ≡ [] → joined None n lines ≡ []
 unfolding joined
 joined_none n lines e = rw e refl

@@ -7,7 +7,7 @@ use Rattle.std.specs.Prelude.{◌==◌, if◌then◌else◌, is_some}
 use Rattle.std.specs.Str.{bytes_eq}
 use Rattle.pg_scan.specs.Lines.{onto_first}
 use Rattle.pg_scan.specs.Parts.{parts_of}
-use Rattle.pg_word_laws.proofs.Cut.{joined}
+use Rattle.pg_word_laws.proofs.Cut.{joined, onto_joined, parts_joined}
 use Rattle.pg_labels.specs.Reading.{lines_left}
 use Rattle.pg_labels.proofs.Runs.{some_part}
 use Rattle.pg_check_laws.specs.Faults.{first_difference}
@@ -37,25 +37,6 @@ module _ {B : Type 0} (now : B → List ℕ) where
       by (part, (parts, e)) = rw e refl
 
 -- ---- texts with the same lines
-
-onto_joined : (s c : ℕ) (parts : List (List ℕ)) → joined s (onto_first c parts) ≡ c ∷ joined s parts
-onto_joined s c [] = refl
-onto_joined s c (part ∷ []) = refl
-onto_joined s c (part ∷ next ∷ parts) = refl
-
--- the parts of a text, joined again, are the text
-parts_joined : (s : ℕ) (text : List ℕ) → joined s (parts_of s text) ≡ text
-unfolding parts_of
-parts_joined s [] = refl
-parts_joined s (c ∷ cs) = by (c == s) refl (parts_of s cs) (some_part s cs) (parts_joined s cs)
-  where
-    by : (b : Bool) → b ≡ (c == s) → (ps : List (List ℕ)) →
-        (part : List ℕ) × ((parts : List (List ℕ)) × (ps ≡ part ∷ parts)) → joined s ps ≡ cs →
-        joined s (if b then [] ∷ ps else onto_first c ps) ≡ c ∷ cs
-    by true e [] (part, (parts, f)) h = absurd cc
-    by true e (p ∷ ps) some h = let same : c ≡ s = grind (arith, nat_tests) in
-        ap (λ (z : List ℕ). s ∷ z) h ∙ ap (λ (z : ℕ). z ∷ cs) (sym same)
-    by false e ps some h = onto_joined s c ps ∙ ap (λ (z : List ℕ). c ∷ z) h
 
 lines_same : (n : ℕ) (xs ys : List (List ℕ)) → first_difference n xs ys ≡ None → xs ≡ ys
 lines_same n [] [] e = refl

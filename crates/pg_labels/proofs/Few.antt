@@ -9,11 +9,11 @@ use Rattle.pg_plan.proofs.BackwardsLemmas.{moves_long}
 use Rattle.pg_plan.specs.declared.pages.Column.{Column}
 use Rattle.pg_plan.specs.declared.pages.Page.{Page}
 use Rattle.pg_plan.specs.declared.states.Label.{Label}
-use Rattle.pg_scan.specs.Lines.{onto_first}
+use Rattle.pg_scan.specs.Lines.{onto_first, has_point}
 use Rattle.pg_scan.specs.Parts.{parts_of}
 use Rattle.pg_words.specs.InOrder.{words_of}
 use Rattle.pg_words.specs.Read.{◌>>=◌, if_true, numbers_word}
-use Rattle.pg_labels.specs.Drafts.{◌or_else◌, area_line, area_number, column_line, column_number, column_or_later, has_all_labels, has_point, head_line, is_whole, label_line, labels_line, none_line, numbers_line, page_line, page_or_labels, pages_of, point_line, said, started, step, step_at, wide_line, with_column, with_last}
+use Rattle.pg_labels.specs.Drafts.{◌or_else◌, area_line, area_number, column_line, column_number, column_or_later, has_all_labels, head_line, is_whole, label_line, labels_line, none_line, numbers_line, page_line, page_or_labels, pages_of, point_line, said, started, step, step_at, wide_line, with_column, with_last}
 use Rattle.pg_labels.specs.LabelLines.{count_of, label_of}
 use Rattle.pg_labels.specs.PageLines.{column_of, head_of, page_of, page_words, set_of, without_of}
 use Rattle.pg_labels.specs.Reading.{IsFew, is_none, output_from, run, shown_of}

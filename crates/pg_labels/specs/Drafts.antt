@@ -13,6 +13,7 @@ use Rattle.pg_labels.specs.PageLines.{head_of, page_of, column_of, set_of, witho
 use Rattle.pg_labels.specs.declared.draft.Draft.{Draft}
 use Rattle.pg_labels.specs.declared.draft.Stands.{Stands}
 use Rattle.pg_labels.specs.declared.draft.Stands.TheVariants.{Start, NoneLegal, Head, Begun, ColumnBegun, GoesOn, Labels}
+use Rattle.pg_scan.specs.Lines.{has_point}
 
 -- nothing was read
 abbrev pub started : Draft
@@ -70,11 +71,6 @@ numbers_line d text = if_true (is_some (set_of (words_of text)) || is_some (with
 unfoldable pub labels_line : Draft → List ℕ → Option Draft
 labels_line d text =
     option_map (λ count. record d { stands = Labels count.0; count = count.1 }) (count_of (words_of text))
-
--- a line of a body begins with a point, and may hold anything
-abbrev pub has_point : List ℕ → Bool
-has_point [] = false
-has_point (c ∷ cs) = c == 46
 
 -- the areas of a column in their order
 unfoldable pub area_number : List ℕ → Option ℕ

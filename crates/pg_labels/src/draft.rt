@@ -3,7 +3,8 @@ ghost use Rattle.std.specs.Prelude.{◌≡◌, ◌++◌, ◌+◌, ◌<◌, ◌�
 ghost use Rattle.std.specs.Str.{bytes_eq};
 ghost use Rattle.std.specs.Option.{is_some};
 ghost use Rattle.pg_words.specs.Written.{line as a_line};
-ghost use Rattle.pg_labels.specs.Drafts.{Tried, started, pages_of, column_number as number_of_column, has_all_labels as all_labels, said, none_line as after_none, head_line as after_head, page_line as after_page, column_line as after_column, numbers_line as after_numbers, labels_line as after_count, area_number as number_of_area, area_line as after_area, has_point as begins_with_point, point_line as after_point, wide_line as after_wide, label_line as after_label, first_line as after_first, page_or_labels as after_page_or_labels, column_or_later as after_column_or_later, begun_line as after_begun, further_line as after_further, step as after_step, is_whole as whole};
+ghost use Rattle.pg_labels.specs.Drafts.{Tried, started, pages_of, column_number as number_of_column, has_all_labels as all_labels, said, none_line as after_none, head_line as after_head, page_line as after_page, column_line as after_column, numbers_line as after_numbers, labels_line as after_count, area_number as number_of_area, area_line as after_area, point_line as after_point, wide_line as after_wide, label_line as after_label, first_line as after_first, page_or_labels as after_page_or_labels, column_or_later as after_column_or_later, begun_line as after_begun, further_line as after_further, step as after_step, is_whole as whole};
+ghost use Rattle.pg_scan.specs.Lines.{has_point as begins_with_point};
 
 use crate::label_lines::{read_count, read_label};
 use crate::page_lines::{is_set, is_without, read_column, read_head, read_page};

@@ -1,7 +1,8 @@
 -- Lists, and what holds of each of their elements.
+use Rattle.std.proofs.lemmas.List.{reverse-append}
 use Rattle.std.proofs.Common.{◌≡◌, ℕ, zero, suc, take, drop, List, [], ◌∷◌, ◌++◌, arith, ◌∙◌, ◌<◌, ◌≤◌, ◌+◌, ap, sym, refl, length, get_or, take-suc, true, false, Option, Some, None}
 use Rattle.std.specs.List.{AllByRecursion, Contains, range_with_len}
-use Rattle.std.specs.Prelude.{slice_get, is_some, replicate}
+use Rattle.std.specs.Prelude.{slice_get, is_some, replicate, reverse}
 
 pub all_append : {X : Type 0} (P : X → Type 0) (xs ys : List X) → AllByRecursion P xs → AllByRecursion P ys
     → AllByRecursion P (xs ++ ys)
@@ -66,3 +67,6 @@ pub one_more : {X : Type 0} (xs : List X) (i : ℕ) (x : X) → i < length xs �
 one_more xs i x less is =
     let next : i + 1 ≡ suc i = omega arith in
     ap (λ (k : ℕ). take k xs) next ∙ take-suc xs i x less ∙ ap (λ y. take i xs ++ y ∷ []) (sym is)
+
+pub reverse_cons : {A : Type 0} (x : A) (xs : List A) → reverse (x ∷ xs) ≡ reverse xs ++ x ∷ []
+reverse_cons x xs = reverse-append (x ∷ []) xs

@@ -1,6 +1,6 @@
 -- Numbers and their tests.
 use Rattle.std.proofs.Common.{◌≡◌, ◌≤◌, ◌<◌, ◌+◌, ℕ, suc, arith, subst, true, false, Bool, ◌*◌}
-use Rattle.std.specs.Prelude.{◌==◌, nat_lt, if◌then◌else◌, ℤ, pos, ◌≤ℤ◌, unsigned_abs}
+use Rattle.std.specs.Prelude.{◌==◌, nat_lt, if◌then◌else◌, ℤ, pos, ◌≤ℤ◌, unsigned_abs, nat_le}
 use Rattle.std.proofs.lemmas.Int.{ints}
 use Rattle.std.proofs.lemmas.Bool.Decides.{nat_tests}
 use Rattle.std.proofs.Math.Nat.{mul-le-mul_left, mul-le-mul_right}
@@ -49,3 +49,9 @@ eq_yes a b h = grind (arith, nat_tests)
 pub square_few : (n k : ℕ) → n ≤ k → n * n ≤ k * k
 square_few n k h = let a : n * n ≤ k * n = mul-le-mul_right n h in let b : k * n ≤ k * k =
     mul-le-mul_left k h in omega arith
+
+pub le_true : (a b : ℕ) → nat_le a b ≡ true → a ≤ b
+le_true a b h = grind (arith, nat_tests)
+
+pub true_le : (a b : ℕ) → a ≤ b → nat_le a b ≡ true
+true_le a b h = grind (arith, nat_tests)

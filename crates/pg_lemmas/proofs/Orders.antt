@@ -24,3 +24,11 @@ nat_equal a b e = by_ranked (a < b) (a ≡ b) (b < a) (nat_cmp a b) (ranked a b 
 pub nat_less : (a b : ℕ) → nat_cmp a b ≡ Less → a < b
 nat_less a b e = by_ranked (a < b) (a ≡ b) (b < a) (nat_cmp a b) (ranked a b (nat_cmp a b) refl)
     (λ _ p. p) (λ o _. absurd cc) (λ o _. absurd cc)
+
+-- neither after the other: the comparison ties
+pub tied : (o p : Ordering) → o ≡ ordering_reverse p → is_gt o ≡ false → is_gt p ≡ false → o ≡ Equal
+tied Less Greater e h k = cc
+tied Less Less e h k = cc
+tied Less Equal e h k = cc
+tied Equal p e h k = refl
+tied Greater p e h k = cc

@@ -14,19 +14,9 @@ use Rattle.pg_hlist.specs.declared.item.HItem.TheVariants.{BoxItem, Glue, Kern, 
 use Rattle.pg_hlist.specs.Items.{IsInRange, as_item, as_items, width_of}
 use Rattle.pg_line_boxes.specs.declared.sums.LineSums.{LineSums}
 use Rattle.pg_line_boxes.specs.Sums.{AreSmall, sums_of, sums_with}
+use Rattle.pg_flat.proofs.SumsLaws.{sum_push}
 
 -- ---- one item more
-
-sum_push : {X : Type 0} (f : X → ℤ) (xs : List X) (x : X) →
-    whole_sum_by f (xs ++ x ∷ []) ≡ whole_sum_by f xs +ℤ f x
-sum_push f [] x = swap (f x)
-  where
-    swap : (z : ℤ) → z +ℤ pos 0 ≡ pos 0 +ℤ z
-    swap z = omega (arith, ints)
-sum_push f (y ∷ xs) x = ap (λ (z : ℤ). f y +ℤ z) (sum_push f xs x) ∙ group (f y) (whole_sum_by f xs) (f x)
-  where
-    group : (a b c : ℤ) → a +ℤ (b +ℤ c) ≡ (a +ℤ b) +ℤ c
-    group a b c = omega (arith, ints)
 
 item_sum_push : (g : Item → ℤ) (xs : List HItem) (x : HItem) →
     whole_sum_by g (as_items (xs ++ x ∷ [])) ≡ whole_sum_by g (as_items xs) +ℤ g (as_item x)

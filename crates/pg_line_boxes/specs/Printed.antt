@@ -39,10 +39,6 @@ widths_behind (Glue width stretch order shrink body) (set ∷ widths) = widths
 widths_behind (Kern width body) widths = widths
 widths_behind (Penalty value body) widths = widths
 
--- a width that can be printed
-abbrev pub IsPrintable : ℤ → Type 0
-IsPrintable width = (neg_ℤ (pos (2 ^ 120)) <ℤ width) × (width <ℤ pos (2 ^ 120))
-
 -- ---- sizes
 
 abbrev pub sizes_of : List HItem → BoxSizes

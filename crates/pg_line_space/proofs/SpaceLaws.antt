@@ -16,6 +16,7 @@ use Rattle.pg_paragraphs.proofs.LineFacts.{line_rises, line_within}
 use Rattle.pg_paragraphs.proofs.Costs.{line_few}
 use Rattle.pg_line_space.specs.declared.state.LineState.{LineState}
 use Rattle.pg_line_space.specs.LineSpace.{IsLineState, NextLine, is_done, is_same_state, line_meaning}
+use Rattle.pg_lemmas.proofs.Orders.{nat_equal}
 
 pub same_state : (u v : LineState) → is_same_state u v ≡ true → u ≡ v
 same_state u v h =
@@ -30,10 +31,6 @@ same_state u v h =
 
 pub same_itself : (u : LineState) → is_same_state u u ≡ true
 same_itself u = both (u.index == u.index) (u.lines == u.lines) (eq_refl u.index) (eq_refl u.lines)
-
-pub order_equal : (m n : ℕ) → nat_cmp m n ≡ Equal → m ≡ n
-order_equal m n h = by_ranked (m < n) (m ≡ n) (n < m) (nat_cmp m n) (ranked m n (nat_cmp m n) refl)
-    (λ e _. cc (e, h)) (λ _ e. e) (λ e _. cc (e, h))
 
 module _ (rule : LineRule) (para : List HItem) (low : ℕ → ℕ) (most : ℕ) where
   next_rises : (u : LineState) (k : ℕ) (v : LineState) (c : ℤ) → NextLine rule para low most u k v c → u.index < v.index
@@ -117,7 +114,7 @@ module _ (rule : LineRule) (para : List HItem) (low : ℕ → ℕ) (most : ℕ) 
     one_block = λ u v a b h. ap (λ (z : LineState). z.index) (same_state u v h);
     simulates = λ u v k w c a b h f. simulates u v k w c h f;
     done = λ u v a b h d. subst (λ (z : LineState). is_done para z ≡ true) (sym (same_state u v h)) d;
-    order_equal = order_equal;
+    nat_equal = nat_equal;
     order_total = nat_cmp_total;
     onward = λ u k v c o f. (let a : u.index < v.index = next_rises u k v c f in omega arith);
     reach_own = λ u o. (let a : u.index ≤ length para = o.within in omega arith);

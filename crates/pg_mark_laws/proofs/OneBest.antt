@@ -12,9 +12,7 @@ use Rattle.pg_rules.specs.Cost.{cost}
 use Rattle.pg_rules.specs.Ranges.{AreInRange}
 use Rattle.pg_beginning_laws.proofs.Contracts.{plans_total, tells_apart, unbroken_keep_rules}
 use Rattle.pg_mark_laws.specs.Laws.{BestIsOne}
-
-both_same : (a b : ℤ) → a ≤ℤ b → b ≤ℤ a → a ≡ b
-both_same a b h k = omega (arith, ints, h, k)
+use Rattle.pg_place_laws.proofs.Tests.{both_same}
 
 pub best_one : (g : GalleyValue) (s : StyleValue) → AreInRange g s → BestIsOne g s
 best_one g s range p q a b = by (plan_cmp p q) refl

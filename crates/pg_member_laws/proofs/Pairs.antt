@@ -62,7 +62,7 @@ range_apart f (suc k) = (λ y a. least (f + 1) k y a (omega arith), range_apart 
     least g (suc k) y (inl e) h = omega arith
     least g (suc k) y (inr a) h = least (g + 1) k y a (omega arith)
 
-at_among : {X : Type 0} (xs : List X) (i : ℕ) (d : X) → i < length xs → Among (get_or xs i d) xs
+pub at_among : {X : Type 0} (xs : List X) (i : ℕ) (d : X) → i < length xs → Among (get_or xs i d) xs
 at_among [] i d h = absurd (omega arith)
 at_among (x ∷ xs) zero d h = inl refl
 at_among (x ∷ xs) (suc i) d h = inr (at_among xs i d (omega arith))

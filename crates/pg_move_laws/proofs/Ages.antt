@@ -15,7 +15,7 @@ use Rattle.pg_rules.specs.History.{is_called, placed_after}
 use Rattle.pg_rules.specs.IsState.{IsState}
 use Rattle.pg_rules.specs.Legal.{added, has_callouts}
 use Rattle.pg_rules.specs.Room.{Document}
-use Rattle.pg_place_laws.proofs.Among.{Among, all_at, all_same, sum_same}
+use Rattle.pg_place_laws.proofs.Among.{Among, all_at, all_same, sum_same, sum_append}
 use Rattle.pg_lemmas.proofs.Bools.{both, both_of, by_bool, if_false, if_true}
 use Rattle.pg_lemmas.proofs.Lists.{zeros_long}
 use Rattle.pg_lemmas.proofs.Numbers.{eq_refl, less_true, not_less}
@@ -204,18 +204,6 @@ pub flat_same : {X Y : Type 0} (f g : X → List Y) (xs : List X) → ((x : X) �
 flat_same f g [] h = refl
 flat_same f g (x ∷ xs) h = ap (λ zs. zs ++ flat_map f xs) (h x (inl refl))
     ∙ ap (λ zs. g x ++ zs) (flat_same f g xs (λ y a. h y (inr a)))
-
-pub sum_append : {X : Type 0} (h : X → ℤ) (xs ys : List X) →
-    whole_sum_by h (xs ++ ys) ≡ whole_sum_by h xs +ℤ whole_sum_by h ys
-sum_append h [] ys = zero_plus (whole_sum_by h ys)
-  where
-    zero_plus : (z : ℤ) → z ≡ pos 0 +ℤ z
-    zero_plus z = omega (arith, ints)
-sum_append h (x ∷ xs) ys = grouped (h x) (whole_sum_by h xs) (whole_sum_by h ys) (whole_sum_by h (xs ++ ys))
-    (sum_append h xs ys)
-  where
-    grouped : (a b c d : ℤ) → d ≡ b +ℤ c → a +ℤ d ≡ (a +ℤ b) +ℤ c
-    grouped a b c d e = omega (arith, ints)
 
 sum_flat : {X Y : Type 0} (h : Y → ℤ) (f : X → List Y) (xs : List X) →
     whole_sum_by h (flat_map f xs) ≡ whole_sum_by (λ x. whole_sum_by h (f x)) xs

@@ -11,7 +11,7 @@ use Rattle.pg_scaled.specs.Scaled.{scaled_text}
 use Rattle.pg_words.specs.Written.{line, whole_text, counts_text}
 use Rattle.pg_labels.specs.LabelText.{label_text, labels_from, labels_line as printed_count, label_line as printed_label}
 use Rattle.pg_scan.specs.Parts.{parts_of}
-use Rattle.pg_labels.specs.Drafts.{step, step_at, label_line, labels_line, page_line, column_line, area_line, area_number, wide_line, point_line, has_point}
+use Rattle.pg_labels.specs.Drafts.{step, step_at, label_line, labels_line, page_line, column_line, area_line, area_number, wide_line, point_line}
 use Rattle.pg_labels.specs.LabelLines.{count_of}
 use Rattle.pg_labels.specs.PageLines.{page_of, page_words, column_of, column_words}
 use Rattle.pg_labels.specs.Reading.{run}
@@ -25,6 +25,7 @@ use Rattle.pg_word_laws.proofs.Numbers.{numeral_reads}
 use Rattle.pg_word_laws.proofs.Words.{decimal_lacks, whole_lacks, scaled_lacks, counts_lack, side_lacks, option_lacks}
 use Rattle.pg_output_laws.proofs.Runs.{Reads, reads_none, reads_then, reads_line, reads_as, reads_to}
 use Rattle.pg_output_laws.proofs.Labels.{fit_words, rest_words, label_line_is, label_reads}
+use Rattle.pg_scan.specs.Lines.{has_point}
 
 -- ---- no word of a label has a blank or a line feed
 

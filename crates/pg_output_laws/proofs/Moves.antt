@@ -20,7 +20,6 @@ use Rattle.pg_rules.specs.Cost.{text_demerits}
 use Rattle.pg_rules.specs.History.{next_column, next_run, place_of, context}
 use Rattle.pg_rules.specs.Room.{Document, ColumnContext, flat_items_of, items_of, is_top_allowed, is_bottom_allowed}
 use Rattle.pg_pages.specs.PageText.{end_penalty}
-use Rattle.pg_pages.proofs.Printed.{map_length}
 use Rattle.pg_pages.proofs.TextColumn.{trimmed_few}
 use Rattle.pg_bound_laws.proofs.Prices.{page_badness_few, text_few}
 use Rattle.pg_column.proofs.Spans.{ahead_few}
@@ -32,6 +31,7 @@ use Rattle.pg_output_laws.proofs.Ranges.{wide_few, top_few, bottom_few, run_few,
 use Rattle.pg_output_laws.proofs.Places.{all_at, place_printed}
 use Rattle.pg_output_laws.proofs.Items.{at_all, all_take, trimmed_all, blocks_items, total_few}
 use Rattle.pg_output_laws.proofs.Rooms.{goal_few, wide_height_few}
+use Rattle.pg_column_text.proofs.Steps.{map_length}
 
 pub few_is_wide : (z : ℤ) → nat_abs z ≤ 2 ^ 126 → is_wide z ≡ true
 few_is_wide (pos n) h = by n h

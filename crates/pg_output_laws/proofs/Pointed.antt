@@ -11,8 +11,8 @@ use Rattle.pg_style.specs.Values.{StyleValue}
 use Rattle.pg_rules.specs.Room.{Document}
 use Rattle.pg_rules.specs.Floats.{dealt}
 use Rattle.pg_words.specs.Written.{line}
-use Rattle.pg_scan.specs.Lines.{is_no_feed}
-use Rattle.pg_pages.specs.Bodies.{dotted, body_text, set_text, plain_text}
+use Rattle.pg_scan.specs.Lines.{is_no_feed, dotted}
+use Rattle.pg_pages.specs.Bodies.{body_text, set_text, plain_text}
 use Rattle.pg_pages.specs.PageText.{set_items, top_line, items_text, floats_text, float_bodies, notes_text, is_note, inserted}
 use Rattle.pg_labels.specs.Drafts.{step, step_at}
 use Rattle.pg_labels.specs.declared.draft.Draft.{Draft}

@@ -11,8 +11,8 @@ use Rattle.pg_flat.specs.Flat.{end_of, flat_items_at, is_same_place}
 use Rattle.pg_column.specs.Ahead.{item_place}
 use Rattle.pg_column.proofs.Ahead.{IsSettled, Named, stop}
 use Rattle.pg_column.proofs.Spans.{behind as later, opened}
-use Rattle.pg_pages.specs.Printed.{items_to}
 use Rattle.pg_lemmas.proofs.Bools.{if_false, if_true}
+use Rattle.pg_column_text.specs.Between.{items_to}
 
 module _ (blocks : List Block) (all : AllByRecursion IsBlock blocks) (at : Place) (picks : List ℕ)
     (is : IsSettled blocks at) (named : Named blocks at picks) (is_end : Bool) (to : Place) (read whole : List Item)
@@ -36,9 +36,3 @@ module _ (blocks : List Block) (all : AllByRecursion IsBlock blocks) (at : Place
         (sym (ap (items_to is_end to) (opened blocks all at picks is named item e)
         ∙ if_false (not is_end && is_same_place at to) [] _ f))
         ∙ same
-
-pub between_last : (bs blocks : List Block) → bs ≡ blocks → (is_end : Bool) (to from : Place) (picks : List ℕ) →
-    is_end ≡ is_same_place to (end_of bs) →
-    items_to is_end to (flat_items_at bs from picks)
-    ≡ items_to (is_same_place to (end_of blocks)) to (flat_items_at blocks from picks)
-between_last bs blocks same is_end to from picks e = rw (e, same) refl

@@ -16,56 +16,15 @@ use Rattle.pg_column.proofs.Leads.{is_at, position_here, position_later}
 use Rattle.std.proofs.lemmas.List.Elements.{filter_map-append}
 use Rattle.pg_pages.specs.Bodies.{plain_text}
 use Rattle.pg_pages.specs.PageText.{inserted, inserted_body, set_items}
-use Rattle.pg_pages.specs.Printed.{behind, box_on, elastic, front_of, items_to, kept_from, set_item, widths_behind}
+use Rattle.pg_pages.specs.Printed.{box_on, elastic, front_of, kept_from, set_item, widths_behind}
 use Rattle.pg_lemmas.proofs.Bools.{by_bool, if_false, if_true}
 use Rattle.std.specs.Prelude.{ℤ, pos}
 use Rattle.std.proofs.lemmas.List.{map-append, take_all}
 use Rattle.pg_lemmas.proofs.Lists.{range_more}
 use Rattle.std.specs.Prelude.{option_map}
+use Rattle.pg_column_text.specs.Between.{behind, items_to}
 
 -- ---- items up to a place
-
-items_whole : (to : Place) (xs : List FlatItem) → items_to true to xs ≡ map (λ (x : FlatItem). x.item) xs
-items_whole to [] = refl
-items_whole to (x ∷ xs) = ap (λ (items : List Item). x.item ∷ items) (items_whole to xs)
-
-pub map_length : (xs : List FlatItem) → length (map (λ (x : FlatItem). x.item) xs) ≡ length xs
-map_length [] = refl
-map_length (x ∷ xs) = ap suc (map_length xs)
-
-items_part : (to : Place) (xs : List FlatItem) (n : ℕ) → position (is_at to) xs ≡ Some n →
-    items_to false to xs ≡ take n (map (λ (x : FlatItem). x.item) xs)
-items_part to [] n e = absurd cc
-items_part to (x ∷ xs) n e = by_bool (is_at to x)
-    (λ t. let z : 0 ≡ n = same 0 n (sym (position_here (is_at to) x xs t) ∙ e) in
-    if_true (is_at to x) [] _ t ∙ ap (λ (k : ℕ). take k (map (λ (x : FlatItem). x.item) (x ∷ xs))) z)
-    (λ f. if_false (is_at to x) [] _ f
-    ∙ later (position (is_at to) xs) refl (sym (position_later (is_at to) x xs f) ∙ e) (items_part to xs))
-  where
-    same : (a b : ℕ) → Some a ≡ Some b → a ≡ b
-    same a b e = cc
-
-    later : (o : Option ℕ) → position (is_at to) xs ≡ o → option_map suc (position (is_at to) xs) ≡ Some n →
-        ((m : ℕ) → position (is_at to) xs ≡ Some m → items_to false to xs ≡ take m (map (λ (x : FlatItem). x.item) xs)) →
-        x.item ∷ items_to false to xs ≡ take n (map (λ (x : FlatItem). x.item) (x ∷ xs))
-    later None p q more = absurd (let k : None ≡ Some n = sym (ap (option_map suc) p) ∙ q in cc)
-    later (Some m) p q more = let s : suc m ≡ n = same (suc m) n (sym (ap (option_map suc) p) ∙ q) in
-        ap (λ (items : List Item). x.item ∷ items) (more m p)
-        ∙ ap (λ (k : ℕ). take k (map (λ (x : FlatItem). x.item) (x ∷ xs))) s
-
--- the items up to a place are as many as stand before it
-pub items_are : (blocks : List Block) (to : Place) (xs : List FlatItem) (n : ℕ) → steps_to blocks xs to ≡ Some n →
-    items_to (is_same_place to (end_of blocks)) to xs ≡ take n (map (λ (x : FlatItem). x.item) xs)
-items_are blocks to xs n e = by (is_same_place to (end_of blocks)) e
-  where
-    same : (a b : ℕ) → Some a ≡ Some b → a ≡ b
-    same a b e = cc
-
-    by : (b : Bool) → (if b then Some (length xs) else position (is_at to) xs) ≡ Some n →
-        items_to b to xs ≡ take n (map (λ (x : FlatItem). x.item) xs)
-    by true e = items_whole to xs ∙ sym (take_all n (map (λ (x : FlatItem). x.item) xs)
-        (let h = same (length xs) n e in let k = map_length xs in omega (arith, h, k)))
-    by false e = items_part to xs n e
 
 -- ---- items that are kept
 

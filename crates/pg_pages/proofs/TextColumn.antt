@@ -38,11 +38,12 @@ use Rattle.pg_words.specs.Written.{line}
 use Rattle.pg_pages.specs.Seated.{seated}
 use Rattle.pg_pages.specs.Sheets.{seat_text}
 use Rattle.pg_pages.specs.declared.seats.Seat.{Seat}
-use Rattle.pg_pages.specs.Printed.{bare_text, bottom_by, dealt_text, items_to, numbers_text, read_above, read_below, read_text, text_by, top_by}
+use Rattle.pg_pages.specs.Printed.{bare_text, bottom_by, dealt_text, numbers_text, read_above, read_below, read_text, text_by, top_by}
 use Rattle.pg_pages.proofs.ColumnText.{notes_are, widths_are}
 use Rattle.pg_pages.proofs.Excess.{excess_small}
 use Rattle.pg_pages.proofs.Numbers.{printed}
-use Rattle.pg_pages.proofs.Printed.{items_are, map_length}
+use Rattle.pg_column_text.specs.Between.{items_to}
+use Rattle.pg_column_text.proofs.Steps.{items_are, map_length}
 
 -- ---- items
 

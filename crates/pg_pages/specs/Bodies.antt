@@ -6,11 +6,7 @@ use Rattle.pg_list.specs.declared.item.Item.TheVariants.{Insert}
 use Rattle.pg_list.specs.Bodies.{body_of}
 use Rattle.pg_scaled.specs.Scaled.{scaled_text}
 use Rattle.pg_words.specs.Written.{line}
-use Rattle.pg_scan.specs.Lines.{is_no_feed}
-
--- a point in front of each further line
-abbrev pub dotted : List ℕ → List ℕ
-dotted body = flat_map (λ (byte : ℕ). if byte == 10 then 10 ∷ 46 ∷ [] else byte ∷ []) body
+use Rattle.pg_scan.specs.Lines.{is_no_feed, dotted}
 
 -- a body with a point in front of each of its lines
 abbrev pub body_text : List ℕ → List ℕ

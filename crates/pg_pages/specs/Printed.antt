@@ -26,17 +26,9 @@ use Rattle.pg_pages.specs.PageText.{area, inserted, is_note_kind, items_text}
 use Rattle.pg_words.specs.Written.{line, whole_text}
 use Rattle.pg_scaled.specs.Scaled.{scaled_text}
 use Rattle.pg_pages.specs.SetGlue.{own_width, shrinking, stretching}
+use Rattle.pg_column_text.specs.Between.{behind}
 
 -- ---- items
-
--- what is behind references, one after another
-abbrev pub behind : {T : Type 0} → List (Bor T) → List T
-behind xs = map (λ x. x.now) xs
-
--- the items ahead up to a place, or up to the end
-abbrev pub items_to : Bool → Place → List FlatItem → List Item
-items_to is_end to [] = []
-items_to is_end to (x ∷ xs) = if not is_end && is_same_place x.place to then [] else x.item ∷ items_to is_end to xs
 
 -- the items that are kept, where a box was met before or not
 abbrev pub kept_from : Bool → List Item → List Item
@@ -57,10 +49,6 @@ widths_by items goal total is_spent =
     if int_lt total goal && not is_spent then set_widths (flat_map (elastic Stretch) items) (goal -ℤ total) Stretch
     else (if int_lt goal total then set_widths (flat_map (elastic Shrink) items) (total -ℤ goal) Shrink
     else flat_map own_width items)
-
--- a width that can be printed
-abbrev pub IsPrintable : ℤ → Type 0
-IsPrintable width = (neg_ℤ (pos (2 ^ 120)) <ℤ width) × (width <ℤ pos (2 ^ 120))
 
 -- ---- the text area
 

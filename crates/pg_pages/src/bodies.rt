@@ -2,9 +2,9 @@
 ghost use Rattle.std.specs.Prelude.{◌≡◌, ◌≤◌, ◌++◌, ◌∷◌, [], OnOk, length};
 ghost use Rattle.std.specs.List.{prefix_len};
 ghost use Rattle.pg_scaled.specs.Scaled.{Grows};
-ghost use Rattle.pg_pages.specs.Bodies.{dotted, body_text, set_rest, set_text};
-ghost use Rattle.pg_scan.specs.Lines.{is_no_feed};
-ghost use Rattle.pg_pages.specs.Printed.{IsPrintable};
+ghost use Rattle.pg_pages.specs.Bodies.{body_text, set_rest, set_text};
+ghost use Rattle.pg_scan.specs.Lines.{is_no_feed, dotted};
+ghost use Rattle.pg_glue.specs.Widths.{IsPrintable};
 
 use pg_scaled::print_scaled;
 use std::alloc::AllocError;

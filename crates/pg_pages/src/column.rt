@@ -17,7 +17,9 @@ ghost use Rattle.pg_scaled.specs.Scaled.{Grows};
 ghost use Rattle.pg_pages.specs.PageText.{area, column_body, column_line, float_bodies, float_column, items_text, text_column};
 ghost use Rattle.pg_pages.specs.Seated.{MayPrint, seated};
 ghost use Rattle.pg_words.specs.Written.{line};
-ghost use Rattle.pg_pages.specs.Printed.{IsPrintable, behind, dealt_text, items_to, bare_text, bottom_by, lent, notes_by, read_above, read_below, read_text, text_by, top_by};
+ghost use Rattle.pg_pages.specs.Printed.{dealt_text, bare_text, bottom_by, lent, notes_by, read_above, read_below, read_text, text_by, top_by};
+ghost use Rattle.pg_glue.specs.Widths.{IsPrintable};
+ghost use Rattle.pg_column_text.specs.Between.{behind, items_to};
 
 use crate::areas::{close_area, open_area, print_dealt, print_notes};
 use crate::glue::widths_of;

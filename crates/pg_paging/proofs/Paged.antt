@@ -13,9 +13,7 @@ use Rattle.pg_lemmas.proofs.Numbers.{eq_refl}
 use Rattle.std.proofs.lemmas.Bool.{eqb-true}
 use Rattle.pg_paging.specs.Laws.{ColumnsArePaged}
 use Rattle.pg_paging.specs.Paged.{double_page, double_pages, paged, single_page}
-
-one_behind : {X : Type 0} (x : X) (xs : List X) → reverse (x ∷ xs) ≡ reverse xs ++ x ∷ []
-one_behind x xs = reverse-append (x ∷ []) xs
+use Rattle.pg_lemmas.proofs.Lists.{reverse_cons}
 
 -- the columns that come, put before those that are there, from the last to the first
 abbrev turned : List PageMove → List PageMove → List PageMove
@@ -25,7 +23,7 @@ turned (m ∷ ms) back = turned ms (m ∷ back)
 turned_is : (ms back : List PageMove) → turned ms back ≡ reverse ms ++ back
 turned_is [] back = refl
 turned_is (m ∷ ms) back = turned_is ms (m ∷ back) ∙ sym (append_assoc (reverse ms) (m ∷ []) back)
-    ∙ ap (λ xs. xs ++ back) (sym (one_behind m ms))
+    ∙ ap (λ xs. xs ++ back) (sym (reverse_cons m ms))
 
 module _ (style : StyleValue) where
   fresh : (m : PageMove) (back : List PageMove) → next_column style back ≡ 1 →
@@ -43,7 +41,7 @@ module _ (style : StyleValue) where
       (subst (λ (n : ℕ). (n == 1) ≡ true) (sym e) (eq_refl 1))) in
       one_each one ms (m ∷ back) next
       ∙ ap (λ (ps : List Page). reverse ps ++ map single_page ms) (fresh m back e)
-      ∙ ap (λ ps. ps ++ map single_page ms) (one_behind (single_page m) (pages_from style back))
+      ∙ ap (λ ps. ps ++ map single_page ms) (reverse_cons (single_page m) (pages_from style back))
       ∙ append_assoc (reverse (pages_from style back)) (single_page m ∷ []) (map single_page ms)
 
   -- two columns a page
@@ -51,7 +49,7 @@ module _ (style : StyleValue) where
       reverse (pages_from style (turned ms back)) ≡ reverse (pages_from style back) ++ double_pages ms
   two_each two [] back e = sym (append-nil (reverse (pages_from style back)))
   two_each two (m ∷ []) back e = ap (λ (ps : List Page). reverse ps) (fresh m back e)
-      ∙ one_behind (single_page m) (pages_from style back)
+      ∙ reverse_cons (single_page m) (pages_from style back)
   two_each two (m ∷ n ∷ ms) back e =
       let first : (next_column style back == style.columns) ≡ false = not_two (next_column style back) style.columns
       e two in
@@ -67,7 +65,7 @@ module _ (style : StyleValue) where
       ∙ ap (add_column n.column) (fresh m back e) in
       two_each two ms (n ∷ m ∷ back) third
       ∙ ap (λ (ps : List Page). reverse ps ++ double_pages ms) full
-      ∙ ap (λ ps. ps ++ double_pages ms) (one_behind (double_page m n) (pages_from style back))
+      ∙ ap (λ ps. ps ++ double_pages ms) (reverse_cons (double_page m n) (pages_from style back))
       ∙ append_assoc (reverse (pages_from style back)) (double_page m n ∷ []) (double_pages ms)
     where
       not_two : (a b : ℕ) → a ≡ 1 → b ≡ 2 → (a == b) ≡ false

@@ -9,9 +9,10 @@ use Rattle.pg_paragraphs.specs.declared.rule.LineRule.{LineRule}
 use Rattle.pg_paragraphs.specs.Ways.{start_of, keeps_lines, is_some_line, is_way, demerits, IsNoLater, IsLeastWay, IsLeastOf, CannotBreak, IsBestWay}
 use Rattle.pg_paragraphs.specs.Listing.{least_way, cheaper_of, best_from, best_way}
 use Rattle.pg_lemmas.proofs.Bools.{both_of}
-use Rattle.pg_paragraphs.proofs.Tests.{eq_true, less_int}
+use Rattle.pg_paragraphs.proofs.Tests.{eq_true}
 use Rattle.pg_paragraphs.proofs.Order.{not_less_int}
 use Rattle.pg_paragraphs.proofs.Listed.{least_is, lines_few}
+use Rattle.pg_place_laws.proofs.Tests.{less_int}
 
 -- cheaper, or as cheap with no more lines
 abbrev Cheaper : ℤ → ℕ → ℤ → ℕ → Type 0

@@ -24,37 +24,16 @@ use Rattle.pg_paragraphs.specs.Listing.{least_way, best_way, or_no_break, broken
 use Rattle.pg_lemmas.proofs.Numbers.{less_true, not_less}
 use Rattle.pg_paragraphs.proofs.Listed.{least_is}
 use Rattle.pg_paragraphs.proofs.Best.{IsBestOf, best_way_is}
+use Rattle.pg_lemmas.proofs.Orders.{tied, nat_equal}
+use Rattle.pg_plan.proofs.OrderLaws.{list_equal}
 
 -- ---- one way
-
-nat_equal : (m n : ℕ) → nat_cmp m n ≡ Equal → m ≡ n
-nat_equal m n h = by_ranked (m < n) (m ≡ n) (n < m) (nat_cmp m n) (ranked m n (nat_cmp m n) refl)
-    (λ e _. cc (e, h)) (λ _ e. e) (λ e _. cc (e, h))
-
-tied : (o p : Ordering) → o ≡ ordering_reverse p → is_gt o ≡ false → is_gt p ≡ false → o ≡ Equal
-tied Less Greater e h k = cc
-tied Less Less e h k = cc
-tied Less Equal e h k = cc
-tied Equal p e h k = refl
-tied Greater p e h k = cc
-
-tied_lists : (ms ns : List ℕ) → slice_cmp nat_cmp ms ns ≡ Equal → ms ≡ ns
-tied_lists [] [] e = refl
-tied_lists [] (n ∷ ns) e = cc
-tied_lists (m ∷ ms) [] e = cc
-tied_lists (m ∷ ms) (n ∷ ns) e = by (tied_lists ms ns) (nat_cmp m n) refl e
-  where
-    by : (slice_cmp nat_cmp ms ns ≡ Equal → ms ≡ ns) → (o : Ordering) → o ≡ nat_cmp m n →
-        ordering_then o (slice_cmp nat_cmp ms ns) ≡ Equal → ◌≡◌ {A = List ℕ} (m ∷ ms) (n ∷ ns)
-    by more Less p q = cc
-    by more Greater p q = cc
-    by more Equal p q = let first : m ≡ n = nat_equal m n (sym p) in let others : ms ≡ ns = more q in cc
 
 no_later_same : (c d : ℤ) (ms ns : List ℕ) → IsNoLater c ms d ns → IsNoLater d ns c ms → ms ≡ ns
 no_later_same c d ms ns (inl p) (inl q) = absurd (omega (arith, ints))
 no_later_same c d ms ns (inl p) (inr q) = absurd (let s : d ≡ c = q.0 in omega (arith, ints))
 no_later_same c d ms ns (inr p) (inl q) = absurd (let s : c ≡ d = p.0 in omega (arith, ints))
-no_later_same c d ms ns (inr p) (inr q) = tied_lists ms ns (tied (slice_cmp nat_cmp ms ns) (slice_cmp nat_cmp ns ms)
+no_later_same c d ms ns (inr p) (inr q) = list_equal ms ns (tied (slice_cmp nat_cmp ms ns) (slice_cmp nat_cmp ns ms)
     ((lists_total nat_cmp_total).antisymm ms ns) p.1 q.1)
 
 module _ (rule : LineRule) (para : List HItem) where

@@ -9,8 +9,10 @@ use Rattle.pg_paragraphs.specs.Ways.{start_of, keeps_lines, is_some_line, is_way
 use Rattle.pg_paragraphs.specs.Listing.{longer_by, kept_ways, ends_at, ways, is_before, better_of, first_of, least_way}
 use Rattle.pg_lemmas.proofs.Bools.{both, both_of}
 use Rattle.pg_paragraphs.proofs.LineFacts.{line_rises, line_within}
-use Rattle.pg_paragraphs.proofs.Members.{Among, filter_among, filter_from, flat_among, flat_from, map_among, map_from, range_among}
+use Rattle.pg_paragraphs.proofs.Members.{flat_from, map_from}
 use Rattle.pg_paragraphs.proofs.Order.{NoLater, before_no_later, not_before_no_later, no_later_itself, no_later_chain}
+use Rattle.pg_place_laws.proofs.Among.{Among}
+use Rattle.pg_member_laws.proofs.Members.{in_map, in_filter, of_filter, in_flat, in_range}
 
 module _ (rule : LineRule) (para : List HItem) where
   -- ---- ways whose lines may stand
@@ -20,10 +22,10 @@ module _ (rule : LineRule) (para : List HItem) where
   kept_listed (k ∷ way) h =
       let t = both_of (keeps_lines rule para way) (is_line rule para (start_of way) k) h in
       let w : k ≤ length para = line_within rule para (start_of way) k t.1 in
-      flat_among (longer_by rule para) (kept_ways rule para (length way)) way (k ∷ way) (kept_listed way t.0)
-      (map_among (λ (j : ℕ). j ∷ way) (filter (is_line rule para (start_of way)) (range_with_len 0 (length para + 1))) k
-      (filter_among (is_line rule para (start_of way)) (range_with_len 0 (length para + 1)) k
-      (range_among 0 (length para + 1) k (omega arith) (omega arith)) t.1))
+      in_flat (longer_by rule para) (kept_ways rule para (length way)) way (k ∷ way) (kept_listed way t.0)
+      (in_map (λ (j : ℕ). j ∷ way) (filter (is_line rule para (start_of way)) (range_with_len 0 (length para + 1))) k
+      (in_filter (is_line rule para (start_of way)) (range_with_len 0 (length para + 1)) k
+      (in_range 0 (length para + 1) k (omega arith) (omega arith)) t.1))
 
   pub record IsKept (n : ℕ) (way : List ℕ) : Type 0 where
     pub keeps : keeps_lines rule para way ≡ true
@@ -37,7 +39,7 @@ module _ (rule : LineRule) (para : List HItem) where
       let s = map_from (λ (j : ℕ). j ∷ r.0)
       (filter (is_line rule para (start_of r.0)) (range_with_len 0 (length para + 1))) way r.1.1 in
       more r.0 s.0 (listed_kept n r.0 r.1.0)
-      (filter_from (is_line rule para (start_of r.0)) (range_with_len 0 (length para + 1)) s.0 s.1.0).1 s.1.1
+      (of_filter (is_line rule para (start_of r.0)) (range_with_len 0 (length para + 1)) s.0 s.1.0).1 s.1.1
     where
       more : (before : List ℕ) (k : ℕ) → IsKept n before → is_line rule para (start_of before) k ≡ true →
           k ∷ before ≡ way → IsKept (suc n) way
@@ -65,7 +67,7 @@ module _ (rule : LineRule) (para : List HItem) where
   way_listed [] h = absurd cc
   way_listed (k ∷ way) h =
       let t = both_of (keeps_lines rule para (k ∷ way)) (start_of (k ∷ way) == length para) h in
-      filter_among (ends_at (length para)) (kept_ways rule para (length (k ∷ way))) (k ∷ way)
+      in_filter (ends_at (length para)) (kept_ways rule para (length (k ∷ way))) (k ∷ way)
       (kept_listed (k ∷ way) t.0) t.1
 
   pub record IsLegal (n : ℕ) (way : List ℕ) : Type 0 where
@@ -75,7 +77,7 @@ module _ (rule : LineRule) (para : List HItem) where
   pub listed_way : (n : ℕ) (way : List ℕ) → Among way (ways rule para n) → IsLegal n way
   listed_way zero way a = absurd a
   listed_way (suc n) way a =
-      let r = filter_from (ends_at (length para)) (kept_ways rule para (suc n)) way a in
+      let r = of_filter (ends_at (length para)) (kept_ways rule para (suc n)) way a in
       let k : IsKept (suc n) way = listed_kept (suc n) way r.0 in
       let l : length way ≡ suc n = k.lines in
       record {

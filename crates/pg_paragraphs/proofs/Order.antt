@@ -13,8 +13,8 @@ use Rattle.pg_hlist.specs.declared.item.HItem.{HItem}
 use Rattle.pg_paragraphs.specs.declared.rule.LineRule.{LineRule}
 use Rattle.pg_paragraphs.specs.Ways.{demerits, IsNoLater}
 use Rattle.pg_paragraphs.specs.Listing.{is_before}
-use Rattle.pg_lemmas.proofs.Bools.{both_of}
-use Rattle.pg_paragraphs.proofs.Tests.{less_int}
+use Rattle.pg_lemmas.proofs.Bools.{both_of, not_both, true_of, or_left}
+use Rattle.pg_place_laws.proofs.Tests.{less_int, int_less}
 
 lists : IsTotalOrder (slice_cmp nat_cmp)
 lists = lists_total nat_cmp_total
@@ -43,21 +43,6 @@ not_less_back o Greater e h = ap is_gt e
 abbrev tests : ℤ → ℤ → Ordering → Bool
 tests c d o = int_lt c d || (int_eq c d && is_lt o)
 
-true_or_false : (b : Bool) → b ≡ true → b ≡ false → ⊥
-true_or_false true e f = absurd cc
-true_or_false false e f = absurd cc
-
-true_of : (b : Bool) → T b → b ≡ true
-true_of true t = refl
-true_of false t = absurd t
-
-int_less : (a b : ℤ) → a <ℤ b → int_lt a b ≡ true
-int_less a b h = true_of (int_lt a b) h.lt
-
-or_left : (a b : Bool) → a ≡ true → (a || b) ≡ true
-or_left true b e = refl
-or_left false b e = absurd cc
-
 or_right : (a b : Bool) → (a || b) ≡ false → b ≡ false
 or_right true b e = absurd cc
 or_right false b e = e
@@ -79,7 +64,7 @@ tests_true c d ms ns e = or_cases (int_lt c d) (int_eq c d && is_lt (slice_cmp n
 tests_false : (c d : ℤ) (ms ns : List ℕ) → tests c d (slice_cmp nat_cmp ms ns) ≡ false → IsNoLater d ns c ms
 tests_false c d ms ns e =
     by_ranked (c <ℤ d) (c ≡ d) (d <ℤ c) (int_cmp c d) (int_ranked c d (int_cmp c d) refl)
-    (λ _ p. absurd (true_or_false (tests c d (slice_cmp nat_cmp ms ns))
+    (λ _ p. absurd (not_both (tests c d (slice_cmp nat_cmp ms ns))
     (or_left (int_lt c d) (int_eq c d && is_lt (slice_cmp nat_cmp ms ns)) (int_less c d p)) e))
     (λ _ p. inr (
       sym p,
@@ -101,4 +86,4 @@ module _ (rule : LineRule) (para : List HItem) where
 
 pub not_less_int : (a b : ℤ) → int_lt a b ≡ false → (b <ℤ a) ⊎ (b ≡ a)
 not_less_int a b e = by_ranked (a <ℤ b) (a ≡ b) (b <ℤ a) (int_cmp a b) (int_ranked a b (int_cmp a b) refl)
-    (λ _ p. absurd (true_or_false (int_lt a b) (int_less a b p) e)) (λ _ p. inr (sym p)) (λ _ p. inl p)
+    (λ _ p. absurd (not_both (int_lt a b) (int_less a b p) e)) (λ _ p. inr (sym p)) (λ _ p. inl p)

@@ -12,7 +12,8 @@ use Rattle.pg_hlist.specs.Items.{as_item}
 use Rattle.pg_paragraphs.specs.declared.rule.LineRule.{LineRule}
 use Rattle.pg_paragraphs.specs.Lines.{from_box, holds_box, is_forced_at, is_line, line_badness, passes_forced, penalty_at, line_items, line_is_over}
 use Rattle.pg_lemmas.proofs.Bools.{both_of}
-use Rattle.pg_paragraphs.proofs.Members.{Among, range_among}
+use Rattle.pg_place_laws.proofs.Among.{sum_append, all_at, Among}
+use Rattle.pg_member_laws.proofs.Members.{in_range}
 
 -- ---- the first box
 
@@ -37,18 +38,6 @@ begins_with_first xs x ys e b = skip_boxless xs (x ∷ ys) e ∙ by (is_box (as_
 
 -- ---- sums
 
-pub sum_append : {X : Type 0} (f : X → ℤ) (xs ys : List X) →
-    whole_sum_by f (xs ++ ys) ≡ whole_sum_by f xs +ℤ whole_sum_by f ys
-sum_append f [] ys = zero (whole_sum_by f ys)
-  where
-    zero : (z : ℤ) → z ≡ pos 0 +ℤ z
-    zero z = omega (arith, ints)
-sum_append f (x ∷ xs) ys =
-    ap (λ (z : ℤ). f x +ℤ z) (sum_append f xs ys) ∙ group (f x) (whole_sum_by f xs) (whole_sum_by f ys)
-  where
-    group : (a b c : ℤ) → a +ℤ (b +ℤ c) ≡ (a +ℤ b) +ℤ c
-    group a b c = omega (arith, ints)
-
 -- the sum of what follows a front is the difference of two sums of fronts
 pub sum_between : {X : Type 0} (f : X → ℤ) (front middle : List X) →
     whole_sum_by f middle ≡ whole_sum_by f (front ++ middle) -ℤ whole_sum_by f front
@@ -59,11 +48,6 @@ sum_between f front middle = less (whole_sum_by f (front ++ middle)) (whole_sum_
     less a b c e = omega (arith, ints)
 
 -- ---- where a scan may stop
-
-all_at : {X : Type 0} (p : X → Bool) (xs : List X) (x : X) → list_all p xs ≡ true → Among x xs → p x ≡ true
-all_at p [] x h a = absurd a
-all_at p (y ∷ ys) x h (inl e) = subst (λ z. p z ≡ true) e (both_of (p y) (list_all p ys) h).0
-all_at p (y ∷ ys) x h (inr a) = all_at p ys x (both_of (p y) (list_all p ys) h).1 a
 
 -- no line goes on behind a forced break that stands behind its first box
 pub stops_when_forced : (rule : LineRule) (para : List HItem) (a j k : ℕ) → a < j → j < k →
@@ -81,7 +65,7 @@ stops_when_forced rule para a j k low high forced box h =
     clash (is_forced_at para j) (holds_box (drop a (take j para))) forced box
     (all_at (λ (i : ℕ). not (is_forced_at para i && holds_box (drop a (take i para))))
     (range_with_len (a + 1) (k - (a + 1))) j four.1
-    (range_among (a + 1) (k - (a + 1)) j (omega arith) (omega arith)))
+    (in_range (a + 1) (k - (a + 1)) j (omega arith) (omega arith)))
   where
     clash : (b c : Bool) → b ≡ true → c ≡ true → not (b && c) ≡ true → ⊥
     clash true true p q e = absurd cc

@@ -63,7 +63,7 @@ max_scaled x y h k = by (int_lt y x)
     by true = h
     by false = k
 
-height_scaled : (items : List HItem) → AllByRecursion IsInRange items → IsScaled (height_of items)
+pub height_scaled : (items : List HItem) → AllByRecursion IsInRange items → IsScaled (height_of items)
 height_scaled [] h = omega arith
 height_scaled (BoxItem width height depth body ∷ items) (p, h) =
     max_scaled height (height_of items) p.1 (height_scaled items h)
@@ -71,7 +71,7 @@ height_scaled (Glue width stretch order shrink body ∷ items) (p, h) = height_s
 height_scaled (Kern width body ∷ items) (p, h) = height_scaled items h
 height_scaled (Penalty value body ∷ items) (p, h) = height_scaled items h
 
-depth_scaled : (items : List HItem) → AllByRecursion IsInRange items → IsScaled (depth_of items)
+pub depth_scaled : (items : List HItem) → AllByRecursion IsInRange items → IsScaled (depth_of items)
 depth_scaled [] h = omega arith
 depth_scaled (BoxItem width height depth body ∷ items) (p, h) =
     max_scaled depth (depth_of items) p.2 (depth_scaled items h)

@@ -7,12 +7,3 @@ use Rattle.std.proofs.lemmas.Bool.Decides.{nat_tests}
 
 pub eq_true : (a b : ℕ) → (a == b) ≡ true → a ≡ b
 eq_true a b h = grind (arith, nat_tests)
-
-pub less_int : (a b : ℤ) → int_lt a b ≡ true → a <ℤ b
-less_int a b e = lt_z_yes (subst T (sym e) tt)
-
-pub not_less_int : (a b : ℤ) → int_lt a b ≡ false → b ≤ℤ a
-not_less_int a b e = grind (arith, ints)
-
-pub le_int : (a b : ℤ) → int_le a b ≡ true → a ≤ℤ b
-le_int a b e = grind (arith, ints)

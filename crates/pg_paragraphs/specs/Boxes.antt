@@ -3,7 +3,7 @@ use Rattle.std.specs.Prelude.{ℕ, ◌==◌, if◌then◌else◌, List, [], ◌�
 use Rattle.std.specs.Int.{int_max}
 use Rattle.std.specs.List.{flat_map, prefix_len}
 use Rattle.pg_scaled.specs.Scaled.{scaled_text}
-use Rattle.pg_scan.specs.Lines.{is_no_feed}
+use Rattle.pg_scan.specs.Lines.{is_no_feed, dotted}
 use Rattle.pg_list.specs.declared.item.Item.{Item}
 use Rattle.pg_list.specs.declared.item.Item.TheVariants as item
 use Rattle.pg_list.specs.declared.item.Order.TheVariants.{Finite}
@@ -57,10 +57,6 @@ glue_widths rule line =
     else flat_map own_width line)
 
 -- ---- what is shown of a line
-
--- a point in front of each further line
-abbrev pub dotted : List ℕ → List ℕ
-dotted body = flat_map (λ (byte : ℕ). if byte == 10 then 10 ∷ 46 ∷ [] else byte ∷ []) body
 
 -- an item's body, one level deeper, on lines of its own
 abbrev pub deeper : List ℕ → List ℕ

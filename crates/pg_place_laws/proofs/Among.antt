@@ -1,6 +1,7 @@
 -- Members of lists, and what holds of all.
-use Rattle.std.proofs.Common.{◌≡◌, refl, subst, ◌⊎◌, inl, inr, List, [], ◌∷◌, ◌++◌, map, Bool, true}
-use Rattle.std.specs.Prelude.{◌&&◌, ℤ}
+use Rattle.std.proofs.lemmas.Int.{ints}
+use Rattle.std.proofs.Common.{◌≡◌, refl, subst, ◌⊎◌, inl, inr, List, [], ◌∷◌, ◌++◌, map, Bool, true, ap, ◌∙◌, arith}
+use Rattle.std.specs.Prelude.{◌&&◌, ℤ, pos, ◌+ℤ◌}
 use Rattle.std.specs.List.{list_all}
 use Rattle.pg_flat.specs.Whole.{whole_sum_by}
 use Rattle.pg_lemmas.proofs.Bools.{both_of, both}
@@ -45,3 +46,23 @@ pub all_same : {X : Type 0} (p q : X → Bool) (xs : List X) → ((x : X) → Am
 all_same p q [] h = refl
 all_same p q (x ∷ xs) h = let a : p x ≡ q x = h x (inl refl) in let b : list_all p xs ≡ list_all q xs =
     all_same p q xs (λ y m. h y (inr m)) in cc
+
+pub among_cases : {X : Type 0} (x : X) (xs ys : List X) → Among x (xs ++ ys) → Among x xs ⊎ Among x ys
+among_cases x [] ys a = inr a
+among_cases x (z ∷ xs) ys (inl e) = inl (inl e)
+among_cases x (z ∷ xs) ys (inr a) = elim (among_cases x xs ys a) [
+  | inl h ↦ inl (inr h)
+  | inr h ↦ inr h
+]
+
+pub sum_append : {X : Type 0} (f : X → ℤ) (xs ys : List X) →
+    whole_sum_by f (xs ++ ys) ≡ whole_sum_by f xs +ℤ whole_sum_by f ys
+sum_append f [] ys = zero (whole_sum_by f ys)
+  where
+    zero : (z : ℤ) → z ≡ pos 0 +ℤ z
+    zero z = omega (arith, ints)
+sum_append f (x ∷ xs) ys =
+    ap (λ (z : ℤ). f x +ℤ z) (sum_append f xs ys) ∙ group (f x) (whole_sum_by f xs) (whole_sum_by f ys)
+  where
+    group : (a b c : ℤ) → a +ℤ (b +ℤ c) ≡ (a +ℤ b) +ℤ c
+    group a b c = omega (arith, ints)

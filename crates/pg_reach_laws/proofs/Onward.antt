@@ -26,7 +26,7 @@ use Rattle.pg_rules.specs.Room.{ColumnContext, Document, bottom_height, extra, f
 use Rattle.pg_column.proofs.Passing.{at_ranges}
 use Rattle.pg_lemmas.proofs.Bools.{both, both_of}
 use Rattle.pg_lemmas.proofs.Lists.{all_take}
-use Rattle.pg_place_laws.proofs.Tests.{int_le_of, int_less, le_int, less_int}
+use Rattle.pg_place_laws.proofs.Tests.{int_le_of, int_less, le_int, less_int, int_le_trans}
 use Rattle.pg_reach_laws.proofs.Lengths.{NotNegative, all_items, height_up, notes_up, trimmed_all}
 
 -- ---- the tallest room
@@ -36,9 +36,6 @@ max_left x y = omega (arith, ints, int_max_is x y)
 
 max_right : (x y : ℤ) → y ≤ℤ int_max x y
 max_right x y = omega (arith, ints, int_max_is x y)
-
-int_le_trans : (x y z : ℤ) → x ≤ℤ y → y ≤ℤ z → x ≤ℤ z
-int_le_trans x y z p q = omega (arith, ints)
 
 -- a run that exists has no more extra than the greatest
 pub extra_low : (runs : List Run) (run : ℕ) → is_some (slice_get runs run) ≡ true →

@@ -19,16 +19,13 @@ use Rattle.pg_lemmas.proofs.Bools.{both, both_of, by_bool, if_false, if_true}
 use Rattle.pg_place_laws.proofs.Places.{Leads, leads, pick_named}
 use Rattle.pg_place_laws.proofs.Tests.{place_refl}
 use Rattle.pg_flat.proofs.Places.{picked_few, same_place}
-use Rattle.pg_lemmas.proofs.Numbers.{eq_refl, less_of}
+use Rattle.pg_lemmas.proofs.Numbers.{eq_refl, less_of, le_true}
 use Rattle.std.proofs.lemmas.Bool.{eqb-true}
 use Rattle.pg_reach_laws.specs.ReachAt.{all_picks, does_reach, is_size, most, place_after, reach_at, reach_by, reaches_by}
 use Rattle.pg_member_laws.proofs.Members.{below_in, in_flat, in_map, of_flat, of_map}
 use Rattle.pg_reach_laws.proofs.Picks.{named, rest_named}
 
 -- ---- the greatest of numbers
-
-le_true : (a b : ℕ) → nat_le a b ≡ true → a ≤ b
-le_true a b h = grind (arith, nat_tests)
 
 not_le : (a b : ℕ) → nat_le a b ≡ false → b < a
 not_le a b h = grind (arith, nat_tests)

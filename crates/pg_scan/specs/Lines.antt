@@ -1,5 +1,5 @@
 -- The lines of a text.
-use Rattle.std.specs.List.{AllByRecursion}
+use Rattle.std.specs.List.{AllByRecursion, flat_map}
 use Rattle.std.specs.Prelude.{◌≡◌, ℕ, ◌+◌, IsTrue, Bool, false, not, List, [], ◌∷◌, ◌++◌, length, map, ◌==◌, if◌then◌else◌, Option, Some, None}
 
 -- a byte that is no line feed
@@ -55,3 +55,12 @@ unfoldable pub joined : Option ℕ → ℕ → List (List ℕ) → List Line
 joined wrap n [] = []
 joined wrap n (line ∷ lines) = if is_full wrap line then merged n line (joined wrap (n + 1) lines)
     else record { number = n; text = line } ∷ joined wrap (n + 1) lines
+
+-- the line has a point in front
+abbrev pub has_point : List ℕ → Bool
+has_point [] = false
+has_point (c ∷ cs) = c == 46
+
+-- a point in front of each further line
+abbrev pub dotted : List ℕ → List ℕ
+dotted body = flat_map (λ (byte : ℕ). if byte == 10 then 10 ∷ 46 ∷ [] else byte ∷ []) body

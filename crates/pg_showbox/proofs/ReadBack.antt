@@ -52,7 +52,7 @@ not_true : (b : Bool) → IsTrue (not b) → b ≡ false
 not_true true h = absurd (cc)
 not_true false h = refl
 
-no_feed_is : (c : ℕ) → IsTrue (is_no_feed c) → (c == 10) ≡ false
+pub no_feed_is : (c : ℕ) → IsTrue (is_no_feed c) → (c == 10) ≡ false
 no_feed_is c h = not_true (c == 10) h
 
 lines_line : (line rest : List ℕ) → AllByRecursion (λ c. IsTrue (is_no_feed c)) line

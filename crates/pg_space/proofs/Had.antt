@@ -24,27 +24,9 @@ use Rattle.pg_table.proofs.Spared.{all_wanted}
 use Rattle.pg_lemmas.proofs.Bools.{by_bool}
 use Rattle.pg_beginning_laws.proofs.Order.{columns_total}
 use Rattle.pg_space_laws.specs.PageSpace.{FollowBest, page_meaning}
+use Rattle.pg_space_laws.proofs.Merely.{alike_columns, best_prop, cheaper_prop, equal, is_by, itself, step_is}
 
 -- ---- any space
-
-itself : (o : Ordering) → o ≡ Equal → is_eq o ≡ true
-itself Equal e = refl
-itself Less e = absurd cc
-itself Greater e = absurd cc
-
-equal : (o : Ordering) → is_eq o ≡ true → o ≡ Equal
-equal Equal e = refl
-equal Less e = absurd cc
-equal Greater e = absurd cc
-
--- the step makes this move
-abbrev is_by : {S M K : Type 0} → Meaning S M K → M → Step S M → Bool
-is_by sp m step = is_eq (sp.order step.by m)
-
-step_is : {S M : Type 0} (step : Step S M) (m : M) (v : S) (c : ℤ) → step.by ≡ m → step.to ≡ v → step.cost ≡ c →
-    step ≡ record { to = v; by = m; cost = c }
-step_is {S} {M} step m v c p q r =
-    let e : step ≡ record { to = step.to; by = step.by; cost = step.cost } = refl in cc
 
 module _ {S M K : Type 0} (sp : Meaning S M K) (u : S) (spared : S → ℤ → Bool) (steps : List (Step S M))
     (same : (m n : M) → sp.order m n ≡ Equal → m ≡ n) (alike : (m : M) → sp.order m m ≡ Equal)
@@ -88,34 +70,8 @@ module _ {S M K : Type 0} (sp : Meaning S M K) (u : S) (spared : S → ℤ → B
 
 -- ---- pages
 
-either_prop : {P Q : Type 0} → IsProp P → IsProp Q → (P → Q → ⊥) → IsProp (P ⊎ Q)
-either_prop p q apart (inl x) (inl y) = ap inl (p x y)
-either_prop p q apart (inl x) (inr y) = absurd (apart x y)
-either_prop p q apart (inr x) (inl y) = absurd (apart y x)
-either_prop p q apart (inr x) (inr y) = ap inr (q x y)
-
-not_less : (a b : ℤ) → a <ℤ b → a ≡ b → ⊥
-not_less a b l e = omega (arith, ints)
-
 states_set : IsSet State
 states_set = Coded-set state_row.the_row.coded
-
-cheaper_prop : (a b : ℤ) (c : Bool) → IsProp ((a <ℤ b) ⊎ ((a ≡ b) × (c ≡ false)))
-cheaper_prop a b c = either_prop (hlevel props) (hlevel props) (λ l e. not_less a b l e.0)
-
-least_prop : (it : ColumnContext) → IsProp (IsLeast it)
-least_prop it = hlevel (props, cheaper_prop)
-
-best_prop : (doc : Document) (u : State) (m : PageMove) (v : State) (c : ℤ) → IsProp (FollowBest doc u m v c)
-best_prop doc u m v c = hlevel (props, states_set, least_prop)
-
-alike_columns : (m : PageMove) → column_cmp m m ≡ Equal
-alike_columns m = by (column_cmp m m) (columns_total.antisymm m m)
-  where
-    by : (o : Ordering) → o ≡ ordering_reverse o → o ≡ Equal
-    by Less e = absurd cc
-    by Equal e = refl
-    by Greater e = absurd cc
 
 pub wanted_had : (doc : Document) (u : State) (spared : State → ℤ → Bool) (steps : List (Step State PageMove)) →
     ∥ AreWanted (page_meaning doc) u spared steps ∥₁ → AreWanted (page_meaning doc) u spared steps

@@ -11,7 +11,7 @@ use Rattle.pg_list.specs.declared.galley.Place.{Place}
 use Rattle.pg_plan.specs.Order.{picks_cmp, place_cmp}
 use Rattle.pg_plan.proofs.OrderLaws.{place_total, place_equal}
 use Rattle.pg_lemmas.proofs.Bools.{by_bool, if_true, if_false, not_true}
-use Rattle.pg_place_laws.proofs.Tests.{less_int, le_int}
+use Rattle.pg_place_laws.proofs.Tests.{less_int, le_int, not_less_int, not_le_int}
 use Rattle.pg_table.proofs.Runs.{undercuts_chain}
 use Rattle.pg_ends.specs.declared.end.End.{End}
 use Rattle.pg_ends.specs.Ends.{IsBefore}
@@ -42,9 +42,6 @@ tested k l gt true le a b c e = inl (a refl)
 tested k l gt false true a b c e = inr (let p = b refl in let q = c refl in omega (arith, ints, p, q), not_true gt e)
 tested k l gt false false a b c e = absurd cc
 
-not_less_int : (k l : ℤ) → int_lt k l ≡ false → l ≤ℤ k
-not_less_int k l e = grind (arith, ints)
-
 yes_better : (a b : End) → is_better a b ≡ true → IsUnder a b
 yes_better a b e = tested (end_cost a) (end_cost b) (is_gt (picks_cmp a.picks b.picks))
     (int_lt (end_cost a) (end_cost b)) (int_le (end_cost a) (end_cost b)) (less_int _ _) (le_int _ _)
@@ -60,9 +57,6 @@ untested k l true back false true a b c e = by_cases (a refl)
     by_cases h = by_bool (int_lt l k) (λ t. inl (less_int l k t))
         (λ f. inr (let g = not_less_int l k f in omega (arith, ints, g, h), c refl))
 untested k l false back false true a b c e = absurd cc
-
-not_le_int : (k l : ℤ) → int_le k l ≡ false → l <ℤ k
-not_le_int k l e = grind (arith, ints)
 
 not_better : (a b : End) → is_better a b ≡ false → IsUnder b a
 not_better a b e = untested (end_cost a) (end_cost b) (is_gt (picks_cmp a.picks b.picks))

@@ -1,17 +1,50 @@
 -- A text cut at a byte: the parts of joined parts are these.
-use Rattle.std.proofs.Common.{◌≡◌, refl, ap, ◌∙◌, ◌<◌, ◌≤◌, ℕ, Bool, true, false, List, [], ◌∷◌, ◌++◌, arith}
+use Rattle.std.proofs.lemmas.Bool.{cases_Bool}
+use Rattle.std.proofs.Common.{◌≡◌, refl, ap, ◌∙◌, ◌<◌, ◌≤◌, ℕ, Bool, true, false, List, [], ◌∷◌, ◌++◌, arith, inl, inr}
 use Rattle.std.proofs.lemmas.Bool.Decides.{nat_tests}
-use Rattle.std.specs.Prelude.{◌==◌, ◌&&◌, not, nat_lt}
+use Rattle.std.specs.Prelude.{◌==◌, ◌&&◌, not, nat_lt, if◌then◌else◌, length}
 use Rattle.pg_lemmas.proofs.Bools.{both, not_true}
 use Rattle.pg_lemmas.proofs.Bools.{both_of}
 use Rattle.pg_scan.specs.Parts.{parts_of}
 use Rattle.pg_scaled.proofs.ReadsBack.{AreDigits}
+use Rattle.pg_scan.specs.Lines.{onto_first}
 
 -- parts with a separator between each two
 abbrev pub joined : ℕ → List (List ℕ) → List ℕ
 joined separator [] = []
 joined separator (part ∷ []) = part
 joined separator (part ∷ next ∷ parts) = part ++ separator ∷ joined separator (next ∷ parts)
+
+pub onto_joined : (s c : ℕ) (parts : List (List ℕ)) → joined s (onto_first c parts) ≡ c ∷ joined s parts
+onto_joined s c [] = refl
+onto_joined s c (part ∷ []) = refl
+onto_joined s c (part ∷ next ∷ parts) = refl
+
+pub further_parts : (s : ℕ) (part : List ℕ) (parts : List (List ℕ)) → 0 < length parts →
+    joined s (part ∷ parts) ≡ part ++ s ∷ joined s parts
+further_parts s part [] some = absurd (omega arith)
+further_parts s part (next ∷ parts) some = refl
+
+pub parts_some : (s : ℕ) (text : List ℕ) → 0 < length (parts_of s text)
+unfolding parts_of
+parts_some s [] = omega arith
+parts_some s (c ∷ cs) = by (c == s) (parts_of s cs)
+  where
+    by : (b : Bool) (parts : List (List ℕ)) → 0 < length (if b then [] ∷ parts else onto_first c parts)
+    by true parts = omega arith
+    by false [] = omega arith
+    by false (part ∷ parts) = omega arith
+
+-- the parts of a text, joined again, are the text
+pub parts_joined : (s : ℕ) (text : List ℕ) → joined s (parts_of s text) ≡ text
+unfolding parts_of
+parts_joined s [] = refl
+parts_joined s (c ∷ cs) = elim (cases_Bool (c == s)) [
+  | inl cut ↦ let same : s ≡ c = grind (arith, nat_tests, cut) in
+      rw cut (further_parts s [] (parts_of s cs) (parts_some s cs) ∙ ap (λ (t : List ℕ). s ∷ t) (parts_joined s cs)
+      ∙ ap (λ (x : ℕ). x ∷ cs) same)
+  | inr other ↦ rw other (onto_joined s c (parts_of s cs) ∙ ap (λ (t : List ℕ). c ∷ t) (parts_joined s cs))
+]
 
 -- the byte does not stand in the text
 abbrev pub lacks : ℕ → List ℕ → Bool

@@ -1,6 +1,6 @@
 use Rattle.std.proofs.Common.{◌≡◌, ◌≤◌, ◌+◌, false, length}
-use Rattle.pg_scan.specs.Lines.{raw_lines}
-use Rattle.pg_edits.specs.Script.{has_point, steps_from}
+use Rattle.pg_scan.specs.Lines.{raw_lines, has_point}
+use Rattle.pg_edits.specs.Script.{steps_from}
 use Rattle.pg_edits.proofs.Steps.{then_later}
 use Rattle.pg_edits.proofs.read.read_steps.Given as goal
 

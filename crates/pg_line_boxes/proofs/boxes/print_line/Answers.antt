@@ -1,7 +1,7 @@
 use Rattle.std.proofs.Common.{◌∙◌, sym, subst}
 use Rattle.std.specs.List.{AllByRecursion}
-use Rattle.pg_line_boxes.specs.Printed.{IsPrintable}
 use Rattle.pg_line_boxes.proofs.Widths.{line_printable}
+use Rattle.pg_glue.specs.Widths.{IsPrintable}
 use Rattle.pg_line_boxes.proofs.boxes.print_line.Goals as goal
 
 pub print_items-requires : goal.print_items-requires

@@ -1,5 +1,5 @@
 use Rattle.std.proofs.Common.{◌≡◌, ◌++◌, take}
-use Rattle.pg_paragraphs.specs.Boxes.{dotted}
+use Rattle.pg_scan.specs.Lines.{dotted}
 use Rattle.pg_line_boxes.proofs.text.print_dotted.Given as goal
 
 abbrev pub invariant-loop-byte : goal.invariant-loop-byte

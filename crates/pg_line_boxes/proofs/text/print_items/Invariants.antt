@@ -1,7 +1,7 @@
 use Rattle.std.proofs.Common.{◌≡◌, ◌++◌, length}
 use Rattle.std.specs.List.{AllByRecursion}
 use Rattle.pg_paragraphs.specs.Boxes.{items_text}
-use Rattle.pg_line_boxes.specs.Printed.{IsPrintable}
+use Rattle.pg_glue.specs.Widths.{IsPrintable}
 use Rattle.pg_line_boxes.proofs.text.print_items.Given as goal
 
 abbrev pub invariant-items : goal.invariant-items

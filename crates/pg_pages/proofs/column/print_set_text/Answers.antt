@@ -2,8 +2,8 @@ use Rattle.std.proofs.Common.{◌≡◌, ◌∙◌, ◌++◌, rules, ap, ℤ, w3
 use Rattle.std.specs.Prelude.{codes}
 use Rattle.pg_words.specs.Written.{line}
 use Rattle.pg_pages.specs.PageText.{items_text}
-use Rattle.pg_pages.specs.Printed.{behind}
 use Rattle.pg_pages.proofs.Grown.{grown, grows_on, on_ok, two_parts}
+use Rattle.pg_column_text.specs.Between.{behind}
 use Rattle.pg_pages.proofs.column.print_set_text.Goals as goal
 
 pub returns-clause-ok : goal.returns-clause-ok

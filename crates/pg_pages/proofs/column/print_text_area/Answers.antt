@@ -4,10 +4,12 @@ use Rattle.std.specs.List.{AllByRecursion}
 use Rattle.std.proofs.lemmas.Int.{to_z-of_z}
 use Rattle.pg_words.specs.Written.{line}
 use Rattle.pg_pages.specs.PageText.{items_text}
-use Rattle.pg_pages.specs.Printed.{IsPrintable, behind, text_by, widths_by}
+use Rattle.pg_pages.specs.Printed.{text_by, widths_by}
 use Rattle.pg_pages.proofs.Printed.{behind_long}
 use Rattle.pg_pages.proofs.Grown.{on_ok}
 use Rattle.pg_pages.proofs.Widths.{by_printable}
+use Rattle.pg_glue.specs.Widths.{IsPrintable}
+use Rattle.pg_column_text.specs.Between.{behind}
 use Rattle.pg_pages.proofs.column.print_text_area.Goals as goal
 
 pub print_set_text-requires : goal.print_set_text-requires

@@ -5,12 +5,12 @@ use Rattle.pg_rules.specs.Floats.{entry}
 use Rattle.pg_list.specs.Ranges.{IsItemInRange}
 use Rattle.pg_rules.specs.ColumnRules.{text_goal}
 use Rattle.pg_rules.specs.Legal.{document}
-use Rattle.pg_pages.specs.Printed.{behind}
 use Rattle.pg_pages.specs.Seated.{seated}
 use Rattle.pg_lemmas.proofs.Numbers.{eq_yes}
 use Rattle.pg_pages.proofs.Printed.{behind_long}
 use Rattle.pg_pages.proofs.Grown.{on_same}
 use Rattle.pg_pages.proofs.TextColumn.{bodies_long, column_text_is, excess_is_small, named, segment_few, segment_is, segment_range, sized, summed}
+use Rattle.pg_column_text.specs.Between.{behind}
 use Rattle.pg_pages.proofs.column.print_text_column.Goals as goal
 
 pub room_of-room-requires-clause-below : goal.room_of-room-requires-clause-below

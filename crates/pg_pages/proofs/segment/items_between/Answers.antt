@@ -12,8 +12,9 @@ use Rattle.pg_flat.specs.Flat.{flat_items_at}
 use Rattle.pg_column.specs.Ahead.{item_place, next_index, picks_behind, settled}
 use Rattle.pg_column.proofs.Ahead.{IsSettled, Named, is_settled, named_settled, settle}
 use Rattle.pg_column.proofs.Spans.{index_small, next_named, next_settled, shorter}
-use Rattle.pg_pages.specs.Printed.{behind, items_to}
-use Rattle.pg_pages.proofs.Between.{between_here, between_last, between_none, between_on}
+use Rattle.pg_pages.proofs.Between.{between_here, between_none, between_on}
+use Rattle.pg_column_text.specs.Between.{behind, items_to}
+use Rattle.pg_column_text.proofs.Between.{between_last}
 use Rattle.pg_pages.proofs.segment.items_between.Goals as goal
 
 pub ahead-init : goal.ahead-init

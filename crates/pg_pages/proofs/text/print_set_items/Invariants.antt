@@ -2,7 +2,8 @@ use Rattle.std.proofs.Common.{◌≡◌, ◌++◌, length}
 use Rattle.std.specs.List.{AllByRecursion}
 use Rattle.pg_scaled.specs.Scaled.{Grows}
 use Rattle.pg_pages.specs.PageText.{set_items}
-use Rattle.pg_pages.specs.Printed.{IsPrintable, behind}
+use Rattle.pg_glue.specs.Widths.{IsPrintable}
+use Rattle.pg_column_text.specs.Between.{behind}
 use Rattle.pg_pages.proofs.text.print_set_items.Given as goal
 
 abbrev pub invariant-items : goal.invariant-items
