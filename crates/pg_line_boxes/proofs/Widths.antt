@@ -20,7 +20,7 @@ use Rattle.pg_paragraphs.specs.Laws.{IsRule}
 use Rattle.pg_paragraphs.specs.Lines.{line_total}
 use Rattle.pg_line_boxes.specs.Printed.{elastic, widths_by}
 use Rattle.pg_line_boxes.proofs.SumsLaws.{sums_small}
-use Rattle.pg_glue.proofs.Small.{IsEntry, amount_small, amounts_small, floor_small, share_small, width_small, widths_small}
+use Rattle.pg_glue.proofs.Small.{IsEntry, widths_small}
 
 -- ---- shares
 

@@ -128,7 +128,7 @@ module _ (rule : LineRule) (para : List HItem) where
     one_block = λ u v a b h. same u v h;
     simulates = λ u v k w c a b h f. simulates u v k w c h f;
     done = λ u v a b h d. subst (λ (z : ℕ). (nat_lt 0 z && (z == length para)) ≡ true) (sym (same u v h)) d;
-    nat_equal = nat_equal;
+    order_equal = nat_equal;
     order_total = nat_cmp_total;
     onward = λ u k v c o f. (let a : u < v = rises u k v c o f in omega arith);
     reach_own = λ u o. omega arith;

@@ -114,7 +114,7 @@ module _ (rule : LineRule) (para : List HItem) (low : ℕ → ℕ) (most : ℕ) 
     one_block = λ u v a b h. ap (λ (z : LineState). z.index) (same_state u v h);
     simulates = λ u v k w c a b h f. simulates u v k w c h f;
     done = λ u v a b h d. subst (λ (z : LineState). is_done para z ≡ true) (sym (same_state u v h)) d;
-    nat_equal = nat_equal;
+    order_equal = nat_equal;
     order_total = nat_cmp_total;
     onward = λ u k v c o f. (let a : u.index < v.index = next_rises u k v c f in omega arith);
     reach_own = λ u o. (let a : u.index ≤ length para = o.within in omega arith);

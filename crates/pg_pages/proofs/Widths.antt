@@ -18,7 +18,7 @@ use Rattle.pg_pages.specs.SetGlue.{own_width}
 use Rattle.pg_pages.specs.Printed.{elastic, widths_by}
 use Rattle.pg_pages.proofs.Printed.{elastics_few}
 use Rattle.std.specs.Prelude.{◌&&◌, not, int_lt}
-use Rattle.pg_glue.proofs.Small.{IsEntry, amount_small, amounts_small, floor_small, share_small, width_small, widths_small}
+use Rattle.pg_glue.proofs.Small.{IsEntry, widths_small}
 
 -- ---- shares
 
