@@ -1,0 +1,151 @@
+//! The variants of a paragraph.
+ghost use Rattle.std.specs.Prelude.{◌≡◌, ◌≤◌, ◌<◌, ◌+◌, ◌^◌, ◌++◌, ◌+ℤ◌, ◌-ℤ◌, ◌≤ℤ◌, IfOk, OnOk, length, min, nat_abs, pos};
+ghost use Rattle.pg_list.specs.Shapes.{HasItemsInRange};
+ghost use Rattle.pg_hlist.specs.Items.{IsPara};
+ghost use Rattle.pg_line_space.specs.LineSpace.{IsLow, line_meaning};
+ghost use Rattle.pg_table.specs.Label.{IsTable};
+ghost use Rattle.pg_break_lines.specs.Found.{IsFound};
+ghost use Rattle.pg_break_lines.specs.Moves.{low_by};
+ghost use Rattle.pg_paragraphs.specs.Laws.{IsRule};
+ghost use Rattle.pg_paragraphs.specs.Variants.{AreVariantsOf, most_demerits, variant_of as variant_of_way};
+ghost use Rattle.pg_paragraphs.specs.Ways.{IsBestWay, demerits};
+ghost use Rattle.pg_variants.specs.Answers.{IsKnown, Varies, variant_by};
+
+use crate::lines::way_items;
+use pg_break_lines::{BestSpace, LineLists, LineSpace, Way, best_count, fewest_lines, least_way};
+use pg_hlist::HItem;
+use pg_line_space::LineState;
+use pg_list::Variant;
+use pg_paragraphs::LineRule;
+use pg_steps::Steps;
+use pg_table::Table;
+use std::alloc::{AllocError, Global};
+use std::sync::ledger::Ledger;
+
+type Labels = Table<LineState, u32, LineState>;
+
+// The demerits of a way beyond those of the best one, at most 10^8.
+fn demerits_beyond(way: i128, best: i128) -> u32
+    requires way { nat_abs way < 2 ^ 100 }
+    requires best { nat_abs best < 2 ^ 100 }
+    ensures { result ≡ min (nat_abs (way -ℤ best)) most_demerits }
+{
+    (way - best).unsigned_abs().min(100_000_000) as u32
+}
+
+// The variant of a way, so many lines longer than the best one.
+fn variant_of(
+    alloc: Global,
+    rule: &LineRule,
+    items: &[HItem],
+    best: &Way,
+    looseness: i32,
+    way: &Way,
+) -> Result<Variant, AllocError>
+    requires rule { IsRule rule.now }
+    requires para { IsPara items.now }
+    requires best { IsKnown rule.now items.now best.now }
+    requires way { IsKnown rule.now items.now way.now }
+    ensures value { IfOk result (λ variant. variant
+        ≡ variant_of_way rule.now items.now best.now.ends.items looseness way.now.ends.items) }
+    ensures range { IfOk result HasItemsInRange }
+{
+    let variant = Variant {
+        looseness,
+        demerits: demerits_beyond(way.demerits, best.demerits),
+        items: way_items(alloc, rule, items, way.ends.as_slice())?,
+    };
+    variant.keeps_ranges();
+    Ok(variant)
+}
+
+// Adds the variant of so many lines more than the best way, where there is such a way.
+fn push_variant(
+    variants: &mut Vec<Variant>,
+    alloc: Global,
+    space: &LineSpace<'_>,
+    table: &Labels,
+    best: &Way,
+    looseness: i32,
+) -> Result<(), AllocError>
+    requires rule { IsRule space.now.rule.now }
+    requires para { IsPara space.now.items.now }
+    requires low { IsLow space.now.rule.now space.now.items.now
+        (low_by (length space.now.items.now) space.now.low.now) }
+    requires table { IsTable (line_meaning space.now.rule.now space.now.items.now
+        (low_by (length space.now.items.now) space.now.low.now) space.now.most) table.now }
+    requires best { IsKnown space.now.rule.now space.now.items.now best.now }
+    requires near { pos (length best.now.ends.items) +ℤ looseness ≤ℤ pos space.now.most }
+    ensures { OnOk result (variants.new.items ≡ variants.old.items
+        ++ variant_by space.now.rule.now space.now.items.now best.now.ends.items looseness) }
+{
+    let lines = best.ends.as_slice().len() as i64 + i64::from(looseness);
+    if lines <= 0 {
+        return Ok(());
+    }
+    if let Some(way) = least_way(alloc, space, table, lines as u32)? {
+        variants.push(variant_of(alloc, space.rule, space.items, best, looseness, &way)?)?;
+    }
+    Ok(())
+}
+
+// The variants around the best number of lines.
+fn variants_around(
+    alloc: Global,
+    space: &LineSpace<'_>,
+    table: &Labels,
+    best: &Way,
+) -> Result<Vec<Variant>, AllocError>
+    requires rule { IsRule space.now.rule.now }
+    requires para { IsPara space.now.items.now }
+    requires low { IsLow space.now.rule.now space.now.items.now
+        (low_by (length space.now.items.now) space.now.low.now) }
+    requires table { IsTable (line_meaning space.now.rule.now space.now.items.now
+        (low_by (length space.now.items.now) space.now.low.now) space.now.most) table.now }
+    requires known { best.now.demerits ≡ demerits space.now.rule.now space.now.items.now best.now.ends.items }
+    requires best { IsBestWay space.now.rule.now space.now.items.now best.now.ends.items }
+    requires most { space.now.most ≡ length best.now.ends.items + space.now.rule.now.around }
+    ensures { IfOk result (λ variants. AreVariantsOf space.now.rule.now space.now.items.now variants.items) }
+{
+    let around = space.rule.around;
+    let mut variants = Vec::new(alloc);
+    push_variant(&mut variants, alloc, space, table, best, 0)?;
+    if around >= 1 {
+        push_variant(&mut variants, alloc, space, table, best, -1)?;
+        push_variant(&mut variants, alloc, space, table, best, 1)?;
+    }
+    if around >= 2 {
+        push_variant(&mut variants, alloc, space, table, best, -2)?;
+        push_variant(&mut variants, alloc, space, table, best, 2)?;
+    }
+    Ok(variants)
+}
+
+/// The variants of a paragraph, each the least way of its number of lines; None where it cannot be broken. The one refusal
+/// is want of memory.
+pub fn variants_of<L: Ledger>(
+    alloc: Global,
+    rule: &LineRule,
+    items: &[HItem],
+    steps: &mut Steps<L>,
+) -> Result<Option<Vec<Variant>>, AllocError>
+    requires rule { IsRule rule.now }
+    requires para { IsPara items.now }
+    ensures { IfOk result (Varies rule.now items.now) }
+{
+    let lists = LineLists::of(alloc, rule, items)?;
+    let breaks = BestSpace::new(alloc, rule, items, &lists);
+    let Some(count) = best_count(alloc, &breaks, steps)? else {
+        return Ok(None);
+    };
+    let low = fewest_lines(alloc, &breaks)?;
+    let most = count + u32::from(rule.around);
+    let space = LineSpace::new(alloc, rule, items, &lists, low.as_slice(), most);
+    let mut table = Table::new(alloc);
+    table.fill(&space, steps)?;
+    let Some(best) = least_way(alloc, &space, &table, count)? else {
+        unreachable!();
+    };
+    let variants = variants_around(alloc, &space, &table, &best)?;
+    Ok(Some(variants))
+}
