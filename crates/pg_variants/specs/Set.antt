@@ -1,6 +1,6 @@
 -- How the lines of a way are set, from the first on. It is proved to give what pg_paragraphs defines; nobody need believe
 -- what stands here.
-use Rattle.std.specs.Prelude.{ℕ, zero, suc, ◌+◌, ◌==◌, Bool, true, false, if◌then◌else◌, List, [], ◌∷◌, ◌++◌, length}
+use Rattle.std.specs.Prelude.{ℕ, ◌+◌, ◌==◌, nat_lt, Bool, false, if◌then◌else◌, List, [], ◌∷◌, ◌++◌, length}
 use Rattle.pg_list.specs.declared.item.Item.{Item}
 use Rattle.pg_hlist.specs.declared.item.HItem.{HItem}
 use Rattle.pg_paragraphs.specs.declared.rule.LineRule.{LineRule}
@@ -14,8 +14,8 @@ gap is_first is_last = (if is_first then 150 else 0) + (if is_last then 150 else
 
 -- a line, and where so many follow it, the penalty behind it
 abbrev pub set_line : LineRule → List HItem → Bool → ℕ → List Item
-set_line rule line is_first zero = line_box rule line ∷ []
-set_line rule line is_first (suc left) = line_box rule line ∷ between_item (gap is_first (left == 0)) ∷ []
+set_line rule line is_first left =
+    line_box rule line ∷ (if nat_lt 0 left then between_item (gap is_first (left == 1)) ∷ [] else [])
 
 -- the lines that end at these places, the first of which starts here
 abbrev pub set_ends : LineRule → List HItem → Bool → ℕ → List ℕ → List Item

@@ -7,7 +7,7 @@ ghost use Rattle.pg_table.specs.Label.{IsTable};
 ghost use Rattle.pg_break_lines.specs.Found.{IsFound};
 ghost use Rattle.pg_break_lines.specs.Moves.{low_by};
 ghost use Rattle.pg_paragraphs.specs.Laws.{IsRule};
-ghost use Rattle.pg_paragraphs.specs.Variants.{AreVariantsOf, most_demerits, variant_of as variant_of_way};
+ghost use Rattle.pg_paragraphs.specs.Variants.{AreVariantsOf, loosenesses as loosenesses_of, most_demerits, variant_of as variant_of_way};
 ghost use Rattle.pg_paragraphs.specs.Ways.{IsBestWay, demerits};
 ghost use Rattle.pg_variants.specs.Answers.{IsKnown, Varies, variant_by};
 
@@ -89,6 +89,18 @@ fn push_variant(
     Ok(())
 }
 
+// How many lines more than the best way the variants have, in their order.
+fn loosenesses(around: u8) -> &'static [i32]
+    requires { around ≤ 2 }
+    ensures { result.now ≡ loosenesses_of around }
+{
+    match around {
+        0 => &[0],
+        1 => &[0, -1, 1],
+        _ => &[0, -1, 1, -2, 2],
+    }
+}
+
 // The variants around the best number of lines.
 fn variants_around(
     alloc: Global,
@@ -107,16 +119,11 @@ fn variants_around(
     requires most { space.now.most ≡ length best.now.ends.items + space.now.rule.now.around }
     ensures { IfOk result (λ variants. AreVariantsOf space.now.rule.now space.now.items.now variants.items) }
 {
-    let around = space.rule.around;
     let mut variants = Vec::new(alloc);
-    push_variant(&mut variants, alloc, space, table, best, 0)?;
-    if around >= 1 {
-        push_variant(&mut variants, alloc, space, table, best, -1)?;
-        push_variant(&mut variants, alloc, space, table, best, 1)?;
-    }
-    if around >= 2 {
-        push_variant(&mut variants, alloc, space, table, best, -2)?;
-        push_variant(&mut variants, alloc, space, table, best, 2)?;
+    let mut rest = loosenesses(space.rule.around);
+    'loosenesses: while let [looseness, after @ ..] = rest {
+        push_variant(&mut variants, alloc, space, table, best, *looseness)?;
+        rest = after;
     }
     Ok(variants)
 }

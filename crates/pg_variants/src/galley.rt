@@ -1,15 +1,13 @@
 //! The galley of paragraphs in variants.
-ghost use Rattle.std.specs.Prelude.{◌≡◌, ◌≤◌, ◌+◌, ◌++◌, ◌∷◌, [], length, pos, ℕ, Result, IfOk, IfErr, OnOk, OnErr};
-ghost use Rattle.pg_list.specs.Counts.{item_count, item_limit};
-ghost use Rattle.pg_list.specs.GalleyValue.{GalleyValue};
+ghost use Rattle.std.specs.Prelude.{◌≡◌, ◌≤◌, IfErr, IfOk, OnOk};
+ghost use Rattle.pg_list.specs.Counts.{block_size, item_count, item_limit};
 ghost use Rattle.pg_list.specs.Ranges.{IsItemInRange};
 ghost use Rattle.pg_list.specs.Shapes.{IsChoice};
-ghost use Rattle.pg_list.specs.declared.item.Item.TheVariants.{Glue};
-ghost use Rattle.pg_list.specs.declared.item.Order.TheVariants.{Finite};
+ghost use Rattle.pg_list.specs.declared.blocks.Block.TheVariants.{Choice as AChoice, One};
 ghost use Rattle.pg_hlist.specs.Items.{IsPara};
-ghost use Rattle.pg_paragraphs.specs.Galleys.{Breaks, with_choice};
+ghost use Rattle.pg_paragraphs.specs.Galleys.{parskip, with_choice};
 ghost use Rattle.pg_paragraphs.specs.Laws.{IsRule};
-ghost use Rattle.pg_variants.specs.Answers.{AnswersLines, GoesOn, IsMade};
+ghost use Rattle.pg_variants.specs.Answers.{AnswersLines, EndsIn, IsMade, LeadsOn};
 
 use crate::choice::variants_of;
 use pg_hlist::{HItem, Paras};
@@ -21,7 +19,7 @@ use std::sync::ledger::Ledger;
 
 // The glue between paragraphs.
 fn skip(alloc: Global) -> Result<Item, AllocError>
-    ensures value { IfOk result (λ item. Block.One item ≡ parskip) }
+    ensures value { IfOk result (λ item. One item ≡ parskip) }
     ensures range { IfOk result IsItemInRange }
 {
     Ok(Item::Glue {
@@ -51,21 +49,35 @@ fn push_paragraph(
 
 // How many items these variants have.
 fn count_of(variants: &[Variant]) -> u32
-    requires { AreFew variants.now }
-    ensures { result ≡ block_size (Choice variants.now) }
+    requires { block_size (AChoice variants.now) ≤ item_limit }
+    ensures { result ≡ block_size (AChoice variants.now) }
 {
     let mut count = 0u32;
-    for variant in variants {
+    let mut rest = variants;
+    'variants: while let [variant, after @ ..] = rest {
         count += variant.items.len() as u32;
+        rest = after;
     }
     count
 }
 
-// The blocks so far, with the number of their items, and of how many paragraphs they are.
-struct Made {
-    blocks: Blocks,
-    count: u32,
-    paragraphs: u32,
+// How many items there are with a paragraph more.
+fn count_with(blocks: &Blocks, count: u32, variants: &[Variant]) -> u32
+    requires count { count ≡ item_count blocks.now }
+    requires few { count ≤ item_limit }
+    requires more { block_size (AChoice variants.now) ≤ item_limit }
+    ensures { result ≡ item_count (with_choice blocks.now variants.now) }
+{
+    let glue = u32::from(blocks.len() > 0);
+    count + glue + count_of(variants)
+}
+
+/// The blocks so far, with the number of their items, and of how many paragraphs they are.
+#[derive(Drop)]
+pub struct Made {
+    pub blocks: Blocks,
+    pub count: u32,
+    pub paragraphs: u32,
 }
 
 impl Made {
@@ -81,18 +93,23 @@ impl Made {
         requires para { IsPara items.now }
         requires made { IsMade self.old }
         ensures made { OnOk result (IsMade self.new) }
-        ensures goes { GoesOn rule.now self.old items.now result self.new }
+        ensures ok { OnOk result (LeadsOn rule.now self.old items.now self.new) }
+        ensures err { IfErr result (EndsIn rule.now self.old items.now) }
     {
         let number = self.paragraphs + 1;
-        let Some(variants) = variants_of(alloc, rule, items, steps)? else {
+        let Ok(found) = variants_of(alloc, rule, items, steps) else {
+            return Err(LineFault::Memory);
+        };
+        let Some(variants) = found else {
             return Err(LineFault::NoBreak { paragraph: number });
         };
-        let glue = u32::from(self.paragraphs > 0);
-        let count = self.count + glue + count_of(variants.as_slice());
+        let count = count_with(&self.blocks, self.count, variants.as_slice());
         if count > ITEM_LIMIT {
             return Err(LineFault::Limit { count });
         }
-        push_paragraph(&mut self.blocks, alloc, variants)?;
+        let Ok(()) = push_paragraph(&mut self.blocks, alloc, variants) else {
+            return Err(LineFault::Memory);
+        };
         self.count = count;
         self.paragraphs = number;
         Ok(())
