@@ -75,7 +75,7 @@ fn push_variant(
     requires table { IsTable (line_meaning space.now.rule.now space.now.items.now
         (low_by (length space.now.items.now) space.now.low.now) space.now.most) table.now }
     requires best { IsKnown space.now.rule.now space.now.items.now best.now }
-    requires near { pos (length best.now.ends.items) +ℤ looseness ≤ℤ pos space.now.most }
+    requires near { (pos (length best.now.ends.items) +ℤ looseness) ≤ℤ pos space.now.most }
     ensures { OnOk result (variants.new.items ≡ variants.old.items
         ++ variant_by space.now.rule.now space.now.items.now best.now.ends.items looseness) }
 {
@@ -151,7 +151,7 @@ pub fn variants_of<L: Ledger>(
     let mut table = Table::new(alloc);
     table.fill(&space, steps)?;
     let Some(best) = least_way(alloc, &space, &table, count)? else {
-        unreachable!();
+        unreachable!()
     };
     let variants = variants_around(alloc, &space, &table, &best)?;
     Ok(Some(variants))
