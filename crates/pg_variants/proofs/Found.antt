@@ -1,6 +1,6 @@
 -- What is found of the ways of a paragraph makes its variants.
-use Rattle.std.proofs.Common.{◌≡◌, refl, sym, ap, subst, ◌∙◌, ℕ, zero, suc, ◌≤◌, ◌<◌, ◌⊎◌, inl, inr, List, [], ◌∷◌, ◌++◌, length, true, Option, Some, None, append-nil, arith}
-use Rattle.std.specs.Prelude.{ℤ, pos, negsuc, ◌+ℤ◌, ◌<ℤ◌, ◌≤ℤ◌}
+use Rattle.std.proofs.Common.{◌≡◌, refl, sym, ap, subst, ◌∙◌, ℕ, zero, suc, ◌+◌, ◌^◌, ◌≤◌, ◌<◌, ◌⊎◌, inl, inr, List, [], ◌∷◌, ◌++◌, length, true, Option, Some, None, append-nil, append_assoc, arith}
+use Rattle.std.specs.Prelude.{◌-◌, ℤ, pos, negsuc, ◌+ℤ◌, ◌<ℤ◌, ◌≤ℤ◌, unsigned_abs, take, drop, get_or}
 use Rattle.std.specs.List.{AllByRecursion, flat_map}
 use Rattle.std.proofs.lemmas.Int.{ints}
 use Rattle.pg_list.specs.declared.variants.Variant.{Variant}
@@ -12,17 +12,77 @@ use Rattle.pg_paragraphs.specs.Ways.{IsBestWay, IsLeastOf, IsLeastWay, NoWay, de
 use Rattle.pg_paragraphs.proofs.Broken.{one_least}
 use Rattle.pg_paragraphs.proofs.Listed.{least_is}
 use Rattle.pg_line_space.specs.BestSpace.{IsBestCount}
-use Rattle.pg_variants.specs.Answers.{variant_by}
+use Rattle.pg_hlist.specs.Items.{IsPara}
+use Rattle.pg_break_lines.specs.Found.{IsBestNumber, IsFound}
+use Rattle.pg_break_lines.specs.declared.ways.Way.{Way}
+use Rattle.pg_break_lines.proofs.Counted.{way_short}
+use Rattle.pg_variants.specs.Answers.{IsCount, variant_by}
+
+-- ---- counts
+
+pub some_count : (z : ℤ) (n : ℕ) → pos 0 ≤ℤ z → n ≡ unsigned_abs z → IsCount z n
+some_count (pos m) n h e = e
+some_count (negsuc m) n h e = absurd (omega (arith, ints, h))
+
+pub none_count : (z : ℤ) → ((pos 0 ≤ℤ z) → ⊥) → IsCount z 0
+none_count (pos m) h = absurd (h (omega (arith, ints)))
+none_count (negsuc m) h = refl
+
+pub is_count : (z : ℤ) (n : ℕ) → 0 < n → IsCount z n → z ≡ pos n
+is_count (pos m) n h e = ap pos (sym e)
+is_count (negsuc m) n h e = absurd (omega (arith, h, e))
+
+pub count_near : (z : ℤ) (n most : ℕ) → z ≤ℤ pos most → IsCount z n → n ≤ most
+count_near (pos m) n most h e = omega (arith, ints, h, e)
+count_near (negsuc m) n most h e = omega (arith, e)
+
+-- ---- how many lines more
+
+near_all : (lines around most : ℕ) → around ≤ 2 → most ≡ lines + around →
+    AllByRecursion (λ (o : ℤ). (pos lines +ℤ o) ≤ℤ pos most) (loosenesses around)
+near_all lines zero most h e = (omega (arith, ints, e), tt)
+near_all lines (suc zero) most h e = (omega (arith, ints, e), (omega (arith, ints, e), (omega (arith, ints, e), tt)))
+near_all lines (suc (suc zero)) most h e = (omega (arith, ints, e), (omega (arith, ints, e), (omega (arith, ints, e),
+    (omega (arith, ints, e), (omega (arith, ints, e), tt)))))
+near_all lines (suc (suc (suc n))) most h e = absurd (omega (arith, h))
+
+-- what is left of these
+pub near_of : (lines around most : ℕ) (os : List ℤ) → os ≡ loosenesses around → around ≤ 2 → most ≡ lines + around →
+    AllByRecursion (λ (o : ℤ). (pos lines +ℤ o) ≤ℤ pos most) os
+near_of lines around most os e h f =
+    subst (AllByRecursion (λ (o : ℤ). (pos lines +ℤ o) ≤ℤ pos most)) (sym e) (near_all lines around most h f)
+
+take_whole : {X : Type 0} (xs : List X) → take (length xs) xs ≡ xs
+take_whole [] = refl
+take_whole (x ∷ xs) = ap (λ ys. x ∷ ys) (take_whole xs)
+
+-- one more of a list that is walked
+pub one_further : {X Y : Type 0} (f : X → List Y) (xs : List X) (d : X) (old new whole : List Y) → 0 < length xs →
+    new ≡ old ++ f (get_or xs 0 d) → old ++ flat_map f xs ≡ whole →
+    new ++ flat_map f (take (length xs - 1) (drop 1 xs)) ≡ whole
+one_further f [] d old new whole h n w = absurd (omega (arith, h))
+one_further f (x ∷ xs) d old new whole h n w =
+    let l : length (x ∷ xs) - 1 ≡ length xs = omega arith in
+    ap (λ k. new ++ flat_map f (take k xs)) l
+    ∙ (ap (λ ys. new ++ flat_map f ys) (take_whole xs)
+    ∙ (ap (λ ys. ys ++ flat_map f xs) n ∙ (append_assoc old (f x) (flat_map f xs) ∙ w)))
+
+pub moved : (F : LineRule → List HItem → Type 0) (rule rule' : LineRule) (para para' : List HItem) → rule ≡ rule' →
+    para ≡ para' → F rule para → F rule' para'
+moved F rule rule' para para' e f h =
+    subst (λ (r : LineRule). F r para') e (subst (λ (p : List HItem). F rule p) f h)
 
 module _ (rule : LineRule) (para : List HItem) where
-  none_below : (z : ℤ) → z ≤ℤ pos 0 → found_at (least_way rule para) z ≡ None
-  none_below (pos zero) h = refl
-  none_below (pos (suc n)) h = absurd (omega (arith, ints, h))
-  none_below (negsuc n) h = refl
+  none_at : (z : ℤ) → IsCount z 0 → found_at (least_way rule para) z ≡ None
+  none_at (pos zero) h = refl
+  none_at (pos (suc n)) h = absurd (omega (arith, h))
+  none_at (negsuc n) h = refl
 
   -- no line is too few
-  pub no_lines : (best : List ℕ) (o : ℤ) → (pos (length best) +ℤ o) ≤ℤ pos 0 → variant_by rule para best o ≡ []
-  no_lines best o h = ap (variant_at rule para best o) (none_below (pos (length best) +ℤ o) h)
+  pub no_lines : (best : List ℕ) (o : ℤ) (n : ℕ) → IsCount (pos (length best) +ℤ o) n → n ≡ 0 →
+      variant_by rule para best o ≡ []
+  no_lines best o n h e = ap (variant_at rule para best o)
+      (none_at (pos (length best) +ℤ o) (subst (IsCount (pos (length best) +ℤ o)) e h))
 
   found_by : (best : List ℕ) (o : ℤ) (n : ℕ) (found : Option (List ℕ)) → pos (length best) +ℤ o ≡ pos n →
       IsLeastOf rule para n found → variant_by rule para best o ≡ variant_at rule para best o found
@@ -37,6 +97,13 @@ module _ (rule : LineRule) (para : List HItem) where
   pub one_variant : (best : List ℕ) (o : ℤ) (n : ℕ) (way : List ℕ) → pos (length best) +ℤ o ≡ pos n →
       IsLeastWay rule para n way → variant_by rule para best o ≡ variant_of rule para best o way ∷ []
   one_variant best o n way e h = found_by best o n (Some way) e h
+
+  pub count_few : (n : ℕ) → IsPara para → IsBestNumber rule para (Some n) → n ≤ 2 ^ 11
+  count_few n p b =
+      let s = way_short rule para b.0 b.1.0.legal in
+      let f = p.few in
+      let l : length b.0 ≡ n = b.1.1 in
+      omega (arith, s, f, l)
 
   -- ---- the best
 
@@ -55,6 +122,10 @@ module _ (rule : LineRule) (para : List HItem) where
     best = λ other h. no_more (demerits rule para best) (demerits rule para way) (demerits rule para other)
         (length best) (length way) (length other) _ (l.least way b.legal e) (l.lines ∙ sym e) (b.best other h);
   }
+
+  pub best_found : (n : ℕ) (best : Way) → IsBestNumber rule para (Some n) → IsFound rule para n (Some best) →
+      IsBestWay rule para best.ends.items
+  best_found n best b f = best_is n b.0 best.ends.items b.1.0 b.1.1 f.0
 
   -- ---- the variants around it
 

@@ -1,5 +1,5 @@
 -- What is answered for a paragraph, and for all.
-use Rattle.std.specs.Prelude.{◌≡◌, ◌≤◌, ◌+◌, ◌∷◌, ℕ, ⊤, true, List, Option, Some, None, Result, Ok, Err, ℤ, pos, ◌+ℤ◌, length, Vec}
+use Rattle.std.specs.Prelude.{◌≡◌, ◌≤◌, ◌+◌, ◌∷◌, ℕ, ⊤, true, List, Option, Some, None, Result, Ok, Err, ℤ, pos, negsuc, ◌+ℤ◌, length, Vec}
 use Rattle.std.specs.declared.alloc.Global.{Global}
 use Rattle.pg_list.specs.Counts.{item_count, item_limit}
 use Rattle.pg_list.specs.GalleyValue.{GalleyValue}
@@ -24,6 +24,11 @@ Varies rule para (Some variants) = AreVariantsOf rule para variants.items
 abbrev pub variant_by : LineRule → List HItem → List ℕ → ℤ → List Variant
 variant_by rule para best looseness =
     variant_at rule para best looseness (found_at (least_way rule para) (pos (length best) +ℤ looseness))
+
+-- the number, where it is not below 0, and else 0
+abbrev pub IsCount : ℤ → ℕ → Type 0
+IsCount (pos n) count = count ≡ n
+IsCount (negsuc n) count = count ≡ 0
 
 -- a legal way with its demerits
 pub record IsKnown (rule : LineRule) (para : List HItem) (way : Way) : Type 0 where

@@ -9,7 +9,7 @@ ghost use Rattle.pg_break_lines.specs.Moves.{low_by};
 ghost use Rattle.pg_paragraphs.specs.Laws.{IsRule};
 ghost use Rattle.pg_paragraphs.specs.Variants.{AreVariantsOf, loosenesses as loosenesses_of, most_demerits, variant_of as variant_of_way};
 ghost use Rattle.pg_paragraphs.specs.Ways.{IsBestWay, demerits};
-ghost use Rattle.pg_variants.specs.Answers.{IsKnown, Varies, variant_by};
+ghost use Rattle.pg_variants.specs.Answers.{IsCount, IsKnown, Varies, variant_by};
 
 use crate::lines::way_items;
 use pg_break_lines::{BestSpace, LineLists, LineSpace, Way, best_count, fewest_lines, least_way};
@@ -25,12 +25,25 @@ use std::sync::ledger::Ledger;
 type Labels = Table<LineState, u32, LineState>;
 
 // The demerits of a way beyond those of the best one, at most 10^8.
-fn demerits_beyond(way: i128, best: i128) -> u32
-    requires way { nat_abs way < 2 ^ 100 }
-    requires best { nat_abs best < 2 ^ 100 }
-    ensures { result ≡ min (nat_abs (way -ℤ best)) most_demerits }
+fn demerits_beyond(way: &Way, best: &Way) -> u32
+    requires way { nat_abs way.now.demerits < 2 ^ 100 }
+    requires best { nat_abs best.now.demerits < 2 ^ 100 }
+    ensures { result ≡ min (nat_abs (way.now.demerits -ℤ best.now.demerits)) most_demerits }
 {
-    (way - best).unsigned_abs().min(100_000_000) as u32
+    (way.demerits - best.demerits)
+        .unsigned_abs()
+        .min(100_000_000) as u32
+}
+
+// How many lines these are, so many more than in a way; 0 where they are none.
+fn lines_beyond(way: &Way, looseness: i32) -> u32
+    requires { length way.now.ends.items ≤ 2 ^ 11 }
+    ensures { IsCount (pos (length way.now.ends.items) +ℤ looseness) result }
+{
+    match (way.ends.as_slice().len() as u32).checked_add_signed(looseness) {
+        Some(lines) => lines,
+        None => 0,
+    }
 }
 
 // The variant of a way, so many lines longer than the best one.
@@ -52,7 +65,7 @@ fn variant_of(
 {
     let variant = Variant {
         looseness,
-        demerits: demerits_beyond(way.demerits, best.demerits),
+        demerits: demerits_beyond(way, best),
         items: way_items(alloc, rule, items, way.ends.as_slice())?,
     };
     variant.keeps_ranges();
@@ -79,11 +92,11 @@ fn push_variant(
     ensures { OnOk result (variants.new.items ≡ variants.old.items
         ++ variant_by space.now.rule.now space.now.items.now best.now.ends.items looseness) }
 {
-    let lines = best.ends.as_slice().len() as i64 + i64::from(looseness);
-    if lines <= 0 {
+    let lines = lines_beyond(best, looseness);
+    if lines == 0 {
         return Ok(());
     }
-    if let Some(way) = least_way(alloc, space, table, lines as u32)? {
+    if let Some(way) = least_way(alloc, space, table, lines)? {
         variants.push(variant_of(alloc, space.rule, space.items, best, looseness, &way)?)?;
     }
     Ok(())
