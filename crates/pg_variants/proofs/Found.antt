@@ -1,6 +1,6 @@
 -- What is found of the ways of a paragraph makes its variants.
 use Rattle.std.proofs.Common.{◌≡◌, refl, sym, ap, subst, ◌∙◌, ℕ, zero, suc, ◌+◌, ◌^◌, ◌≤◌, ◌<◌, ◌⊎◌, inl, inr, List, [], ◌∷◌, ◌++◌, length, true, Option, Some, None, append-nil, append_assoc, arith}
-use Rattle.std.specs.Prelude.{◌-◌, ℤ, pos, negsuc, ◌+ℤ◌, ◌<ℤ◌, ◌≤ℤ◌, unsigned_abs, take, drop, get_or}
+use Rattle.std.specs.Prelude.{◌-◌, ℤ, pos, negsuc, ◌+ℤ◌, ◌<ℤ◌, ◌≤ℤ◌, take, drop, get_or}
 use Rattle.std.specs.List.{AllByRecursion, flat_map}
 use Rattle.std.proofs.lemmas.Int.{ints}
 use Rattle.pg_list.specs.declared.variants.Variant.{Variant}
@@ -20,21 +20,9 @@ use Rattle.pg_variants.specs.Answers.{IsCount, variant_by}
 
 -- ---- counts
 
-pub some_count : (z : ℤ) (n : ℕ) → pos 0 ≤ℤ z → n ≡ unsigned_abs z → IsCount z n
-some_count (pos m) n h e = e
-some_count (negsuc m) n h e = absurd (omega (arith, ints, h))
-
-pub none_count : (z : ℤ) → ((pos 0 ≤ℤ z) → ⊥) → IsCount z 0
-none_count (pos m) h = absurd (h (omega (arith, ints)))
-none_count (negsuc m) h = refl
-
-pub is_count : (z : ℤ) (n : ℕ) → 0 < n → IsCount z n → z ≡ pos n
+is_count : (z : ℤ) (n : ℕ) → 0 < n → IsCount z n → z ≡ pos n
 is_count (pos m) n h e = ap pos (sym e)
 is_count (negsuc m) n h e = absurd (omega (arith, h, e))
-
-pub count_near : (z : ℤ) (n most : ℕ) → z ≤ℤ pos most → IsCount z n → n ≤ most
-count_near (pos m) n most h e = omega (arith, ints, h, e)
-count_near (negsuc m) n most h e = omega (arith, e)
 
 -- ---- how many lines more
 
@@ -78,11 +66,7 @@ module _ (rule : LineRule) (para : List HItem) where
   none_at (pos (suc n)) h = absurd (omega (arith, h))
   none_at (negsuc n) h = refl
 
-  -- no line is too few
-  pub no_lines : (best : List ℕ) (o : ℤ) (n : ℕ) → IsCount (pos (length best) +ℤ o) n → n ≡ 0 →
-      variant_by rule para best o ≡ []
-  no_lines best o n h e = ap (variant_at rule para best o)
-      (none_at (pos (length best) +ℤ o) (subst (IsCount (pos (length best) +ℤ o)) e h))
+  -- ---- one number of lines, told of an equal looseness
 
   found_by : (best : List ℕ) (o : ℤ) (n : ℕ) (found : Option (List ℕ)) → pos (length best) +ℤ o ≡ pos n →
       IsLeastOf rule para n found → variant_by rule para best o ≡ variant_at rule para best o found
@@ -90,13 +74,22 @@ module _ (rule : LineRule) (para : List HItem) where
       ap (λ (z : ℤ). variant_at rule para best o (found_at (least_way rule para) z)) e
       ∙ ap (variant_at rule para best o) (one_least rule para n (least_way rule para n) found (least_is rule para n) h)
 
-  pub no_variant : (best : List ℕ) (o : ℤ) (n : ℕ) → pos (length best) +ℤ o ≡ pos n → NoWay rule para n →
-      variant_by rule para best o ≡ []
-  no_variant best o n e h = found_by best o n None e h
+  module _ (best : List ℕ) (o p : ℤ) (n : ℕ) (same : p ≡ o) (count : IsCount (pos (length best) +ℤ p) n) where
+    counted : IsCount (pos (length best) +ℤ o) n
+    counted = subst (λ (z : ℤ). IsCount (pos (length best) +ℤ z) n) same count
 
-  pub one_variant : (best : List ℕ) (o : ℤ) (n : ℕ) (way : List ℕ) → pos (length best) +ℤ o ≡ pos n →
-      IsLeastWay rule para n way → variant_by rule para best o ≡ variant_of rule para best o way ∷ []
-  one_variant best o n way e h = found_by best o n (Some way) e h
+    -- no line is too few
+    pub no_lines : n ≡ 0 → variant_by rule para best o ≡ []
+    no_lines e = ap (variant_at rule para best o)
+        (none_at (pos (length best) +ℤ o) (subst (IsCount (pos (length best) +ℤ o)) e counted))
+
+    pub no_variant : 0 < n → IsFound rule para n None → variant_by rule para best o ≡ []
+    no_variant h f = found_by best o n None (is_count (pos (length best) +ℤ o) n h counted) f
+
+  pub one_variant : (best : List ℕ) (o p : ℤ) (n : ℕ) (way : Way) → p ≡ o → IsCount (pos (length best) +ℤ p) n → 0 < n →
+      IsFound rule para n (Some way) → variant_by rule para best o ≡ variant_of rule para best o way.ends.items ∷ []
+  one_variant best o p n way same count h f = found_by best o n (Some way.ends.items)
+      (is_count (pos (length best) +ℤ o) n h (counted best o p n same count)) f.0
 
   pub count_few : (n : ℕ) → IsPara para → IsBestNumber rule para (Some n) → n ≤ 2 ^ 11
   count_few n p b =

@@ -1,6 +1,6 @@
 -- The galley so far, with one paragraph more.
 use Rattle.std.proofs.Common.{◌≡◌, refl, sym, ap, subst, ◌∙◌, ℕ, ◌+◌, ◌<◌, ◌≤◌, inl, inr, List, [], ◌∷◌, length, arith}
-use Rattle.std.specs.Prelude.{get_or, drop, Result, Ok, Err}
+use Rattle.std.specs.Prelude.{get_or, drop, Result, Ok, Err, IsErrAnd}
 use Rattle.pg_list.specs.Counts.{item_count, item_limit}
 use Rattle.pg_list.specs.GalleyValue.{GalleyValue}
 use Rattle.pg_list.specs.Shapes.{IsChoice}
@@ -16,26 +16,6 @@ use Rattle.pg_paragraphs.specs.Ways.{CannotBreak}
 use Rattle.pg_variants.specs.Answers.{AnswersLines, EndsIn, IsMade, LeadsOn}
 use Rattle.pg_variants.proofs.Sizes.{choice_some, count_grows}
 use Rattle.pg_variants.specs.declared.galley.Made.{Made}
-
-pub leads_on : (rule : LineRule) (made new : Made) (para : List HItem) (variants : List Variant) →
-    AreVariantsOf rule para variants → new.blocks ≡ with_choice made.blocks variants →
-    item_count (with_choice made.blocks variants) ≤ item_limit → new.paragraphs ≡ made.paragraphs + 1 →
-    LeadsOn rule made para new
-leads_on rule made new para variants are b few n = λ rest result h. inr (variants, (are, inr (few,
-    subst (λ (k : ℕ). Breaks rule (k + 1) (with_choice made.blocks variants) rest result) n
-    (subst (λ (blocks : List Block). Breaks rule (new.paragraphs + 1) blocks rest result) b h))))
-
-pub no_break : (rule : LineRule) (made : Made) (para : List HItem) (number : ℕ) → CannotBreak rule para →
-    number ≡ made.paragraphs + 1 → EndsIn rule made para (NoBreak number)
-no_break rule made para number h e = λ rest. inl (h, ap (λ (n : ℕ). Err (NoBreak n)) e)
-
-pub past_limit : (rule : LineRule) (made : Made) (para : List HItem) (variants : List Variant) (count : ℕ) →
-    AreVariantsOf rule para variants → count ≡ item_count (with_choice made.blocks variants) → item_limit < count →
-    EndsIn rule made para (Limit count)
-past_limit rule made para variants count are e h = λ rest. inr (variants, (are, inl (
-  subst (λ (n : ℕ). item_limit < n) e h,
-  ap (λ (n : ℕ). Err (Limit n)) e,
-)))
 
 -- all paragraphs, with those that are left
 abbrev pub Goes : LineRule → List (List HItem) → Made → List (List HItem) → Type 0
@@ -53,11 +33,13 @@ front_is : (xs : List (List HItem)) (d : List HItem) → 0 < length xs → xs �
 front_is [] d h = absurd (omega (arith, h))
 front_is (x ∷ xs) d h = refl
 
-pub ends : (rule : LineRule) (paras : List (List HItem)) (made : Made) (rest : List (List HItem)) (d : List HItem)
-    (fault : LineFault) → 0 < length rest → Goes rule paras made rest → EndsIn rule made (get_or rest 0 d) fault →
-    AnswersLines rule paras (Err fault)
-ends rule paras made rest d fault h g e = ends_at rule paras made (get_or rest 0 d) (drop 1 rest) fault
-    (subst (Goes rule paras made) (front_is rest d h) g) e
+pub ends : (rule : LineRule) (paras : List (List HItem)) (made : Made) (rest : List (List HItem)) (para d : List HItem)
+    (fault : LineFault) (r : Result GalleyValue LineFault) → IsErrAnd r (λ (x : LineFault). x ≡ fault) → 0 < length rest →
+    para ≡ get_or rest 0 d → Goes rule paras made rest → EndsIn rule made para fault → AnswersLines rule paras r
+ends rule paras made rest para d fault (Ok galley) a h s g e = absurd a
+ends rule paras made rest para d fault (Err x) a h s g e = subst (λ (y : LineFault). AnswersLines rule paras (Err y)) (sym a)
+    (ends_at rule paras made para (drop 1 rest) fault (subst (Goes rule paras made)
+    (front_is rest d h ∙ ap (λ (p : List HItem). p ∷ drop 1 rest) (sym s)) g) e)
 
 -- ---- with a paragraph more
 

@@ -1,6 +1,7 @@
-use Rattle.std.proofs.Common.{◌≡◌, ◌∙◌, ◌++◌, ◌-◌, ap, sym, subst, arith, length, List, rules, take, drop}
-use Rattle.std.specs.Prelude.{ℤ, pos}
+use Rattle.std.proofs.Common.{◌≡◌, ◌∙◌, ◌++◌, ◌-◌, ap, sym, subst, arith, length, List, rules, take, drop, w32}
+use Rattle.std.specs.Prelude.{ℤ, pos, get_or}
 use Rattle.std.specs.List.{flat_map}
+use Rattle.std.proofs.lemmas.Int.{to_z-of_z}
 use Rattle.pg_lemmas.proofs.Lists.{all_drop, all_take, no_items}
 use Rattle.pg_list.specs.declared.variants.Variant.{Variant}
 use Rattle.pg_variants.specs.Answers.{variant_by}
@@ -21,9 +22,12 @@ pub loosenesses-preserved : goal.loosenesses-preserved
 loosenesses-preserved c =
     let by = variant_by c.args.space.now.rule.now c.args.space.now.items.now c.args.best.now.ends.items in
     let rest = c.loosenesses.rest.now in
+    let same = to_z-of_z w32 (get_or rest 0 (pos 0)) (record { sfits = search rules }) in
     record {
       variants = one_further by rest (pos 0) c.loosenesses.variants.items c.push_variant.new.variants.items _
-          c.in-len1-up.len_at_least c.in_ok-push_variant.ensures c.loosenesses.invariant.variants;
+          c.in-len1-up.len_at_least
+          (c.in_ok-push_variant.ensures ∙ ap (λ (o : ℤ). c.loosenesses.variants.items ++ by o) same)
+          c.loosenesses.invariant.variants;
       near = all_take _ (length rest - 1) (drop 1 rest) (all_drop _ 1 rest c.loosenesses.invariant.near);
     }
 
