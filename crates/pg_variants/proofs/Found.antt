@@ -1,5 +1,5 @@
 -- What is found of the ways of a paragraph makes its variants.
-use Rattle.std.proofs.Common.{◌≡◌, refl, sym, ap, subst, ◌∙◌, ℕ, zero, suc, ◌+◌, ◌^◌, ◌≤◌, ◌<◌, ◌⊎◌, inl, inr, List, [], ◌∷◌, ◌++◌, length, true, Option, Some, None, append-nil, append_assoc, arith}
+use Rattle.std.proofs.Common.{◌≡◌, refl, sym, ap, subst, ◌∙◌, ℕ, zero, suc, ◌+◌, ◌^◌, ◌≤◌, ◌<◌, ◌⊎◌, inl, inr, List, [], ◌∷◌, ◌++◌, length, Option, Some, None, append-nil, append_assoc, arith}
 use Rattle.std.specs.Prelude.{◌-◌, ℤ, pos, negsuc, ◌+ℤ◌, ◌<ℤ◌, ◌≤ℤ◌, take, drop, get_or}
 use Rattle.std.specs.List.{AllByRecursion, flat_map}
 use Rattle.std.proofs.lemmas.Int.{ints}
@@ -7,8 +7,8 @@ use Rattle.pg_list.specs.declared.variants.Variant.{Variant}
 use Rattle.pg_hlist.specs.declared.item.HItem.{HItem}
 use Rattle.pg_paragraphs.specs.declared.rule.LineRule.{LineRule}
 use Rattle.pg_paragraphs.specs.Listing.{least_way}
-use Rattle.pg_paragraphs.specs.Variants.{AreVariantsOf, found_at, loosenesses, variant_at, variant_of, variants_of}
-use Rattle.pg_paragraphs.specs.Ways.{IsBestWay, IsLeastOf, IsLeastWay, NoWay, demerits, is_way}
+use Rattle.pg_paragraphs.specs.Variants.{AreVariantsOf, found_at, loosenesses, variant_at, variant_of}
+use Rattle.pg_paragraphs.specs.Ways.{IsBestWay, IsLeastOf, IsLeastWay, demerits}
 use Rattle.pg_paragraphs.proofs.Broken.{one_least}
 use Rattle.pg_paragraphs.proofs.Listed.{least_is}
 use Rattle.pg_line_space.specs.BestSpace.{IsBestCount}
@@ -30,8 +30,16 @@ near_all : (lines around most : ℕ) → around ≤ 2 → most ≡ lines + aroun
     AllByRecursion (λ (o : ℤ). (pos lines +ℤ o) ≤ℤ pos most) (loosenesses around)
 near_all lines zero most h e = (omega (arith, ints, e), tt)
 near_all lines (suc zero) most h e = (omega (arith, ints, e), (omega (arith, ints, e), (omega (arith, ints, e), tt)))
-near_all lines (suc (suc zero)) most h e = (omega (arith, ints, e), (omega (arith, ints, e), (omega (arith, ints, e),
-    (omega (arith, ints, e), (omega (arith, ints, e), tt)))))
+near_all lines (suc (suc zero)) most h e = (
+  omega (arith, ints, e),
+  (
+    omega (arith, ints, e),
+    (
+      omega (arith, ints, e),
+      (omega (arith, ints, e), (omega (arith, ints, e), tt)),
+    ),
+  ),
+)
 near_all lines (suc (suc (suc n))) most h e = absurd (omega (arith, h))
 
 -- what is left of these

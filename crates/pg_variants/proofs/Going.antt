@@ -1,5 +1,5 @@
 -- The galley so far, with one paragraph more.
-use Rattle.std.proofs.Common.{◌≡◌, refl, sym, ap, subst, ◌∙◌, ℕ, ◌+◌, ◌<◌, ◌≤◌, inl, inr, List, [], ◌∷◌, length, arith}
+use Rattle.std.proofs.Common.{◌≡◌, refl, sym, ap, subst, ◌∙◌, ℕ, ◌+◌, ◌<◌, ◌≤◌, List, [], ◌∷◌, length, arith}
 use Rattle.std.specs.Prelude.{get_or, drop, Result, Ok, Err, IsErrAnd}
 use Rattle.pg_list.specs.Counts.{item_count, item_limit}
 use Rattle.pg_list.specs.GalleyValue.{GalleyValue}
@@ -11,9 +11,7 @@ use Rattle.pg_paragraphs.specs.declared.rule.LineRule.{LineRule}
 use Rattle.pg_paragraphs.specs.declared.rule.LineFault.{LineFault}
 use Rattle.pg_paragraphs.specs.declared.rule.LineFault.TheVariants.{NoBreak, Limit, Memory}
 use Rattle.pg_paragraphs.specs.Galleys.{Breaks, with_choice}
-use Rattle.pg_paragraphs.specs.Variants.{AreVariantsOf}
-use Rattle.pg_paragraphs.specs.Ways.{CannotBreak}
-use Rattle.pg_variants.specs.Answers.{AnswersLines, EndsIn, IsMade, LeadsOn}
+use Rattle.pg_variants.specs.Answers.{AnswersLines, EndsIn, IsMade}
 use Rattle.pg_variants.proofs.Sizes.{choice_some, count_grows}
 use Rattle.pg_variants.specs.declared.galley.Made.{Made}
 

@@ -1,6 +1,6 @@
 -- A line has no more items than its paragraph, each in range; and its box is in range.
-use Rattle.std.proofs.Common.{◌≡◌, refl, sym, ap, subst, ◌∙◌, ℕ, zero, suc, ◌-◌, ◌≤◌, ◌^◌, List, [], ◌∷◌, length, Bool, true, false, arith}
-use Rattle.std.specs.Prelude.{take, drop, min, if◌then◌else◌, Result, Ok, Err, IfOk}
+use Rattle.std.proofs.Common.{◌≡◌, refl, sym, ap, subst, ℕ, suc, ◌≤◌, List, [], ◌∷◌, length, Bool, true, false, arith}
+use Rattle.std.specs.Prelude.{take, drop, if◌then◌else◌, Result, Ok, Err, IfOk}
 use Rattle.std.specs.List.{AllByRecursion}
 use Rattle.std.proofs.lemmas.List.{length-drop, length-take}
 use Rattle.pg_lemmas.proofs.Lists.{all_drop, all_take}
@@ -8,7 +8,7 @@ use Rattle.pg_list.specs.Ranges.{IsItemInRange}
 use Rattle.pg_list.specs.Shapes.{is_box}
 use Rattle.pg_list.specs.declared.item.Item.{Item}
 use Rattle.pg_hlist.specs.declared.item.HItem.{HItem}
-use Rattle.pg_hlist.specs.Items.{IsInRange, IsPara, as_item}
+use Rattle.pg_hlist.specs.Items.{IsInRange, as_item}
 use Rattle.pg_paragraphs.specs.declared.rule.LineRule.{LineRule}
 use Rattle.pg_paragraphs.specs.Boxes.{line_box}
 use Rattle.pg_paragraphs.specs.Lines.{from_box, line_items}

@@ -1,5 +1,5 @@
 -- What is answered for a paragraph, and for all.
-use Rattle.std.specs.Prelude.{◌≡◌, ◌≤◌, ◌+◌, ◌∷◌, ℕ, ⊤, true, List, Option, Some, None, Result, Ok, Err, ℤ, pos, negsuc, ◌+ℤ◌, length, Vec}
+use Rattle.std.specs.Prelude.{◌≡◌, ◌≤◌, ◌+◌, ◌∷◌, ℕ, ⊤, true, List, Option, Some, None, Result, Err, ℤ, pos, negsuc, ◌+ℤ◌, length, Vec}
 use Rattle.std.specs.declared.alloc.Global.{Global}
 use Rattle.pg_list.specs.Counts.{item_count, item_limit}
 use Rattle.pg_list.specs.GalleyValue.{GalleyValue}
@@ -7,7 +7,7 @@ use Rattle.pg_list.specs.declared.variants.Variant.{Variant}
 use Rattle.pg_hlist.specs.declared.item.HItem.{HItem}
 use Rattle.pg_paragraphs.specs.declared.rule.LineRule.{LineRule}
 use Rattle.pg_paragraphs.specs.declared.rule.LineFault.{LineFault}
-use Rattle.pg_paragraphs.specs.declared.rule.LineFault.TheVariants.{NoBreak, Limit, Memory}
+use Rattle.pg_paragraphs.specs.declared.rule.LineFault.TheVariants.{Memory}
 use Rattle.pg_paragraphs.specs.Galleys.{Breaks, Broken}
 use Rattle.pg_paragraphs.specs.Listing.{least_way}
 use Rattle.pg_paragraphs.specs.Variants.{AreVariantsOf, found_at, variant_at}

@@ -1,4 +1,4 @@
-use Rattle.std.proofs.Common.{◌≡◌, ◌∙◌, ◌++◌, ◌∷◌, [], ap, sym, subst, arith, length, append-nil, List, ℤ, Option, Some, None, to_z, of_z, w32}
+use Rattle.std.proofs.Common.{◌∙◌, ◌++◌, ◌∷◌, [], ap, sym, subst, arith, append-nil, List, ℤ, to_z, of_z, w32}
 use Rattle.std.proofs.lemmas.Int.{to_z-of_z}
 use Rattle.pg_break_lines.specs.Found.{IsFound}
 use Rattle.pg_break_lines.proofs.Counted.{way_short}

@@ -1,4 +1,4 @@
-use Rattle.std.proofs.Common.{◌≡◌, length}
+use Rattle.std.proofs.Common.{length}
 use Rattle.pg_variants.specs.Answers.{IsMade}
 use Rattle.pg_variants.proofs.Going.{Goes}
 use Rattle.pg_variants.proofs.galley.break_lines.Given as goal

@@ -1,6 +1,5 @@
-use Rattle.std.proofs.Common.{◌≡◌, ◌∙◌, ◌≤◌, ◌^◌, ap, sym, subst, arith, length, List, drop}
+use Rattle.std.proofs.Common.{◌≡◌, ◌∙◌, ap, sym, subst, arith, length, drop}
 use Rattle.std.specs.List.{AllByRecursion}
-use Rattle.pg_hlist.specs.declared.item.HItem.{HItem}
 use Rattle.pg_hlist.specs.Items.{IsInRange}
 use Rattle.pg_paragraphs.specs.Lines.{from_box, line_items}
 use Rattle.pg_variants.proofs.LineRanges.{line_ranges, line_short}
