@@ -3,6 +3,7 @@ use Rattle.std.proofs.Common.{◌≡◌, refl, sym, ap, subst, ◌∙◌, ℕ, z
 use Rattle.std.specs.Prelude.{◌-◌, ℤ, pos, negsuc, ◌+ℤ◌, ◌<ℤ◌, ◌≤ℤ◌, take, drop, get_or}
 use Rattle.std.specs.List.{AllByRecursion, flat_map}
 use Rattle.std.proofs.lemmas.Int.{ints}
+use Rattle.std.proofs.lemmas.List.{take_rest}
 use Rattle.pg_list.specs.declared.variants.Variant.{Variant}
 use Rattle.pg_hlist.specs.declared.item.HItem.{HItem}
 use Rattle.pg_paragraphs.specs.declared.rule.LineRule.{LineRule}
@@ -48,20 +49,14 @@ pub near_of : (lines around most : ℕ) (os : List ℤ) → os ≡ loosenesses a
 near_of lines around most os e h f =
     subst (AllByRecursion (λ (o : ℤ). (pos lines +ℤ o) ≤ℤ pos most)) (sym e) (near_all lines around most h f)
 
-take_whole : {X : Type 0} (xs : List X) → take (length xs) xs ≡ xs
-take_whole [] = refl
-take_whole (x ∷ xs) = ap (λ ys. x ∷ ys) (take_whole xs)
-
 -- one more of a list that is walked
 pub one_further : {X Y : Type 0} (f : X → List Y) (xs : List X) (d : X) (old new whole : List Y) → 0 < length xs →
     new ≡ old ++ f (get_or xs 0 d) → old ++ flat_map f xs ≡ whole →
     new ++ flat_map f (take (length xs - 1) (drop 1 xs)) ≡ whole
 one_further f [] d old new whole h n w = absurd (omega (arith, h))
 one_further f (x ∷ xs) d old new whole h n w =
-    let l : length (x ∷ xs) - 1 ≡ length xs = omega arith in
-    ap (λ k. new ++ flat_map f (take k xs)) l
-    ∙ (ap (λ ys. new ++ flat_map f ys) (take_whole xs)
-    ∙ (ap (λ ys. ys ++ flat_map f xs) n ∙ (append_assoc old (f x) (flat_map f xs) ∙ w)))
+    ap (λ ys. new ++ flat_map f ys) (take_rest (x ∷ xs) 1)
+    ∙ (ap (λ ys. ys ++ flat_map f xs) n ∙ (append_assoc old (f x) (flat_map f xs) ∙ w))
 
 pub moved : (F : LineRule → List HItem → Type 0) (rule rule' : LineRule) (para para' : List HItem) → rule ≡ rule' →
     para ≡ para' → F rule para → F rule' para'

@@ -1,5 +1,5 @@
--- A line has no more items than its paragraph, each in range; and its box is in range.
-use Rattle.std.proofs.Common.{◌≡◌, refl, sym, ap, subst, ℕ, suc, ◌≤◌, List, [], ◌∷◌, length, Bool, true, false, arith}
+-- A line keeps what its paragraph keeps, and its box is in range.
+use Rattle.std.proofs.Common.{◌≡◌, refl, sym, ap, subst, ℕ, suc, List, [], ◌∷◌, length, Bool, true, false, arith}
 use Rattle.std.specs.Prelude.{take, drop, if◌then◌else◌, Result, Ok, Err, IfOk}
 use Rattle.std.specs.List.{AllByRecursion}
 use Rattle.std.proofs.lemmas.List.{length-drop, length-take}
@@ -8,7 +8,7 @@ use Rattle.pg_list.specs.Ranges.{IsItemInRange}
 use Rattle.pg_list.specs.Shapes.{is_box}
 use Rattle.pg_list.specs.declared.item.Item.{Item}
 use Rattle.pg_hlist.specs.declared.item.HItem.{HItem}
-use Rattle.pg_hlist.specs.Items.{IsInRange, as_item}
+use Rattle.pg_hlist.specs.Items.{IsInRange, IsPara, as_item}
 use Rattle.pg_paragraphs.specs.declared.rule.LineRule.{LineRule}
 use Rattle.pg_paragraphs.specs.Boxes.{line_box}
 use Rattle.pg_paragraphs.specs.Lines.{from_box, line_items}
@@ -24,21 +24,20 @@ box_dropped (item ∷ items) = let r = box_dropped items in by (is_box (as_item 
     by true n e = (0, refl)
     by false n e = (suc n, e)
 
-pub line_ranges : (para : List HItem) (a k : ℕ) → AllByRecursion IsInRange para →
-    AllByRecursion IsInRange (line_items para a k)
-line_ranges para a k h =
-    let r = box_dropped (drop a (take k para)) in
-    subst (AllByRecursion IsInRange) (sym r.1)
-    (all_drop IsInRange r.0 (drop a (take k para)) (all_drop IsInRange a (take k para) (all_take IsInRange k para h)))
-
-pub line_short : (para : List HItem) (a k : ℕ) → length (line_items para a k) ≤ length para
-line_short para a k =
+-- a line keeps what a paragraph keeps
+pub line_keeps : (para : List HItem) (a k : ℕ) → IsPara para → IsPara (line_items para a k)
+line_keeps para a k p =
     let r = box_dropped (drop a (take k para)) in
     let e : length (line_items para a k) ≡ length (drop r.0 (drop a (take k para))) = ap length r.1 in
     let b = length-drop r.0 (drop a (take k para)) in
     let c = length-drop a (take k para) in
     let d = length-take k para in
-    omega (arith, e, b, c, d)
+    let f = p.few in
+    record {
+      few = omega (arith, e, b, c, d, f);
+      ranges = subst (AllByRecursion IsInRange) (sym r.1) (all_drop IsInRange r.0 (drop a (take k para))
+          (all_drop IsInRange a (take k para) (all_take IsInRange k para p.ranges)));
+    }
 
 pub box_in_range : {E : Type 0} (rule : LineRule) (line : List HItem) (r : Result Item E) → AllByRecursion IsInRange line →
     IfOk r (λ (item : Item). item ≡ line_box rule line) → IfOk r IsItemInRange

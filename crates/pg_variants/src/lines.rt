@@ -1,8 +1,7 @@
 //! The items of a paragraph that is set in a way.
-ghost use Rattle.std.specs.Prelude.{◌≡◌, ◌≤◌, ◌^◌, ◌++◌, ◌∷◌, [], length, take, drop, if◌then◌else◌, IfOk, OnOk};
-ghost use Rattle.std.specs.List.{AllByRecursion};
+ghost use Rattle.std.specs.Prelude.{◌≡◌, ◌≤◌, ◌++◌, take, drop, IfOk, OnOk};
 ghost use Rattle.pg_list.specs.Ranges.{IsItemInRange};
-ghost use Rattle.pg_hlist.specs.Items.{IsInRange, IsPara};
+ghost use Rattle.pg_hlist.specs.Items.{IsPara};
 ghost use Rattle.pg_paragraphs.specs.Boxes.{line_box as line_box_of};
 ghost use Rattle.pg_paragraphs.specs.Laws.{IsRule};
 ghost use Rattle.pg_paragraphs.specs.Lines.{from_box as from_box_of, line_items};
@@ -56,8 +55,7 @@ fn from_box(items: &[HItem]) -> &[HItem]
 fn line_between(items: &[HItem], start: usize, end: usize) -> &[HItem]
     requires { IsPara items.now }
     ensures line { result.now ≡ line_items items.now start end }
-    ensures few { length result.now ≤ 2 ^ 11 }
-    ensures ranges { AllByRecursion IsInRange result.now }
+    ensures para { IsPara result.now }
 {
     from_box(from(up_to(items, end), start))
 }
@@ -90,8 +88,7 @@ fn penalty_of(alloc: Global, penalty: u16) -> Result<Item, AllocError>
 // The box of a line, within the ranges of items.
 fn box_of(alloc: Global, rule: &LineRule, line: &[HItem]) -> Result<Item, AllocError>
     requires rule { IsRule rule.now }
-    requires few { length line.now ≤ 2 ^ 11 }
-    requires ranges { AllByRecursion IsInRange line.now }
+    requires para { IsPara line.now }
     ensures value { IfOk result (λ item. item ≡ line_box_of rule.now line.now) }
     ensures range { IfOk result IsItemInRange }
 {
@@ -108,8 +105,7 @@ fn push_line(
     left: usize,
 ) -> Result<(), AllocError>
     requires rule { IsRule rule.now }
-    requires few { length line.now ≤ 2 ^ 11 }
-    requires ranges { AllByRecursion IsInRange line.now }
+    requires para { IsPara line.now }
     ensures { OnOk result (out.new ≡ out.old ++ set_line rule.now line.now is_first left) }
 {
     out.push(box_of(alloc, rule, line)?)?;
