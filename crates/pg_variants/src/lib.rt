@@ -8,5 +8,7 @@
 mod choice;
 mod galley;
 mod lines;
+#[cfg(test)]
+mod tests;
 
 pub use galley::break_lines;
