@@ -31,11 +31,13 @@ front_is : (xs : List (List HItem)) (d : List HItem) → 0 < length xs → xs �
 front_is [] d h = absurd (omega (arith, h))
 front_is (x ∷ xs) d h = refl
 
-pub ends : (rule : LineRule) (paras : List (List HItem)) (made : Made) (rest : List (List HItem)) (para d : List HItem)
-    (fault : LineFault) (r : Result GalleyValue LineFault) → IsErrAnd r (λ (x : LineFault). x ≡ fault) → 0 < length rest →
-    para ≡ get_or rest 0 d → Goes rule paras made rest → EndsIn rule made para fault → AnswersLines rule paras r
+pub ends : (rule : LineRule) (paras : List (List HItem)) (made : Made) (rest : List (List HItem))
+    (para d : List HItem) (fault : LineFault) (r : Result GalleyValue LineFault) →
+    IsErrAnd r (λ (x : LineFault). x ≡ fault) → 0 < length rest → para ≡ get_or rest 0 d →
+    Goes rule paras made rest → EndsIn rule made para fault → AnswersLines rule paras r
 ends rule paras made rest para d fault (Ok galley) a h s g e = absurd a
-ends rule paras made rest para d fault (Err x) a h s g e = subst (λ (y : LineFault). AnswersLines rule paras (Err y)) (sym a)
+ends rule paras made rest para d fault (Err x) a h s g e =
+    subst (λ (y : LineFault). AnswersLines rule paras (Err y)) (sym a)
     (ends_at rule paras made para (drop 1 rest) fault (subst (Goes rule paras made)
     (front_is rest d h ∙ ap (λ (p : List HItem). p ∷ drop 1 rest) (sym s)) g) e)
 

@@ -39,7 +39,8 @@ line_keeps para a k p =
           (all_drop IsInRange a (take k para) (all_take IsInRange k para p.ranges)));
     }
 
-pub box_in_range : {E : Type 0} (rule : LineRule) (line : List HItem) (r : Result Item E) → AllByRecursion IsInRange line →
+pub box_in_range : {E : Type 0} (rule : LineRule) (line : List HItem) (r : Result Item E) →
+    AllByRecursion IsInRange line →
     IfOk r (λ (item : Item). item ≡ line_box rule line) → IfOk r IsItemInRange
 box_in_range rule line (Ok item) h e = subst IsItemInRange (sym e) (height_scaled line h, depth_scaled line h)
 box_in_range rule line (Err fault) h e = tt

@@ -76,7 +76,8 @@ module _ (rule : LineRule) (para : List HItem) where
     where
       cost : gap is_first (suc (length ks) == 1) ≡ between j count
       cost = ap (λ (b : Bool). gap b (suc (length ks) == 1)) f
-          ∙ ap (gap (j == 1)) (same_test (suc (length ks)) 1 (j + 1) count (λ t. omega (arith, e, t)) (λ t. omega (arith, e, t)))
+          ∙ ap (gap (j == 1)) (same_test (suc (length ks)) 1 (j + 1) count
+          (λ t. omega (arith, e, t)) (λ t. omega (arith, e, t)))
 
   pub way_is_set : (way : List ℕ) → set_ends rule para true 0 (reverse way) ≡ way_items rule para way
   way_is_set way =
@@ -84,7 +85,8 @@ module _ (rule : LineRule) (para : List HItem) where
       set_same (length way) 1 true 0 (reverse way) (omega arith) (omega (arith, l)) refl
       ∙ ap (set_lines rule (length way) 1) (sym (front_first para way))
 
-  last_back : (xs : List ℕ) (d : ℕ) → 0 < length xs → take (length xs - 1) xs ++ get_or xs (length xs - 1) d ∷ [] ≡ xs
+  last_back : (xs : List ℕ) (d : ℕ) → 0 < length xs →
+      take (length xs - 1) xs ++ get_or xs (length xs - 1) d ∷ [] ≡ xs
   last_back [] d h = absurd (omega (arith, h))
   last_back (x ∷ []) d h = refl
   last_back (x ∷ y ∷ xs) d h =
@@ -98,19 +100,26 @@ module _ (rule : LineRule) (para : List HItem) where
   last_first xs d h = ap reverse (sym (last_back xs d h))
       ∙ reverse-append (take (length xs - 1) xs) (get_or xs (length xs - 1) d ∷ [])
 
-  -- one line more, taken from the back
+  -- one line more
+  further : (is_first : Bool) (start k : ℕ) (out next whole : List Item) (line : List HItem) (before rest : List ℕ) →
+      reverse rest ≡ k ∷ reverse before → line ≡ line_items para start k →
+      next ≡ out ++ set_line rule line is_first (length before) →
+      out ++ set_ends rule para is_first start (reverse rest) ≡ whole →
+      next ++ set_ends rule para false k (reverse before) ≡ whole
+  further is_first start k out next whole line before rest r l n w =
+      ap (λ (xs : List Item). xs ++ set_ends rule para false k (reverse before))
+      (n ∙ (ap (λ (ls : List HItem). out ++ set_line rule ls is_first (length before)) l
+      ∙ ap (λ (m : ℕ). out ++ set_line rule (line_items para start k) is_first m) (sym (length-reverse before))))
+      ∙ (append_assoc out (set_line rule (line_items para start k) is_first (length (reverse before)))
+      (set_ends rule para false k (reverse before))
+      ∙ (ap (λ (ks : List ℕ). out ++ set_ends rule para is_first start ks) (sym r) ∙ w))
+
+  -- the same, taken from the back
   pub set_further : (is_first : Bool) (start d : ℕ) (out next whole : List Item) (line : List HItem) (rest : List ℕ) →
       0 < length rest → line ≡ line_items para start (get_or rest (length rest - 1) d) →
       next ≡ out ++ set_line rule line is_first (length (take (length rest - 1) rest)) →
       out ++ set_ends rule para is_first start (reverse rest) ≡ whole →
       next ++ set_ends rule para false (get_or rest (length rest - 1) d) (reverse (take (length rest - 1) rest)) ≡ whole
-  set_further is_first start d out next whole line rest h l n w =
-      let k : ℕ = get_or rest (length rest - 1) d in
-      let before : List ℕ = take (length rest - 1) rest in
-      ap (λ (xs : List Item). xs ++ set_ends rule para false (get_or rest (length rest - 1) d) (reverse (take (length rest - 1) rest)))
-      (n ∙ (ap (λ (ls : List HItem). out ++ set_line rule ls is_first (length (take (length rest - 1) rest))) l
-      ∙ ap (λ (m : ℕ). out ++ set_line rule (line_items para start (get_or rest (length rest - 1) d)) is_first m)
-      (sym (length-reverse (take (length rest - 1) rest)))))
-      ∙ (append_assoc out (set_line rule (line_items para start (get_or rest (length rest - 1) d)) is_first (length (reverse (take (length rest - 1) rest))))
-      (set_ends rule para false (get_or rest (length rest - 1) d) (reverse (take (length rest - 1) rest)))
-      ∙ (ap (λ (ks : List ℕ). out ++ set_ends rule para is_first start ks) (sym (last_first rest d h)) ∙ w))
+  set_further is_first start d out next whole line rest h =
+      further is_first start (get_or rest (length rest - 1) d) out next whole line (take (length rest - 1) rest) rest
+      (last_first rest d h)

@@ -69,7 +69,8 @@ module _ (rule : LineRule) (para : List HItem) where
           nat_abs (a +ℤ b) ≤ 300000000 * suc n
       sum a b n h l = omega (arith, ints, h, l)
 
-  pub demerits_small : (way : List ℕ) → IsPara para → is_way rule para way ≡ true → nat_abs (demerits rule para way) < 2 ^ 100
+  pub demerits_small : (way : List ℕ) → IsPara para → is_way rule para way ≡ true →
+      nat_abs (demerits rule para way) < 2 ^ 100
   demerits_small way p legal =
       let h = demerits_by way in
       let s = way_short rule para way legal in

@@ -46,7 +46,8 @@ pub record IsMade (made : Made) : Type 0 where
 -- what further paragraphs make of the later galley, they make with this one before them of the former
 abbrev pub LeadsOn : LineRule → Made → List HItem → Made → Type 0
 LeadsOn rule made para new = (rest : List (List HItem)) (result : Result GalleyValue LineFault) →
-    Breaks rule (new.paragraphs + 1) new.blocks rest result → Breaks rule (made.paragraphs + 1) made.blocks (para ∷ rest) result
+    Breaks rule (new.paragraphs + 1) new.blocks rest result →
+    Breaks rule (made.paragraphs + 1) made.blocks (para ∷ rest) result
 
 -- with this paragraph next it ends in this fault
 abbrev pub EndsIn : LineRule → Made → List HItem → LineFault → Type 0

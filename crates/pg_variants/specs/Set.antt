@@ -1,5 +1,5 @@
--- How the lines of a way are set, from the first on. It is proved to give what pg_paragraphs defines; nobody need believe
--- what stands here.
+-- How the lines of a way are set, from the first on. It is proved to give what pg_paragraphs defines; nobody need
+-- believe what stands here.
 use Rattle.std.specs.Prelude.{ℕ, ◌+◌, ◌==◌, nat_lt, Bool, false, if◌then◌else◌, List, [], ◌∷◌, ◌++◌, length}
 use Rattle.pg_list.specs.declared.item.Item.{Item}
 use Rattle.pg_hlist.specs.declared.item.HItem.{HItem}

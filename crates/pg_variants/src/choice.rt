@@ -141,8 +141,8 @@ fn variants_around(
     Ok(variants)
 }
 
-/// The variants of a paragraph, each the least way of its number of lines; None where it cannot be broken. The one refusal
-/// is want of memory.
+/// The variants of a paragraph, each the least way of its number of lines; None where it cannot be broken. The one
+/// refusal is want of memory.
 pub fn variants_of<L: Ledger>(
     alloc: Global,
     rule: &LineRule,

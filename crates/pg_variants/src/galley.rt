@@ -118,9 +118,9 @@ impl Made {
 
 /// The galley of these paragraphs, each a choice between its best number of lines and others around it.
 ///
-/// `NoBreak` comes exactly where a paragraph has no legal way, `Limit` exactly where the galley up to a paragraph has more
-/// than 2^20 items, with their number; the first paragraph with a fault decides, and in it `NoBreak` comes first. Of
-/// `Memory` nothing is said.
+/// `NoBreak` comes exactly where a paragraph has no legal way, `Limit` exactly where the galley up to a paragraph has
+/// more than 2^20 items, with their number; the first paragraph with a fault decides, and in it `NoBreak` comes first.
+/// Of `Memory` nothing is said.
 pub fn break_lines<L: Ledger>(
     alloc: Global,
     paras: &Paras,

@@ -115,8 +115,8 @@ fn push_line(
     Ok(())
 }
 
-/// The items of a paragraph that is set in a way, whose lines end at these places, the last line's first: a box for each
-/// line, and between two of them a penalty. The one refusal is want of memory.
+/// The items of a paragraph that is set in a way, whose lines end at these places, the last line's first: a box for
+/// each line, and between two of them a penalty. The one refusal is want of memory.
 pub fn way_items(
     alloc: Global,
     rule: &LineRule,

@@ -12,7 +12,8 @@ pub loosenesses-init : goal.loosenesses-init
 loosenesses-init c =
     let by = variant_by c.args.space.now.rule.now c.args.space.now.items.now c.args.best.now.ends.items in
     record {
-      variants = ap (λ (vs : List Variant). vs ++ flat_map by c.loosenesses-rest.result.now) c.new-variants.ensures.items
+      variants = ap (λ (vs : List Variant). vs ++ flat_map by c.loosenesses-rest.result.now)
+          c.new-variants.ensures.items
           ∙ ap (flat_map by) c.loosenesses-rest.ensures;
       near = near_of (length c.args.best.now.ends.items) c.args.space.now.rule.now.around c.args.space.now.most
           c.loosenesses-rest.result.now c.loosenesses-rest.ensures c.requires.rule.around c.requires.most;

@@ -8,7 +8,8 @@ use Rattle.pg_variants.proofs.choice.variants_around.Given as goal
 abbrev pub invariant-loosenesses : goal.invariant-loosenesses
 invariant-loosenesses l = record {
   variants : l.variants.items ++ flat_map (variant_by l.space.rule.now l.space.items.now l.best.ends.items) l.rest
-      ≡ flat_map (variant_by l.space.rule.now l.space.items.now l.best.ends.items) (loosenesses l.space.rule.now.around);
+      ≡ flat_map (variant_by l.space.rule.now l.space.items.now l.best.ends.items)
+      (loosenesses l.space.rule.now.around);
   near : AllByRecursion (λ (o : ℤ). (pos (length l.best.ends.items) +ℤ o) ≤ℤ pos l.space.most) l.rest;
 }
 

@@ -27,4 +27,5 @@ variants_around-requires-clause-best g c =
     c.new-breaks.result.items.now para (c.new-breaks.ensures.rule ∙ sym c.new-space.ensures.rule)
     (c.new-breaks.ensures.items ∙ sym c.new-space.ensures.items) c.in_ok-count.ensures) in
     best_found rule para c.in-Some.count c.in-Some-2.best number
-    (subst (IsFound c.new-space.result.rule.now c.new-space.result.items.now c.in-Some.count) c.in-Some-2.is c.in_ok-best.ensures)
+    (subst (IsFound c.new-space.result.rule.now c.new-space.result.items.now c.in-Some.count) c.in-Some-2.is
+    c.in_ok-best.ensures)

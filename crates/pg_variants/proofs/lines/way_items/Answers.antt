@@ -9,7 +9,8 @@ use Rattle.pg_variants.proofs.lines.way_items.Goals as goal
 
 pub lines-init : goal.lines-init
 lines-init c = record {
-  set = ap (λ (xs : List Item). xs ++ set_ends c.args.rule.now c.args.items.now true 0 (reverse c.args.ends.now)) c.new-out.ensures
+  set = ap (λ (xs : List Item). xs
+      ++ set_ends c.args.rule.now c.args.items.now true 0 (reverse c.args.ends.now)) c.new-out.ensures
       ∙ way_is_set c.args.rule.now c.args.items.now c.args.ends.now;
   within = omega arith;
 }
