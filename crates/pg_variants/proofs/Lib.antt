@@ -1,0 +1,5 @@
+pub mod Setting
+pub mod LineRanges
+pub mod Sizes
+pub mod Found
+pub mod Going
