@@ -9,7 +9,7 @@ use Rattle.std.specs.declared.cmp.Ordering.TheVariants.{Less, Equal, Greater}
 use Rattle.pg_ends.specs.declared.end.End.{End}
 use Rattle.pg_walk_laws.specs.Best.{Ascend, IsFirst, end_cmp, insert_end, is_better, placed_by}
 use Rattle.pg_walk_laws.proofs.BestLaws.{end_total}
-use Rattle.pg_lemmas.proofs.Lists.{no_items}
+use Rattle.pg_lemmas.proofs.Bools.{not_both}
 use Rattle.pg_candidates.specs.Spots.{is_before, is_less, spot_by, spot_in}
 use Rattle.pg_candidates.specs.declared.best.Spot.{Spot}
 use Rattle.pg_candidates.specs.declared.best.Spot.TheVariants.{Before, Instead, Nowhere}
@@ -94,29 +94,19 @@ put_found e fs xs ys i s h p q le point at =
     ap (λ (t : Spot). put t fs i e) at ∙ (ap (λ (zs : List End). put (spot_in (slice_get zs i) e) fs i e) q
     ∙ put_is e fs i (subst (λ (zs : List End). i ≤ length zs) p le) there)
 
--- ---- behind all others
+-- ---- a place that is looked at is the point
 
-behind_first : (e f : End) (fs : List End) → is_before f e ≡ true → fs ++ e ∷ [] ≡ insert_end e fs →
-    f ∷ (fs ++ e ∷ []) ≡ insert_end e (f ∷ fs)
-behind_first e f fs before rest = ap (λ gs. f ∷ gs) rest
-    ∙ sym (ap (λ (o : Ordering). placed_by o e f fs (insert_end e fs)) (turned e f Less (less_is (end_cmp f e) before)))
-
--- the last one stands before it, and so do all
-put_behind : (e : End) (fs : List End) (last : End) (k : ℕ) → suc k ≡ length fs → last ≡ get_or fs k last →
-    is_before last e ≡ true → Ascend fs → fs ++ e ∷ [] ≡ insert_end e fs
-put_behind e [] last k n is b h = absurd (omega (arith, n))
-put_behind e (f ∷ fs) last zero n is b h =
-    behind_first e f fs (subst (λ (g : End). is_before g e ≡ true) is b)
-    (ap (λ gs. gs ++ e ∷ []) none ∙ sym (ap (insert_end e) none))
+pub point_at : (e : End) (fs : List End) (i : ℕ) → i ≤ length fs →
+    ((d : End) → 0 < i → is_before (get_or fs (i - 1) d) e ≡ true) →
+    ((d : End) → i < length fs → is_before (get_or fs i d) e ≡ false) →
+    IsPartitionedBy (λ f. is_before f e) fs → Point e fs i
+point_at e fs i within low high parted = (
+  λ k d lo hi. parted k (i - 1) d (omega (arith, hi)) (omega (arith, hi, within)) (low d (omega (arith, hi))),
+  λ k d lo hi. by k d (omega (arith, lo)) (omega (arith, hi)) (is_before (get_or fs k d) e) refl,
+)
   where
-    none : fs ≡ []
-    none = no_items fs (omega (arith, n))
-put_behind e (f ∷ fs) last (suc k) n is b h =
-    let first : end_cmp f last ≡ Less =
-    subst (λ (g : End). end_cmp f g ≡ Less) (sym is) (first_at f fs k last h.0 (omega (arith, n))) in
-    behind_first e f fs (before_chain f last e first b) (put_behind e fs last k (omega (arith, n)) is b h.1)
-
--- where the last is looked up
-pub put_last : (e : End) (fs : List End) (last : End) → 0 < length fs → last ≡ get_or fs (length fs - 1) last →
-    is_before last e ≡ true → Ascend fs → fs ++ e ∷ [] ≡ insert_end e fs
-put_last e fs last some is b h = put_behind e fs last (length fs - 1) (omega (arith, some)) is b h
+    by : (k : ℕ) (d : End) → i ≤ k → k < length fs → (b : Bool) → is_before (get_or fs k d) e ≡ b →
+        is_before (get_or fs k d) e ≡ false
+    by k d lo hi false is = is
+    by k d lo hi true is =
+        absurd (not_both (is_before (get_or fs i d) e) (parted i k d lo hi is) (high d (omega (arith, lo, hi))))

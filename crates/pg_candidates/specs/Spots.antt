@@ -2,10 +2,21 @@
 use Rattle.std.specs.Prelude.{Bool, true, false, if◌then◌else◌, Option, Some, None}
 use Rattle.std.specs.declared.cmp.Ordering.{Ordering}
 use Rattle.std.specs.declared.cmp.Ordering.TheVariants.{Less, Equal, Greater}
+use Rattle.pg_column.specs.declared.cost.TextCost.{TextCost}
 use Rattle.pg_ends.specs.declared.end.End.{End}
 use Rattle.pg_walk_laws.specs.Best.{end_cmp, is_better}
+use Rattle.pg_candidates.specs.declared.candidate.Candidate.{Candidate}
 use Rattle.pg_candidates.specs.declared.best.Spot.{Spot}
 use Rattle.pg_candidates.specs.declared.best.Spot.TheVariants.{Before, Instead, Nowhere}
+
+-- the end of a candidate with these numbers
+abbrev pub end_by : Candidate → TextCost → End
+end_by candidate cost = record {
+  to = candidate.to;
+  picks = candidate.picks;
+  cost = cost;
+  pick_demerits = candidate.pick_demerits;
+}
 
 abbrev pub is_less : Ordering → Bool
 is_less Less = true

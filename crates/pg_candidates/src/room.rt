@@ -1,6 +1,7 @@
 //! The ends in a room among candidates.
 ghost use Rattle.std.specs.Prelude.{◌≡◌, ◌<◌, ◌^◌, ◌≤ℤ◌, ◌-ℤ◌, ◌&&◌, ◌||◌, ◌++◌, ◌∷◌, [], ℤ, List, false, if◌then◌else◌, int_le, nat_le, OnOk, IfOk, nat_abs, Some, None};
 ghost use Rattle.std.specs.List.{AllByRecursion};
+ghost use Rattle.std.specs.Option.{option_map};
 ghost use Rattle.pg_list.specs.GalleyValue.{GalleyValue};
 ghost use Rattle.pg_list.specs.declared.galley.Place.{Place as APlace};
 ghost use Rattle.pg_column.specs.Numbers.{cost_for as cost_for_goal};
@@ -12,13 +13,14 @@ ghost use Rattle.pg_rules.specs.Legal.{document};
 ghost use Rattle.pg_walk_laws.specs.Best.{AreBest};
 ghost use Rattle.pg_walk_laws.specs.Candidates.{AreCandidates, Candidate as ACandidate, end_in, keeps_in, kept_ends};
 ghost use Rattle.pg_candidates.specs.Nears.{AreNear, IsNear, candidates_of};
+ghost use Rattle.pg_candidates.specs.Spots.{end_by};
 ghost use Rattle.pg_candidates.specs.View.{candidate_of};
 
 use crate::best::keep_best;
 use crate::candidate::CandidateList;
 use crate::near::{Near, NearList, add_near};
 use pg_column::{TextCost, cost_for};
-use pg_ends::{End, EndList};
+use pg_ends::EndList;
 use pg_list::Galley;
 use pg_style::Style;
 use pg_walk_laws::laws::candidates_give_ends;
@@ -69,55 +71,45 @@ fn cost_of(style: &Style, goal: i64, near: &Near<'_>) -> TextCost
     cost_for(style, goal, sums, near.is_spent, near.penalty)
 }
 
-// The end of a candidate with these numbers.
-fn end_with(near: &Near<'_>, cost: TextCost) -> Result<End, AllocError>
-    ensures { IfOk result (λ end. end ≡ record {
-      to = near.now.candidate.to;
-      picks = near.now.candidate.picks;
-      cost = cost;
-      pick_demerits = near.now.candidate.pick_demerits;
-    }) }
-{
-    let candidate = near.candidate;
-    Ok(End {
-        to: candidate.to,
-        picks: candidate.picks.copy()?,
-        cost,
-        pick_demerits: candidate.pick_demerits,
-    })
-}
-
-// The end of a candidate in a room, where it keeps the rules there.
-fn end_of(style: &Style, room: i64, near: &Near<'_>) -> Result<Option<End>, AllocError>
+// The numbers of a candidate in a room, where it keeps the rules there.
+fn cost_in(style: &Style, room: i64, near: &Near<'_>) -> Option<TextCost>
     requires { nat_abs room < 2 ^ 40 }
-    ensures { IfOk result (λ o. (g : GalleyValue) → IsNear (document g style.now) near.now →
-        o ≡ (if keeps_in (document g style.now) room (candidate_of near.now.candidate)
-        then Some (end_in (document g style.now) room (candidate_of near.now.candidate)) else None)) }
+    ensures { (g : GalleyValue) → IsNear (document g style.now) near.now →
+        option_map (end_by near.now.candidate) result
+        ≡ (if keeps_in (document g style.now) room (candidate_of near.now.candidate)
+        then Some (end_in (document g style.now) room (candidate_of near.now.candidate)) else None) }
 {
     let goal = goal_of(room, near);
     if is_over(goal, near) {
-        return Ok(None);
+        return None;
     }
     if !suits(style, room, near) {
-        return Ok(None);
+        return None;
     }
     let cost = cost_of(style, goal, near);
     if !is_tolerable(style, near, cost.badness) {
-        return Ok(None);
+        return None;
     }
-    Ok(Some(end_with(near, cost)?))
+    Some(cost)
 }
 
-// Adds the end of a candidate, where it keeps the rules in a room and none there is better.
-fn keep_end(style: &Style, room: i64, near: &Near<'_>, ends: &mut EndList) -> Result<(), AllocError>
+// Adds the end of a candidate, where it keeps the rules in a room and none there is better. It answers behind how many ends
+// the next one is likely to belong, as the hint says of this one.
+fn keep_end(
+    style: &Style,
+    room: i64,
+    near: &Near<'_>,
+    hint: usize,
+    ends: &mut EndList,
+) -> Result<usize, AllocError>
     requires { nat_abs room < 2 ^ 40 }
     ensures { OnOk result ((g : GalleyValue) (cs : List ACandidate) → IsNear (document g style.now) near.now →
         AreBest (kept_ends (document g style.now) room cs) ends.old →
         AreBest (kept_ends (document g style.now) room (cs ++ candidate_of near.now.candidate ∷ [])) ends.new) }
 {
-    match end_of(style, room, near)? {
-        Some(end) => keep_best(ends, end),
-        None => Ok(()),
+    match cost_in(style, room, near) {
+        Some(cost) => keep_best(ends, hint, near.candidate, cost),
+        None => Ok(hint),
     }
 }
 
@@ -146,8 +138,9 @@ impl<'a> NearList<'a> {
         let _ = galley.blocks().as_slice();
         candidates_give_ends(galley, style);
         let mut ends = EndList::new(alloc);
+        let mut hint = 0usize;
         'each: for near in self.as_slice() {
-            keep_end(style, room, near, &mut ends)?;
+            hint = keep_end(style, room, near, hint, &mut ends)?;
         }
         Ok(ends)
     }

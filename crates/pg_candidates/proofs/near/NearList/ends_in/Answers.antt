@@ -17,7 +17,7 @@ each-preserved c =
       best = best_near (document c.args.galley.now c.args.style.now) (to_z w64 (of_z w64 c.args.room))
           (take (i + 1) items) (take i items) c.near-item.result c.each.ends c.keep_end.new.ends
           (one_more items i c.near-item.result c.each-test.true c.near-item.is) c.each.invariant.best
-          (c.in_ok-keep_end.ensures c.args.galley.now (candidates_of (take i items)));
+          (c.in_ok-hint.ensures c.args.galley.now (candidates_of (take i items)));
     }
 
 pub returns-clause-best : goal.returns-clause-best

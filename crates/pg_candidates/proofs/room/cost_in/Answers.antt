@@ -1,8 +1,8 @@
-use Rattle.std.proofs.Common.{rules, ◌∙◌, ap, sym, w64, ℤ, ◌-ℤ◌}
+use Rattle.std.proofs.Common.{rules, refl, ◌∙◌, ap, sym, w64, ℤ, ◌-ℤ◌}
 use Rattle.std.proofs.lemmas.Int.{to_z-of_z}
 use Rattle.pg_rules.specs.Legal.{document}
 use Rattle.pg_candidates.proofs.Nears.{end_some, suits_none, tolerable_none}
-use Rattle.pg_candidates.proofs.room.end_of.Goals as goal
+use Rattle.pg_candidates.proofs.room.cost_in.Goals as goal
 
 pub returns-then-not-suits : goal.returns-then-not-suits
 returns-then-not-suits c = λ g is.
@@ -24,5 +24,4 @@ returns c = λ g is.
     ∙ (c.goal_of-goal.ensures.value ∙ ap (λ (z : ℤ). z -ℤ c.args.near.now.notes) room) in
     end_some (document g c.args.style.now) c.args.room c.args.near.now is _ made c.cost_of-cost.result
     c.cost_of-cost.ensures _ room (sym c.is_over.ensures ∙ c.if-is_over.false)
-    (sym c.suits.ensures ∙ c.if-not-suits.false) (sym c.is_tolerable.ensures ∙ c.if-not-is_tolerable.false) _
-    c.in_ok-end_with.ensures
+    (sym c.suits.ensures ∙ c.if-not-suits.false) (sym c.is_tolerable.ensures ∙ c.if-not-is_tolerable.false) _ refl
