@@ -16,6 +16,10 @@ use Rattle.pg_edits.specs.declared.kinds.ScriptKind.TheVariants.{Blocks}
 use Rattle.pg_words.specs.Written.{place_text, whole_text}
 use Rattle.pg_check_laws.specs.declared.answers.No.{No}
 use Rattle.pg_check_laws.specs.declared.answers.No.TheVariants as fails
+use Rattle.pg_paragraphs.specs.declared.rule.LineFault.{LineFault}
+use Rattle.pg_paragraphs.specs.declared.rule.LineFault.TheVariants as breaks
+use Rattle.pg_greedy.specs.declared.fault.GreedyFault.{GreedyFault}
+use Rattle.pg_greedy.specs.declared.fault.GreedyFault.TheVariants as fits
 use Rattle.pg_command.specs.declared.ending.Ending.{Ending}
 use Rattle.pg_command.specs.declared.ending.Ending.TheVariants as ending
 use Rattle.pg_command.specs.declared.line.Piece.{Piece}
@@ -36,6 +40,8 @@ status_of (ending.TooManyFloats count) = status.Refused
 status_of (ending.BadScript name fault) = status.Refused
 status_of (ending.BadEdit step fault) = status.Refused
 status_of (ending.BadOutput name line) = status.Refused
+status_of (ending.BadParagraph name fault) = status.Refused
+status_of (ending.NoFirstFit fault) = status.Refused
 status_of (ending.Unread name) = status.ReadFault
 status_of ending.WriteFault = status.WriteFault
 status_of ending.Memory = status.Memory
@@ -58,7 +64,7 @@ file_line name text = codes "pg: " ++ (name ++ (text ++ 10 ∷ []))
 
 -- the words are no command
 unfoldable pub usage_line : List ℕ
-usage_line = codes "usage: pg run|edit|check|show|make" ++ 10 ∷ []
+usage_line = codes "usage: pg run|edit|check|show|make|lines|heads|compare|fold" ++ 10 ∷ []
 
 -- a file has more bytes than it may have
 unfoldable pub long_line : List ℕ → List ℕ
@@ -132,6 +138,33 @@ output_line = codes "pg: output failed" ++ 10 ∷ []
 unfoldable pub memory_line : List ℕ
 memory_line = codes "pg: out of memory" ++ 10 ∷ []
 
+-- a paragraph of a file, counted from 1, has no legal way to be broken into lines
+unfoldable pub unbroken_line : List ℕ → ℕ → List ℕ
+unbroken_line name paragraph =
+    codes "pg: " ++ (name ++ (codes ": paragraph " ++ (decimal paragraph ++ codes " cannot be broken\n")))
+
+-- a file's galley has so many items up to a paragraph, which are more than are allowed
+unfoldable pub many_items_line : List ℕ → ℕ → List ℕ
+many_items_line name count =
+    codes "pg: " ++ (name ++ (codes ": " ++ (decimal count ++ codes " items are too many\n")))
+
+-- the paragraphs of a file make no galley
+abbrev pub paragraph_line : List ℕ → LineFault → List ℕ
+paragraph_line name (breaks.NoBreak paragraph) = unbroken_line name paragraph
+paragraph_line name (breaks.Limit count) = many_items_line name count
+paragraph_line name breaks.Memory = memory_line
+
+-- a text about first fit, and the number of a block
+unfoldable pub block_line : List ℕ → ℕ → List ℕ
+block_line before block = codes "pg: first fit: " ++ (before ++ (codes " at block " ++ (decimal block ++ 10 ∷ [])))
+
+-- a galley has no first fit under a style
+abbrev pub no_fit_line : GreedyFault → List ℕ
+no_fit_line fits.Columns = codes "pg: first fit: two columns\n"
+no_fit_line (fits.Choice block) = block_line (codes "choice") block
+no_fit_line (fits.Float block) = block_line (codes "float") block
+no_fit_line fits.Memory = memory_line
+
 -- a rule that is broken, and the first column that breaks it
 unfoldable pub broken_line : ℕ → ℕ → List ℕ
 broken_line rule column =
@@ -181,6 +214,8 @@ line_of (ending.TooManyFloats count) = many_line count
 line_of (ending.BadScript name fault) = script_line name.now fault
 line_of (ending.BadEdit step fault) = edit_line step fault
 line_of (ending.BadOutput name line) = no_output_line name.now line
+line_of (ending.BadParagraph name fault) = paragraph_line name.now fault
+line_of (ending.NoFirstFit fault) = no_fit_line fault
 line_of (ending.Unread name) = unread_line name.now
 line_of ending.WriteFault = output_line
 line_of ending.Memory = memory_line

@@ -1,9 +1,9 @@
 -- The words of a command.
 use Rattle.std.specs.Prelude.{ℕ, ◌^◌, ◌≤◌, List, [], ◌∷◌, length, ◌&&◌, ◌==◌, ◌||◌, Bool, true, false, not, nat_lt}
 use Rattle.std.specs.Prelude.{if◌then◌else◌, Option, Some, None, is_some, codes, ℤ, pos, negsuc, ◌≤ℤ◌, ◌<ℤ◌, String}
-use Rattle.std.specs.Prelude.{Vec, map}
+use Rattle.std.specs.Prelude.{Vec, map, IfSome}
 use Rattle.std.specs.String.{string_bytes}
-use Rattle.std.specs.Option.{option_map, option_and_then}
+use Rattle.std.specs.Option.{option_map, option_map_or, option_and_then}
 use Rattle.std.specs.Str.{bytes_eq}
 use Rattle.std.specs.declared.alloc.Global.{Global}
 use Rattle.pg_scaled.specs.declared.read.Front.{Front}
@@ -13,7 +13,9 @@ use Rattle.pg_scan.specs.Parts.{word_number}
 use Rattle.pg_command.specs.declared.words.StyleWord.{StyleWord}
 use Rattle.pg_command.specs.declared.words.StyleWord.TheVariants.{Named, Plain}
 use Rattle.pg_command.specs.declared.words.Job.{Job}
-use Rattle.pg_command.specs.declared.words.Job.TheVariants.{Run, Edit, Show, Make, Check}
+use Rattle.pg_command.specs.declared.words.Job.TheVariants.{Run, Edit, Show, Make, Check, Lines, Heads, Compare, Fold}
+use Rattle.pg_command.specs.declared.words.OptionName.{OptionName}
+use Rattle.pg_command.specs.declared.words.OptionName.TheVariants as option
 use Rattle.pg_command.specs.declared.words.Options.{Options}
 
 -- which style a run takes: that of the file of this name, or the plain one of this page height
@@ -23,14 +25,20 @@ pub data StyleName : Type 0 where
 
 -- a command: to paginate the galley of this name, with the labels of the search or without, or to print it, with the
 -- width at which lines are joined; to edit a galley by the script of a name, under a style, and to paginate it at each
--- show; to make a galley of so many paragraphs; or to check against a style and a galley, of these names, the output
--- text of a name
+-- show; to make a galley of so many paragraphs; to check against a style and a galley, of these names, the output
+-- text of a name; to break the paragraphs of a file into lines of a width, of a tolerance, in so many lines more or
+-- less; to tell the running heads and references of the pages, or what they save over first fit; or to lay them on
+-- sheets that are folded so often, so many put into each other
 pub data Command : Type 0 where
   run : StyleName → List ℕ → Bool → Option ℕ → Command
   edit : List ℕ → List ℕ → List ℕ → Bool → Option ℕ → Command
   show : List ℕ → Option ℕ → Command
   make : ℕ → Command
   check : List ℕ → List ℕ → List ℕ → Option ℕ → Command
+  lines : ℤ → ℕ → ℕ → List ℕ → Command
+  heads : List ℕ → List ℕ → Option ℕ → Command
+  compare : List ℕ → List ℕ → Option ℕ → Command
+  fold : List ℕ → List ℕ → ℕ → ℕ → Option ℕ → Command
 
 -- what a word for a style says, without where it lies in memory
 abbrev pub style_name : StyleWord → StyleName
@@ -44,6 +52,10 @@ command_in (Edit style galley script labels wrap) = edit style.now galley.now sc
 command_in (Show galley wrap) = show galley.now wrap
 command_in (Make count) = make count
 command_in (Check style galley output wrap) = check style.now galley.now output.now wrap
+command_in (Lines width tolerance around file) = lines width tolerance around file.now
+command_in (Heads style galley wrap) = heads style.now galley.now wrap
+command_in (Compare style galley wrap) = compare style.now galley.now wrap
+command_in (Fold style galley folds nest wrap) = fold style.now galley.now folds nest wrap
 
 -- a page height is above 0 and below 2^30
 abbrev pub IsHeight : ℤ → Type 0
@@ -54,13 +66,31 @@ abbrev pub IsStyle : StyleWord → Type 0
 IsStyle (Named name) = Unit {0}
 IsStyle (Plain height) = IsHeight height
 
--- a job whose height, if it has one, is one of a page, and whose paragraphs are at most 2000
+-- lines of this width, tolerance and number around the best
+pub record IsLineRule (width : ℤ) (tolerance around : ℕ) : Type 0 where
+  pub width : IsHeight width
+  pub tolerance : tolerance ≤ 10000
+  pub around : around ≤ 2
+
+-- sheets are folded 1 to 4 times
+abbrev pub IsFolds : ℕ → Type 0
+IsFolds folds = (1 ≤ folds) × (folds ≤ 4)
+
+-- 1 to 16 sheets are put into each other
+abbrev pub IsNest : ℕ → Type 0
+IsNest nest = (1 ≤ nest) × (nest ≤ 16)
+
+-- a job whose height, if it has one, is one of a page, and whose numbers are in their ranges
 abbrev pub IsInRange : Job → Type 0
 IsInRange (Run style galley labels wrap) = IsStyle style
 IsInRange (Edit style galley script labels wrap) = Unit {0}
 IsInRange (Show galley wrap) = Unit {0}
 IsInRange (Make count) = count ≤ 2000
 IsInRange (Check style galley output wrap) = Unit {0}
+IsInRange (Lines width tolerance around file) = IsLineRule width tolerance around
+IsInRange (Heads style galley wrap) = Unit {0}
+IsInRange (Compare style galley wrap) = Unit {0}
+IsInRange (Fold style galley folds nest wrap) = IsFolds folds × IsNest nest
 
 -- ---- the words of options and names
 
@@ -86,6 +116,22 @@ wrap_of word = word_number 1 65535 word
 abbrev pub paragraphs_of : List ℕ → Option ℕ
 paragraphs_of word = word_number 0 2000 word
 
+-- how bad a line may be is 0 to 10000, in 1 to 10 digits
+abbrev pub tolerance_of : List ℕ → Option ℕ
+tolerance_of word = word_number 0 10000 word
+
+-- how many lines more and less than the best are wanted is 0 to 2, in 1 to 10 digits
+abbrev pub around_of : List ℕ → Option ℕ
+around_of word = word_number 0 2 word
+
+-- how often a sheet is folded is 1 to 4, in 1 to 10 digits
+abbrev pub folds_of : List ℕ → Option ℕ
+folds_of word = word_number 1 4 word
+
+-- how many sheets are put into each other is 1 to 16, in 1 to 10 digits
+abbrev pub nest_of : List ℕ → Option ℕ
+nest_of word = word_number 1 16 word
+
 -- a name is not empty and does not begin with a minus
 abbrev pub is_name : List ℕ → Bool
 is_name [] = false
@@ -95,28 +141,74 @@ is_name (c ∷ cs) = not (c == 45)
 
 -- no option stands there
 abbrev pub no_options : Options
-no_options = record { height = None; labels = false; wrap = None }
+no_options = record {
+  height = None;
+  labels = false;
+  wrap = None;
+  width = None;
+  tolerance = None;
+  around = None;
+  folds = None;
+  nest = None;
+}
+
+-- each option's value is one that it may have
+pub record AreOptions (options : Options) : Type 0 where
+  pub height : IfSome options.height IsHeight
+  pub width : IfSome options.width IsHeight
+  pub tolerance : IfSome options.tolerance (λ tolerance. tolerance ≤ 10000)
+  pub around : IfSome options.around (λ around. around ≤ 2)
+  pub folds : IfSome options.folds IsFolds
+  pub nest : IfSome options.nest IsNest
+
+-- an option that tells how paragraphs are broken
+abbrev pub has_line_rule : Options → Bool
+has_line_rule options = is_some options.width || is_some options.tolerance || is_some options.around
+
+-- an option that tells how sheets are folded
+abbrev pub has_folding : Options → Bool
+has_folding options = is_some options.folds || is_some options.nest
 
 -- the option for labels, which has no value
 abbrev pub is_labels : List ℕ → Bool
 is_labels word = bytes_eq word (codes "--labels")
 
--- the name of an option that has a value
-abbrev pub has_value : List ℕ → Bool
-has_value word = bytes_eq word (codes "--height") || bytes_eq word (codes "--wrap")
+-- the option of this name that has a value
+abbrev pub option_named : List ℕ → Option OptionName
+option_named word =
+    if bytes_eq word (codes "--height") then Some option.Height
+    else (if bytes_eq word (codes "--wrap") then Some option.Wrap
+    else (if bytes_eq word (codes "--width") then Some option.Width
+    else (if bytes_eq word (codes "--tolerance") then Some option.Tolerance
+    else (if bytes_eq word (codes "--around") then Some option.Around
+    else (if bytes_eq word (codes "--folds") then Some option.Folds
+    else (if bytes_eq word (codes "--nest") then Some option.Nest else None))))))
 
 -- the option for labels too: none where it stands a second time
 abbrev pub with_labels : Options → Option Options
 with_labels options = if options.labels then None else Some (record options { labels = true })
 
+-- a value where none stood
+abbrev pub once : {A : Type 0} → Option A → Option A → Option A
+once None value = value
+once (Some old) value = None
+
 -- one more option with its value: none where it stands a second time, or its value is no such value
-abbrev pub with_option : Options → List ℕ → List ℕ → Option Options
-with_option options word value =
-    if bytes_eq word (codes "--height")
-    then (if is_some options.height then None
-    else option_map (λ (height : ℤ). record options { height = Some height }) (height_of value))
-    else (if is_some options.wrap then None
-    else option_map (λ (wrap : ℕ). record options { wrap = Some wrap }) (wrap_of value))
+abbrev pub with_option : Options → OptionName → List ℕ → Option Options
+with_option options option.Height value =
+    option_map (λ (it : ℤ). record options { height = Some it }) (once options.height (height_of value))
+with_option options option.Wrap value =
+    option_map (λ (it : ℕ). record options { wrap = Some it }) (once options.wrap (wrap_of value))
+with_option options option.Width value =
+    option_map (λ (it : ℤ). record options { width = Some it }) (once options.width (height_of value))
+with_option options option.Tolerance value =
+    option_map (λ (it : ℕ). record options { tolerance = Some it }) (once options.tolerance (tolerance_of value))
+with_option options option.Around value =
+    option_map (λ (it : ℕ). record options { around = Some it }) (once options.around (around_of value))
+with_option options option.Folds value =
+    option_map (λ (it : ℕ). record options { folds = Some it }) (once options.folds (folds_of value))
+with_option options option.Nest value =
+    option_map (λ (it : ℕ). record options { nest = Some it }) (once options.nest (nest_of value))
 
 -- the options in front, each that has a value with it as the next word, and the names behind them; the last word is a
 -- name
@@ -126,9 +218,10 @@ options_in options (word ∷ []) = Some (options, word ∷ [])
 options_in options (word ∷ value ∷ words) =
     if is_labels word
     then option_and_then (λ (more : Options). options_in more (value ∷ words)) (with_labels options)
-    else (if has_value word
-    then option_and_then (λ (more : Options). options_in more words) (with_option options word value)
-    else Some (options, word ∷ value ∷ words))
+    else option_map_or
+    (λ (name : OptionName). option_and_then (λ (more : Options). options_in more words) (with_option options name value))
+    (option_named word)
+    (Some (options, word ∷ value ∷ words))
 
 -- `run --height H GALLEY`, or `run STYLE GALLEY`
 abbrev pub run_named : Options → List (List ℕ) → Option Command
@@ -171,14 +264,49 @@ check_named options (style ∷ galley ∷ output ∷ []) =
     else None
 check_named options names = None
 
--- the command of the first word, with the options and names behind it
-abbrev pub job_of : List ℕ → (Options × List (List ℕ)) → Option Command
-job_of word (options, names) =
+-- `heads STYLE GALLEY` and `compare STYLE GALLEY`, which take no height and no labels
+abbrev pub pages_named : (List ℕ → List ℕ → Option ℕ → Command) → Options → List (List ℕ) → Option Command
+pages_named tell options (style ∷ galley ∷ []) =
+    if is_name style && (is_name galley && not (is_some options.height || options.labels))
+    then Some (tell style galley options.wrap)
+    else None
+pages_named tell options names = None
+
+-- `lines --width W --tolerance T --around K FILE`, where all three are due, and no other option is taken
+abbrev pub lines_named : Options → List (List ℕ) → Option Command
+lines_named options (file ∷ []) =
+    if not (is_name file) || is_some options.height || options.labels || is_some options.wrap || has_folding options
+    then None
+    else option_and_then (λ (width : ℤ). option_and_then (λ (tolerance : ℕ). option_map (λ (around : ℕ).
+    lines width tolerance around file) options.around) options.tolerance) options.width
+lines_named options names = None
+
+-- `fold --folds F --nest N STYLE GALLEY`, where both are due, and of the others that for joined lines is taken
+abbrev pub fold_named : Options → List (List ℕ) → Option Command
+fold_named options (style ∷ galley ∷ []) =
+    if is_name style && (is_name galley && not (is_some options.height || options.labels || has_line_rule options))
+    then option_and_then (λ (folds : ℕ). option_map (λ (nest : ℕ).
+    fold style galley folds nest options.wrap) options.nest) options.folds
+    else None
+fold_named options names = None
+
+-- the other commands, which take no option of those two
+abbrev pub plain_job_of : List ℕ → Options → List (List ℕ) → Option Command
+plain_job_of word options names =
     if bytes_eq word (codes "run") then run_named options names
     else (if bytes_eq word (codes "show") then show_named options names
     else (if bytes_eq word (codes "make") then make_named options names
     else (if bytes_eq word (codes "check") then check_named options names
-    else (if bytes_eq word (codes "edit") then edit_named options names else None))))
+    else (if bytes_eq word (codes "edit") then edit_named options names
+    else (if bytes_eq word (codes "heads") then pages_named heads options names
+    else (if bytes_eq word (codes "compare") then pages_named compare options names else None))))))
+
+-- the command of the first word, with the options and names behind it
+abbrev pub job_of : List ℕ → (Options × List (List ℕ)) → Option Command
+job_of word (options, names) =
+    if bytes_eq word (codes "lines") then lines_named options names
+    else (if bytes_eq word (codes "fold") then fold_named options names
+    else (if has_line_rule options || has_folding options then None else plain_job_of word options names))
 
 -- the command of these words: a command's name, options, names
 abbrev pub command_of : List (List ℕ) → Option Command

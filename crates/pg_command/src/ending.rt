@@ -5,6 +5,8 @@ ghost use Rattle.pg_command.specs.Lines.{status_of};
 use crate::status::Status;
 use pg_check_laws::No;
 use pg_edits::{EditFault, ScriptFault};
+use pg_greedy::GreedyFault;
+use pg_paragraphs::LineFault;
 use pg_showbox::ListFault;
 use pg_stylefile::StyleFault;
 
@@ -33,6 +35,10 @@ pub enum Ending<'a> {
     BadEdit(u64, EditFault),
     /// The lines of the file up to this one begin no output text, or it ends in front of it.
     BadOutput(&'a str, u32),
+    /// The paragraphs of the file make no galley.
+    BadParagraph(&'a str, LineFault),
+    /// The galley has no first fit under the style.
+    NoFirstFit(GreedyFault),
     /// The file cannot be read.
     Unread(&'a str),
     /// The output failed.
@@ -59,7 +65,9 @@ impl<'a> Ending<'a> {
             | Ending::TooManyFloats(_)
             | Ending::BadScript(..)
             | Ending::BadEdit(..)
-            | Ending::BadOutput(..) => Status::Refused,
+            | Ending::BadOutput(..)
+            | Ending::BadParagraph(..)
+            | Ending::NoFirstFit(_) => Status::Refused,
             Ending::Unread(_) => Status::ReadFault,
             Ending::WriteFault => Status::WriteFault,
             Ending::Memory => Status::Memory,

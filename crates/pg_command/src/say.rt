@@ -3,14 +3,17 @@ ghost use Rattle.std.specs.Prelude.{◌≡◌, ◌≤◌, ◌++◌};
 ghost use Rattle.pg_command.specs.Lines.{OnQuiet, Says, class_line, key_text, line_of, list_line, many_line, status_of};
 ghost use Rattle.pg_command.specs.Lines.{style_line, no_output_line, broken_line, costs_line, undercut_line};
 ghost use Rattle.pg_command.specs.Lines.{no_line, open_line, with_number, edit_line, script_line};
-ghost use Rattle.pg_command.specs.Lines.{blocks_line, order_line};
+ghost use Rattle.pg_command.specs.Lines.{blocks_line, order_line, paragraph_line, unbroken_line, many_items_line};
+ghost use Rattle.pg_command.specs.Lines.{block_line, no_fit_line};
 
 use crate::ending::Ending;
 use crate::line::{Piece, say_pieces};
 use pg_check_laws::No;
 use pg_edits::{EditFault, ScriptFault, ScriptKind};
+use pg_greedy::GreedyFault;
 use pg_list::Place;
 use pg_outside::Sink;
+use pg_paragraphs::LineFault;
 use pg_showbox::{ListFault, ListKind};
 use pg_stylefile::StyleFault;
 
@@ -202,6 +205,87 @@ fn say_no_output<'a, E: Sink>(say: &mut E, name: &'a str, line: u32)
     );
 }
 
+// The line for a paragraph that cannot be broken.
+fn say_unbroken<'a, E: Sink>(say: &mut E, name: &'a str, paragraph: u32)
+    ensures line { Says (E.written say.old) (E.written say.new) (E.faults say.old) (E.faults say.new)
+        (unbroken_line name.now paragraph) }
+    ensures later { E.faults say.old ≤ E.faults say.new }
+{
+    say_pieces(
+        say,
+        &[
+            Piece::Text("pg: "),
+            Piece::Text(name),
+            Piece::Text(": paragraph "),
+            Piece::Number(paragraph),
+            Piece::Text(" cannot be broken\n"),
+        ],
+    );
+}
+
+// The line for paragraphs with too many items.
+fn say_many_items<'a, E: Sink>(say: &mut E, name: &'a str, count: u32)
+    ensures line { Says (E.written say.old) (E.written say.new) (E.faults say.old) (E.faults say.new)
+        (many_items_line name.now count) }
+    ensures later { E.faults say.old ≤ E.faults say.new }
+{
+    say_pieces(
+        say,
+        &[
+            Piece::Text("pg: "),
+            Piece::Text(name),
+            Piece::Text(": "),
+            Piece::Number(count),
+            Piece::Text(" items are too many\n"),
+        ],
+    );
+}
+
+// The line for paragraphs that make no galley.
+fn say_paragraph_fault<'a, E: Sink>(say: &mut E, name: &'a str, fault: &'a LineFault)
+    ensures line { Says (E.written say.old) (E.written say.new) (E.faults say.old) (E.faults say.new)
+        (paragraph_line name.now fault.now) }
+    ensures later { E.faults say.old ≤ E.faults say.new }
+{
+    match fault {
+        LineFault::NoBreak { paragraph } => say_unbroken(say, name, *paragraph),
+        LineFault::Limit { count } => say_many_items(say, name, *count),
+        LineFault::Memory => say_text(say, "pg: out of memory\n"),
+    }
+}
+
+// A line about first fit and a block.
+fn say_block<'a, E: Sink>(say: &mut E, before: &'a str, block: u32)
+    ensures line { Says (E.written say.old) (E.written say.new) (E.faults say.old) (E.faults say.new)
+        (block_line before.now block) }
+    ensures later { E.faults say.old ≤ E.faults say.new }
+{
+    say_pieces(
+        say,
+        &[
+            Piece::Text("pg: first fit: "),
+            Piece::Text(before),
+            Piece::Text(" at block "),
+            Piece::Number(block),
+            Piece::Text("\n"),
+        ],
+    );
+}
+
+// The line for a galley without a first fit.
+fn say_no_fit<E: Sink>(say: &mut E, fault: &GreedyFault)
+    ensures line { Says (E.written say.old) (E.written say.new) (E.faults say.old) (E.faults say.new)
+        (no_fit_line fault.now) }
+    ensures later { E.faults say.old ≤ E.faults say.new }
+{
+    match fault {
+        GreedyFault::Columns => say_text(say, "pg: first fit: two columns\n"),
+        GreedyFault::Choice { block } => say_block(say, "choice", *block),
+        GreedyFault::Float { block } => say_block(say, "float", *block),
+        GreedyFault::Memory => say_text(say, "pg: out of memory\n"),
+    }
+}
+
 // A line with a number at its end.
 fn say_number<'a, E: Sink>(say: &mut E, before: &'a str, number: u64)
     ensures line { Says (E.written say.old) (E.written say.new) (E.faults say.old) (E.faults say.new)
@@ -320,7 +404,10 @@ pub fn say_line<E: Sink>(ending: &Ending<'_>, say: &mut E)
 {
     match ending {
         Ending::Done | Ending::NoLegal => {}
-        Ending::Usage => say_text(say, "usage: pg run|edit|check|show|make\n"),
+        Ending::Usage => say_text(
+            say,
+            "usage: pg run|edit|check|show|make|lines|heads|compare|fold\n",
+        ),
         Ending::TooLong(name) => say_file(say, "pg: ", name, ": longer than 67108864 bytes\n"),
         Ending::BadList(name, fault) => say_list_fault(say, name, fault),
         Ending::BadStyle(name, fault) => say_style_fault(say, name, fault),
@@ -329,6 +416,8 @@ pub fn say_line<E: Sink>(ending: &Ending<'_>, say: &mut E)
         Ending::BadScript(name, fault) => say_script_fault(say, name, fault),
         Ending::BadEdit(step, fault) => say_edit_fault(say, *step, fault),
         Ending::BadOutput(name, line) => say_no_output(say, name, *line),
+        Ending::BadParagraph(name, fault) => say_paragraph_fault(say, name, fault),
+        Ending::NoFirstFit(fault) => say_no_fit(say, fault),
         Ending::Unread(name) => say_file(say, "pg: ", name, ": cannot be read\n"),
         Ending::WriteFault => say_text(say, "pg: output failed\n"),
         Ending::NotProved(fault) => say_no(say, fault),

@@ -15,6 +15,7 @@ use Rattle.pg_command.specs.declared.ending.Ending.TheVariants as ending
 use Rattle.pg_command.specs.declared.status.Status.{Status}
 use Rattle.pg_command.specs.declared.status.Status.TheVariants.{Usage}
 use Rattle.pg_command.specs.Words.{Command, StyleName, named, run, edit, show, make, check}
+use Rattle.pg_command.specs.Words.{lines, heads, compare, fold}
 use Rattle.pg_command.specs.Lines.{status_of, line_of}
 use Rattle.pg_course.specs.Course.{CourseFront, Ended, EndedBefore, EndsBy, BeginsBy, OnSettled, OnReadFault}
 use Rattle.pg_course.specs.Course.{OnWriteFault}
@@ -56,6 +57,10 @@ WroteWhole (Some (edit style galley script labels wrap)) told out = IfSome told 
 WroteWhole (Some (show galley wrap)) told out = Keeps out.old out.new
 WroteWhole (Some (make count)) told out = Keeps out.old out.new
 WroteWhole (Some (check style galley output wrap)) told out = Keeps out.old out.new
+WroteWhole (Some (lines width tolerance around file)) told out = Keeps out.old out.new
+WroteWhole (Some (heads style galley wrap)) told out = Keeps out.old out.new
+WroteWhole (Some (compare style galley wrap)) told out = Keeps out.old out.new
+WroteWhole (Some (fold style galley folds nest wrap)) told out = Keeps out.old out.new
 
 -- words that name no file: they are no command, or one that makes its galley
 abbrev pub NamesNoFile : Option Command → Type 0
@@ -65,6 +70,10 @@ NamesNoFile (Some (edit style galley script labels wrap)) = ⊥
 NamesNoFile (Some (show galley wrap)) = ⊥
 NamesNoFile (Some (make count)) = Unit {0}
 NamesNoFile (Some (check style galley output wrap)) = ⊥
+NamesNoFile (Some (lines width tolerance around file)) = ⊥
+NamesNoFile (Some (heads style galley wrap)) = ⊥
+NamesNoFile (Some (compare style galley wrap)) = ⊥
+NamesNoFile (Some (fold style galley folds nest wrap)) = ⊥
 
 -- why the file of a name was not read, and the line that tells it
 abbrev pub NoFile : List ℕ → OverShelf → List ℕ → Type 0

@@ -16,6 +16,7 @@ use Rattle.pg_outside.specs.Outside.{Held}
 use Rattle.pg_command.specs.declared.status.Status.{Status}
 use Rattle.pg_command.specs.declared.status.Status.TheVariants.{Memory}
 use Rattle.pg_command.specs.Words.{Command, named, run, edit, show, make, check}
+use Rattle.pg_command.specs.Words.{lines, heads, compare, fold}
 use Rattle.pg_course.specs.Course.{Stop, opened, opened_script, opened_style}
 
 -- the shows of a galley that is taken; one that is refused is not shown
@@ -55,6 +56,13 @@ IsCounted (Some (edit style galley script labels wrap)) told before after = IfSo
 IsCounted (Some (show galley wrap)) told before after = after ≡ before
 IsCounted (Some (make count)) told before after = AreCounted made_style (one_show (made_galley count)) before after
 IsCounted (Some (check style galley output wrap)) told before after = after ≡ before
+IsCounted (Some (lines width tolerance around file)) told before after = after ≡ before
+IsCounted (Some (heads style galley wrap)) told before after = IfSome told (λ held.
+    CountsRun (opened_style (named style) held) (opened galley wrap (held galley)) before after)
+IsCounted (Some (compare style galley wrap)) told before after = IfSome told (λ held.
+    CountsRun (opened_style (named style) held) (opened galley wrap (held galley)) before after)
+IsCounted (Some (fold style galley folds nest wrap)) told before after = IfSome told (λ held.
+    CountsRun (opened_style (named style) held) (opened galley wrap (held galley)) before after)
 
 -- unless memory ran out
 abbrev pub UnlessMemory : Status → Type 0 → Type 0

@@ -1,6 +1,6 @@
 -- What the program does when nothing fails and memory is ample: the texts that it writes, how it ends, and its
 -- line for the user.
-use Rattle.std.specs.Prelude.{◌≡◌, ◌^◌, ◌+◌, ℕ, Bool, List, [], ◌∷◌, length, take, ◌⊎◌, nat_lt, nat_le, ⊤, Option, Some, None}
+use Rattle.std.specs.Prelude.{◌≡◌, ◌^◌, ◌+◌, ℕ, Bool, List, [], ◌∷◌, length, take, ◌⊎◌, nat_lt, nat_le, ⊤, Option, Some, None, ℤ}
 use Rattle.std.specs.Prelude.{Result, Ok, Err, MatchBool, MatchOption, IsSomeAnd, if◌then◌else◌}
 use Rattle.std.specs.List.{concat}
 use Rattle.std.specs.Io.KnownBytes.{Appends}
@@ -26,10 +26,21 @@ use Rattle.pg_command.specs.declared.status.Status.{Status}
 use Rattle.pg_command.specs.declared.status.Status.TheVariants.{Done, Usage, Refused, ReadFault, WriteFault, Memory}
 use Rattle.pg_command.specs.declared.status.Status.TheVariants.{NotProved}
 use Rattle.pg_command.specs.Words.{Command, StyleName, named, plain, run, edit, show, make, check}
+use Rattle.pg_command.specs.Words.{lines, heads, compare, fold}
 use Rattle.pg_floats.specs.AreFloats.{unknown_class, float_total}
 use Rattle.pg_command.specs.Lines.{usage_line, long_line, list_line, style_line, class_line, many_line, unread_line}
-use Rattle.pg_command.specs.Lines.{no_output_line, no_line, script_line, edit_line}
+use Rattle.pg_command.specs.Lines.{no_output_line, no_line, script_line, edit_line, no_fit_line, paragraph_line}
+use Rattle.pg_hlist.specs.declared.item.HItem.{HItem}
+use Rattle.pg_hlist.specs.Reading.{paras_of}
+use Rattle.pg_paragraphs.specs.declared.rule.LineRule.{LineRule}
+use Rattle.pg_paragraphs.specs.declared.rule.LineFault.{LineFault}
+use Rattle.pg_paragraphs.specs.declared.rule.LineFault.TheVariants.{Memory as LineMemory}
+use Rattle.pg_paragraphs.specs.Galleys.{Broken}
+use Rattle.pg_greedy.specs.Faults.{greedy_fault}
+use Rattle.pg_course.specs.declared.product.Product.{Product}
+use Rattle.pg_course.specs.declared.product.Product.TheVariants.{Pages, Heads, Comparison, Sheets}
 use Rattle.pg_course.specs.Out.{RunOut}
+use Rattle.pg_course.specs.Products.{HeadsOut, CompareOut, SheetsOut}
 use Rattle.pg_course.specs.Made.{MadeOut}
 use Rattle.pg_course.specs.Verdict.{Answers, yes_line}
 
@@ -95,14 +106,41 @@ opened_output name file = read_by (λ bytes. said_output name (output_of bytes))
 abbrev pub opened_script : List ℕ → Option (List ℕ) → Result (List ScriptStep) Stop
 opened_script name file = read_by (λ bytes. said_script name (script_of bytes)) (fetched name file)
 
+-- the paragraphs that a text says; a fault is named by its line and kind
+abbrev pub said_paras : List ℕ → Result (List (List HItem)) ListFault → Result (List (List HItem)) Stop
+said_paras name (Ok paras) = Ok paras
+said_paras name (Err fault) = Err (stop Refused (list_line name fault))
+
+-- the paragraphs of a file
+abbrev pub opened_paras : List ℕ → Option (List ℕ) → Result (List (List HItem)) Stop
+opened_paras name file = read_by (λ bytes. said_paras name (paras_of bytes)) (fetched name file)
+
 -- this text alone is written, and it ends so
 abbrev pub OneText : List ℕ → Status → List (List ℕ) → Status → List ℕ → Type 0
 OneText text status texts end line = (texts ≡ text ∷ []) × (end ≡ status) × (line ≡ [])
 
--- one text is written for a galley
+-- one text is written for a galley, and it ends, as this says
+abbrev pub WritesOne : (GalleyValue → StyleValue → List ℕ → Status → Type 0) → StyleValue → GalleyValue
+    → List (List ℕ) → Status → List ℕ → Type 0
+WritesOne Tells style galley texts end line =
+    (text : List ℕ) × Tells galley style text end × (texts ≡ text ∷ []) × (line ≡ [])
+
+-- the text of its pages is written for a galley
 abbrev pub PaginateGalley : Bool → StyleValue → GalleyValue → List (List ℕ) → Status → List ℕ → Type 0
-PaginateGalley labels style galley texts end line =
-    (text : List ℕ) × RunOut labels galley style text end × (texts ≡ text ∷ []) × (line ≡ [])
+PaginateGalley labels style galley texts end line = WritesOne (RunOut labels) style galley texts end line
+
+-- first fit is compared with the best pages, where the galley has one under the style
+abbrev pub CompareGalley : StyleValue → GalleyValue → List (List ℕ) → Status → List ℕ → Type 0
+CompareGalley style galley texts end line = MatchOption (greedy_fault style galley.blocks)
+    (WritesOne CompareOut style galley texts end line)
+    (λ fault. Stops texts end line (stop Refused (no_fit_line fault)))
+
+-- what is made of a galley
+abbrev pub MakesGalley : Product → StyleValue → GalleyValue → List (List ℕ) → Status → List ℕ → Type 0
+MakesGalley (Pages labels) style galley texts end line = PaginateGalley labels style galley texts end line
+MakesGalley Heads style galley texts end line = WritesOne HeadsOut style galley texts end line
+MakesGalley Comparison style galley texts end line = CompareGalley style galley texts end line
+MakesGalley (Sheets folds nest) style galley texts end line = WritesOne (SheetsOut folds nest) style galley texts end line
 
 -- a galley is refused for the class of its first insert of a class that the style does not have, and then for more
 -- than 2^12 floats; else this is done
@@ -112,21 +150,21 @@ OnTaken style galley texts end line Goes = MatchOption (unknown_class galley.blo
     (Stops texts end line (stop Refused (many_line (float_total galley.blocks style)))))
     (λ class. Stops texts end line (stop Refused (class_line class)))
 
--- a galley that is taken is paginated
-abbrev pub RunGalley : Bool → StyleValue → GalleyValue → List (List ℕ) → Status → List ℕ → Type 0
-RunGalley labels style galley texts end line =
-    OnTaken style galley texts end line (PaginateGalley labels style galley texts end line)
+-- it is made of a galley that is taken
+abbrev pub RunGalley : Product → StyleValue → GalleyValue → List (List ℕ) → Status → List ℕ → Type 0
+RunGalley product style galley texts end line =
+    OnTaken style galley texts end line (MakesGalley product style galley texts end line)
 
 -- the galley is read behind the style
-abbrev pub RunCourse : Bool → StyleValue → Result GalleyValue Stop → List (List ℕ) → Status → List ℕ → Type 0
-RunCourse labels style (Err stop) texts end line = Stops texts end line stop
-RunCourse labels style (Ok galley) texts end line = RunGalley labels style galley texts end line
+abbrev pub RunCourse : Product → StyleValue → Result GalleyValue Stop → List (List ℕ) → Status → List ℕ → Type 0
+RunCourse product style (Err stop) texts end line = Stops texts end line stop
+RunCourse product style (Ok galley) texts end line = RunGalley product style galley texts end line
 
 -- the style is read first
-abbrev pub StyledCourse : Bool → Result StyleValue Stop → Result GalleyValue Stop → List (List ℕ) → Status → List ℕ
+abbrev pub StyledCourse : Product → Result StyleValue Stop → Result GalleyValue Stop → List (List ℕ) → Status → List ℕ
     → Type 0
-StyledCourse labels (Err stop) galley texts end line = Stops texts end line stop
-StyledCourse labels (Ok style) galley texts end line = RunCourse labels style galley texts end line
+StyledCourse product (Err stop) galley texts end line = Stops texts end line stop
+StyledCourse product (Ok style) galley texts end line = RunCourse product style galley texts end line
 
 -- how shows end that ended so before: where one of them has no legal pagination, so do they
 abbrev pub with_end : Status → Status → Status
@@ -218,11 +256,28 @@ abbrev pub CheckCourse : Result StyleValue Stop → Result GalleyValue Stop → 
 CheckCourse (Err stop) galley output texts end line = Stops texts end line stop
 CheckCourse (Ok style) galley output texts end line = CheckGalley style galley output texts end line
 
+-- how paragraphs are broken
+abbrev pub rule_of : ℤ → ℕ → ℕ → LineRule
+rule_of width tolerance around = record { width = width; tolerance = tolerance; around = around }
+
+-- the galley of the paragraphs' variants is printed, and what is printed reads back to it; or a paragraph is at fault
+abbrev pub LinesEnd : List ℕ → Result GalleyValue LineFault → List (List ℕ) → Status → List ℕ → Type 0
+LinesEnd name (Ok galley) texts end line =
+    ShowGalley galley texts end line × (galley_of (galley_text galley) None ≡ Ok galley)
+LinesEnd name (Err LineMemory) texts end line = ⊥
+LinesEnd name (Err fault) texts end line = Stops texts end line (stop Refused (paragraph_line name fault))
+
+-- the paragraphs of a file are broken into lines
+abbrev pub LinesCourse : LineRule → List ℕ → Result (List (List HItem)) Stop → List (List ℕ) → Status → List ℕ → Type 0
+LinesCourse rule name (Err stop) texts end line = Stops texts end line stop
+LinesCourse rule name (Ok paras) texts end line =
+    (made : Result GalleyValue LineFault) × Broken rule paras made × LinesEnd name made texts end line
+
 -- the course of a command, over the files that are held
 abbrev pub Course : Option Command → Held → List (List ℕ) → Status → List ℕ → Type 0
 Course None held texts end line = Stops texts end line (stop Usage usage_line)
 Course (Some (run style galley labels wrap)) held texts end line =
-    StyledCourse labels (opened_style style held) (opened galley wrap (held galley)) texts end line
+    StyledCourse (Pages labels) (opened_style style held) (opened galley wrap (held galley)) texts end line
 Course (Some (edit style galley script labels wrap)) held texts end line =
     EditCourse labels (opened_style (named style) held) (opened galley wrap (held galley))
     (opened_script script (held script)) texts end line
@@ -231,6 +286,14 @@ Course (Some (make count)) held texts end line = MakeCourse count texts end line
 Course (Some (check style galley output wrap)) held texts end line =
     CheckCourse (opened_style (named style) held) (opened galley wrap (held galley))
     (opened_output output (held output)) texts end line
+Course (Some (lines width tolerance around file)) held texts end line =
+    LinesCourse (rule_of width tolerance around) file (opened_paras file (held file)) texts end line
+Course (Some (heads style galley wrap)) held texts end line =
+    StyledCourse Heads (opened_style (named style) held) (opened galley wrap (held galley)) texts end line
+Course (Some (compare style galley wrap)) held texts end line =
+    StyledCourse Comparison (opened_style (named style) held) (opened galley wrap (held galley)) texts end line
+Course (Some (fold style galley folds nest wrap)) held texts end line =
+    StyledCourse (Sheets folds nest) (opened_style (named style) held) (opened galley wrap (held galley)) texts end line
 
 -- the first steps of a script that is read
 abbrev pub first_steps : ℕ → Result (List ScriptStep) Stop → Result (List ScriptStep) Stop
@@ -250,6 +313,14 @@ CourseFront (Some (show galley wrap)) held texts end line = Course (Some (show g
 CourseFront (Some (make count)) held texts end line = Course (Some (make count)) held texts end line
 CourseFront (Some (check style galley output wrap)) held texts end line =
     Course (Some (check style galley output wrap)) held texts end line
+CourseFront (Some (lines width tolerance around file)) held texts end line =
+    Course (Some (lines width tolerance around file)) held texts end line
+CourseFront (Some (heads style galley wrap)) held texts end line =
+    Course (Some (heads style galley wrap)) held texts end line
+CourseFront (Some (compare style galley wrap)) held texts end line =
+    Course (Some (compare style galley wrap)) held texts end line
+CourseFront (Some (fold style galley folds nest wrap)) held texts end line =
+    Course (Some (fold style galley folds nest wrap)) held texts end line
 
 -- ---- facts for some ends
 
@@ -313,6 +384,10 @@ IsFileOf (Some (edit style galley script labels wrap)) name = (name ≡ style) �
 IsFileOf (Some (show galley wrap)) name = name ≡ galley
 IsFileOf (Some (make count)) name = ⊥
 IsFileOf (Some (check style galley output wrap)) name = (name ≡ style) ⊎ ((name ≡ galley) ⊎ (name ≡ output))
+IsFileOf (Some (lines width tolerance around file)) name = name ≡ file
+IsFileOf (Some (heads style galley wrap)) name = (name ≡ style) ⊎ (name ≡ galley)
+IsFileOf (Some (compare style galley wrap)) name = (name ≡ style) ⊎ (name ≡ galley)
+IsFileOf (Some (fold style galley folds nest wrap)) name = (name ≡ style) ⊎ (name ≡ galley)
 
 -- the shelf failed in this call, at a file of the command, and the line says so
 abbrev pub FailedAt : Option Command → ℕ → ℕ → Option (List ℕ) → List ℕ → Type 0

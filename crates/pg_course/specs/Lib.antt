@@ -1,6 +1,7 @@
 pub mod Out
 pub mod Made
 pub mod Verdict
+pub mod Products
 pub mod Course
 pub mod Calls
 pub mod Counted

@@ -16,6 +16,7 @@ mod line;
 mod make;
 mod open;
 mod paginate;
+mod product;
 mod run;
 mod show;
 mod write;
