@@ -2,7 +2,7 @@
 use Rattle.std.proofs.Common.{◌≡◌, refl, [], ◌∷◌, true, false}
 use Rattle.std.specs.Prelude.{codes, Some, None}
 use Rattle.pg_scan.specs.Parts.{word_number}
-use Rattle.pg_command.specs.Words.{check, command_of, make, named, options_in, run}
+use Rattle.pg_command.specs.Words.{check, command_of, compare, fold, heads, make, named, options_in, run}
 
 most_paragraphs : command_of (codes "make" ∷ codes "0000002000" ∷ []) ≡ Some (make 2000)
 unfolding word_number options_in
@@ -78,3 +78,54 @@ a_height_of_a_check = refl
 two_files_of_a_check : command_of (codes "check" ∷ codes "s" ∷ codes "g" ∷ []) ≡ None
 unfolding options_in
 two_files_of_a_check = refl
+
+some_heads : command_of (codes "heads" ∷ codes "--wrap" ∷ codes "79" ∷ codes "s" ∷ codes "g" ∷ [])
+    ≡ Some (heads (codes "s") (codes "g") (Some 79))
+unfolding word_number options_in
+some_heads = refl
+
+labels_of_heads : command_of (codes "heads" ∷ codes "--labels" ∷ codes "s" ∷ codes "g" ∷ []) ≡ None
+unfolding options_in
+labels_of_heads = refl
+
+a_fold_of_heads : command_of (codes "heads" ∷ codes "--nest" ∷ codes "1" ∷ codes "s" ∷ codes "g" ∷ []) ≡ None
+unfolding word_number options_in
+a_fold_of_heads = refl
+
+a_comparison : command_of (codes "compare" ∷ codes "s" ∷ codes "g" ∷ [])
+    ≡ Some (compare (codes "s") (codes "g") None)
+unfolding options_in
+a_comparison = refl
+
+some_sheets : command_of (codes "fold" ∷ codes "--nest" ∷ codes "16" ∷ codes "--folds" ∷ codes "4" ∷ codes "s"
+    ∷ codes "g" ∷ []) ≡ Some (fold (codes "s") (codes "g") 4 16 None)
+unfolding word_number options_in
+some_sheets = refl
+
+too_many_folds : command_of (codes "fold" ∷ codes "--nest" ∷ codes "1" ∷ codes "--folds" ∷ codes "5" ∷ codes "s"
+    ∷ codes "g" ∷ []) ≡ None
+unfolding word_number options_in
+too_many_folds = refl
+
+no_nest : command_of (codes "fold" ∷ codes "--folds" ∷ codes "4" ∷ codes "s" ∷ codes "g" ∷ []) ≡ None
+unfolding word_number options_in
+no_nest = refl
+
+nests_twice : command_of (codes "fold" ∷ codes "--nest" ∷ codes "1" ∷ codes "--nest" ∷ codes "1" ∷ codes "s"
+    ∷ codes "g" ∷ []) ≡ None
+unfolding word_number options_in
+nests_twice = refl
+
+a_fold_of_lines : command_of (codes "fold" ∷ codes "--nest" ∷ codes "1" ∷ codes "--folds" ∷ codes "1"
+    ∷ codes "--around" ∷ codes "1" ∷ codes "s" ∷ codes "g" ∷ []) ≡ None
+unfolding word_number options_in
+a_fold_of_lines = refl
+
+no_width_of_lines : command_of (codes "lines" ∷ codes "--tolerance" ∷ codes "1" ∷ codes "--around" ∷ codes "1"
+    ∷ codes "f" ∷ []) ≡ None
+unfolding word_number options_in
+no_width_of_lines = refl
+
+lines_too_bad : command_of (codes "lines" ∷ codes "--tolerance" ∷ codes "10001" ∷ codes "f" ∷ []) ≡ None
+unfolding word_number options_in
+lines_too_bad = refl

@@ -14,9 +14,9 @@ use Rattle.pg_command.specs.declared.words.StyleWord.{StyleWord}
 use Rattle.pg_command.specs.declared.words.StyleWord.TheVariants.{Named, Plain}
 use Rattle.pg_command.specs.declared.words.Job.{Job}
 use Rattle.pg_command.specs.declared.words.Job.TheVariants.{Run, Edit, Show, Make, Check, Lines, Heads, Compare, Fold}
-use Rattle.pg_command.specs.declared.words.OptionName.{OptionName}
-use Rattle.pg_command.specs.declared.words.OptionName.TheVariants as option
-use Rattle.pg_command.specs.declared.words.Options.{Options}
+use Rattle.pg_command.specs.declared.options.OptionName.{OptionName}
+use Rattle.pg_command.specs.declared.options.OptionName.TheVariants as option
+use Rattle.pg_command.specs.declared.options.Options.{Options}
 
 -- which style a run takes: that of the file of this name, or the plain one of this page height
 pub data StyleName : Type 0 where
@@ -66,11 +66,11 @@ abbrev pub IsStyle : StyleWord → Type 0
 IsStyle (Named name) = Unit {0}
 IsStyle (Plain height) = IsHeight height
 
--- lines of this width, tolerance and number around the best
-pub record IsLineRule (width : ℤ) (tolerance around : ℕ) : Type 0 where
-  pub width : IsHeight width
-  pub tolerance : tolerance ≤ 10000
-  pub around : around ≤ 2
+-- lines of this width, at worst so bad, in so many lines more or less
+pub record IsLineRule (wide : ℤ) (worst others : ℕ) : Type 0 where
+  pub width : IsHeight wide
+  pub tolerance : worst ≤ 10000
+  pub around : others ≤ 2
 
 -- sheets are folded 1 to 4 times
 abbrev pub IsFolds : ℕ → Type 0
@@ -264,13 +264,18 @@ check_named options (style ∷ galley ∷ output ∷ []) =
     else None
 check_named options names = None
 
--- `heads STYLE GALLEY` and `compare STYLE GALLEY`, which take no height and no labels
-abbrev pub pages_named : (List ℕ → List ℕ → Option ℕ → Command) → Options → List (List ℕ) → Option Command
-pages_named tell options (style ∷ galley ∷ []) =
+-- the style and the galley of a command that tells of pages, which takes no height and no labels
+abbrev pub two_files : Options → List (List ℕ) → Option (List ℕ × List ℕ)
+two_files options (style ∷ galley ∷ []) =
     if is_name style && (is_name galley && not (is_some options.height || options.labels))
-    then Some (tell style galley options.wrap)
+    then Some (style, galley)
     else None
-pages_named tell options names = None
+two_files options names = None
+
+-- `heads STYLE GALLEY` and `compare STYLE GALLEY`
+abbrev pub pages_named : (List ℕ → List ℕ → Option ℕ → Command) → Options → List (List ℕ) → Option Command
+pages_named tell options names =
+    option_map (λ (files : List ℕ × List ℕ). tell files.0 files.1 options.wrap) (two_files options names)
 
 -- `lines --width W --tolerance T --around K FILE`, where all three are due, and no other option is taken
 abbrev pub lines_named : Options → List (List ℕ) → Option Command
@@ -283,12 +288,10 @@ lines_named options names = None
 
 -- `fold --folds F --nest N STYLE GALLEY`, where both are due, and of the others that for joined lines is taken
 abbrev pub fold_named : Options → List (List ℕ) → Option Command
-fold_named options (style ∷ galley ∷ []) =
-    if is_name style && (is_name galley && not (is_some options.height || options.labels || has_line_rule options))
-    then option_and_then (λ (folds : ℕ). option_map (λ (nest : ℕ).
-    fold style galley folds nest options.wrap) options.nest) options.folds
-    else None
-fold_named options names = None
+fold_named options names = option_and_then (λ (files : List ℕ × List ℕ).
+    if has_line_rule options then None
+    else option_and_then (λ (folds : ℕ). option_map (λ (nest : ℕ).
+    fold files.0 files.1 folds nest options.wrap) options.nest) options.folds) (two_files options names)
 
 -- the other commands, which take no option of those two
 abbrev pub plain_job_of : List ℕ → Options → List (List ℕ) → Option Command

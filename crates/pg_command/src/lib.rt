@@ -7,6 +7,7 @@
 
 mod ending;
 mod line;
+mod options;
 mod say;
 mod status;
 mod words;

@@ -1,15 +1,13 @@
 //! The words of a command.
-ghost use Rattle.std.specs.Prelude.{◌≡◌, ◌≤◌, IfSome, IsTrue, map, ◌∷◌, []};
+ghost use Rattle.std.specs.Prelude.{◌≡◌, ◌≤◌, ◌∷◌, [], IfSome, map, Option, ℕ, List};
 ghost use Rattle.std.specs.Option.{option_map};
 ghost use Rattle.std.specs.String.{string_bytes};
-ghost use Rattle.pg_command.specs.Words.{command_in, command_of, texts_of, height_of, wrap_of, is_name};
-ghost use Rattle.pg_command.specs.Words.{is_labels as is_labels_word, has_value as has_value_word, no_options};
-ghost use Rattle.pg_command.specs.Words.{with_labels as labels_too, with_option as one_more, options_in};
-ghost use Rattle.pg_command.specs.Words.{run_named, edit_named, show_named, make_named, check_named, job_of};
-ghost use Rattle.pg_command.specs.Words.{paragraphs_of};
-ghost use Rattle.pg_command.specs.Words.{IsHeight, IsInRange};
+ghost use Rattle.pg_command.specs.Words.{command_in, command_of, texts_of, is_name, job_of, plain_job_of};
+ghost use Rattle.pg_command.specs.Words.{run_named, edit_named, show_named, make_named, check_named};
+ghost use Rattle.pg_command.specs.Words.{lines_named, pages_named, fold_named, heads, compare, paragraphs_of, two_files};
+ghost use Rattle.pg_command.specs.Words.{AreOptions, IsInRange};
 
-use pg_scaled::{Front, read_scaled};
+use crate::options::{Options, has_folding, has_line_rule, split_options};
 use pg_scan::whole_word;
 
 /// Which style a run takes.
@@ -56,32 +54,35 @@ pub enum Job<'a> {
         output: &'a str,
         wrap: Option<u32>,
     },
-}
-
-/// What the options between a command and its names say.
-#[derive(Clone, Copy)]
-pub struct Options {
-    pub height: Option<i32>,
-    pub labels: bool,
-    pub wrap: Option<u32>,
-}
-
-// A whole scaled number above 0.
-fn height(word: &str) -> Option<i32>
-    ensures value { result ≡ height_of word.now }
-    ensures in_range { IfSome result IsHeight }
-{
-    match read_scaled(word.as_bytes()) {
-        Front::Value { value, len } if len == word.len() && value > 0 => Some(value),
-        _ => None,
-    }
-}
-
-// A width at which lines are joined.
-fn wrap_width(word: &str) -> Option<u32>
-    ensures { result ≡ wrap_of word.now }
-{
-    whole_word(1, 65535, word.as_bytes())
+    /// To break the paragraphs of a file into lines of this width, none worse than this tolerance, in so many lines as
+    /// are best and up to `around` lines more or less.
+    Lines {
+        width: i32,
+        tolerance: u16,
+        around: u8,
+        file: &'a str,
+    },
+    /// To tell the running heads of the best pages, and the references to pages.
+    Heads {
+        style: &'a str,
+        galley: &'a str,
+        wrap: Option<u32>,
+    },
+    /// To tell what the best pages save over first fit.
+    Compare {
+        style: &'a str,
+        galley: &'a str,
+        wrap: Option<u32>,
+    },
+    /// To lay the best pages on sheets that are folded `folds` times, 1 to 4, and put into each other, `nest` at a time,
+    /// 1 to 16.
+    Fold {
+        style: &'a str,
+        galley: &'a str,
+        folds: u8,
+        nest: u8,
+        wrap: Option<u32>,
+    },
 }
 
 // How many paragraphs are made.
@@ -101,89 +102,9 @@ fn is_file_name(word: &str) -> bool
     }
 }
 
-fn is_labels(word: &str) -> bool
-    ensures { result ≡ is_labels_word word.now }
-{
-    word == "--labels"
-}
-
-fn has_value(word: &str) -> bool
-    ensures { result ≡ has_value_word word.now }
-{
-    word == "--height" || word == "--wrap"
-}
-
-// The options with that for labels, which may not stand among them.
-fn with_labels(options: &Options) -> Option<Options>
-    requires { IfSome options.now.height IsHeight }
-    ensures value { result ≡ labels_too options.now }
-    ensures in_range { IfSome result (λ more. IfSome more.height IsHeight) }
-{
-    if options.labels {
-        return None;
-    }
-    Some(Options {
-        labels: true,
-        ..*options
-    })
-}
-
-// The options with one more that has a value, which may not stand among them.
-fn with_option(options: &Options, word: &str, value: &str) -> Option<Options>
-    requires { IfSome options.now.height IsHeight }
-    ensures value { result ≡ one_more options.now word.now value.now }
-    ensures in_range { IfSome result (λ more. IfSome more.height IsHeight) }
-{
-    if word == "--height" {
-        if options.height.is_some() {
-            return None;
-        }
-        let height = height(value)?;
-        Some(Options {
-            height: Some(height),
-            ..*options
-        })
-    } else {
-        if options.wrap.is_some() {
-            return None;
-        }
-        let wrap = wrap_width(value)?;
-        Some(Options {
-            wrap: Some(wrap),
-            ..*options
-        })
-    }
-}
-
-// The options in front, and the names behind them.
-fn split_options(words: &[String]) -> Option<(Options, &[String])>
-    ensures value { option_map (λ x. (x.0, map string_bytes x.1.now)) result
-        ≡ options_in no_options (map string_bytes words.now) }
-    ensures in_range { IfSome result (λ x. IfSome x.0.height IsHeight) }
-{
-    let mut options = Options {
-        height: None,
-        labels: false,
-        wrap: None,
-    };
-    let mut rest = words;
-    'options: while let [word, value, after @ ..] = rest {
-        if is_labels(word.as_str()) {
-            options = with_labels(&options)?;
-            rest = &rest[1..];
-        } else if has_value(word.as_str()) {
-            options = with_option(&options, word.as_str(), value.as_str())?;
-            rest = after;
-        } else {
-            return Some((options, rest));
-        }
-    }
-    Some((options, rest))
-}
-
 // A run with these options and names.
 fn run_job<'a>(options: &Options, names: &'a [String]) -> Option<Job<'a>>
-    requires { IfSome options.now.height IsHeight }
+    requires { AreOptions options.now }
     ensures job { option_map command_in result ≡ run_named options.now (map string_bytes names.now) }
     ensures in_range { IfSome result IsInRange }
 {
@@ -196,7 +117,7 @@ fn run_job<'a>(options: &Options, names: &'a [String]) -> Option<Job<'a>>
 
 // A run with the plain style.
 fn plain_job<'a>(options: &Options, galley: &'a str) -> Option<Job<'a>>
-    requires { IfSome options.now.height IsHeight }
+    requires { AreOptions options.now }
     ensures job { option_map command_in result ≡ run_named options.now (galley.now ∷ []) }
     ensures in_range { IfSome result IsInRange }
 {
@@ -346,10 +267,104 @@ fn named_check<'a>(
     }
 }
 
-// What the command of this name asks for, with these options and names.
-fn named_job<'a>(name: &str, options: &Options, names: &'a [String]) -> Option<Job<'a>>
-    requires { IfSome options.now.height IsHeight }
-    ensures job { option_map command_in result ≡ job_of name.now (options.now, map string_bytes names.now) }
+// The style and the galley of a command that tells of pages.
+fn page_files<'a>(options: &Options, names: &'a [String]) -> Option<(&'a str, &'a str)>
+    ensures { option_map (λ x. (x.0.now, x.1.now)) result ≡ two_files options.now (map string_bytes names.now) }
+{
+    let [style, galley] = names else {
+        return None;
+    };
+    let style = style.as_str();
+    let galley = galley.as_str();
+    if is_file_name(style)
+        && (is_file_name(galley) && !(options.height.is_some() || options.labels))
+    {
+        Some((style, galley))
+    } else {
+        None
+    }
+}
+
+// The heads of pages, with these options and names.
+fn heads_job<'a>(options: &Options, names: &'a [String]) -> Option<Job<'a>>
+    ensures job { option_map command_in result ≡ pages_named heads options.now (map string_bytes names.now) }
+    ensures in_range { IfSome result IsInRange }
+{
+    let (style, galley) = page_files(options, names)?;
+    Some(Job::Heads {
+        style,
+        galley,
+        wrap: options.wrap,
+    })
+}
+
+// First fit beside the best pages, with these options and names.
+fn compare_job<'a>(options: &Options, names: &'a [String]) -> Option<Job<'a>>
+    ensures job { option_map command_in result ≡ pages_named compare options.now (map string_bytes names.now) }
+    ensures in_range { IfSome result IsInRange }
+{
+    let (style, galley) = page_files(options, names)?;
+    Some(Job::Compare {
+        style,
+        galley,
+        wrap: options.wrap,
+    })
+}
+
+// Lines with these options and names.
+fn lines_job<'a>(options: &Options, names: &'a [String]) -> Option<Job<'a>>
+    requires { AreOptions options.now }
+    ensures job { option_map command_in result ≡ lines_named options.now (map string_bytes names.now) }
+    ensures in_range { IfSome result IsInRange }
+{
+    let [file] = names else {
+        return None;
+    };
+    let file = file.as_str();
+    if !is_file_name(file)
+        || options.height.is_some()
+        || options.labels
+        || options.wrap.is_some()
+        || has_folding(options)
+    {
+        return None;
+    }
+    let width = options.width?;
+    let tolerance = options.tolerance?;
+    let around = options.around?;
+    Some(Job::Lines {
+        width,
+        tolerance,
+        around,
+        file,
+    })
+}
+
+// Sheets with these options and names.
+fn fold_job<'a>(options: &Options, names: &'a [String]) -> Option<Job<'a>>
+    requires { AreOptions options.now }
+    ensures job { option_map command_in result ≡ fold_named options.now (map string_bytes names.now) }
+    ensures in_range { IfSome result IsInRange }
+{
+    let (style, galley) = page_files(options, names)?;
+    if has_line_rule(options) {
+        return None;
+    }
+    let folds = options.folds?;
+    let nest = options.nest?;
+    Some(Job::Fold {
+        style,
+        galley,
+        folds,
+        nest,
+        wrap: options.wrap,
+    })
+}
+
+// What a command that breaks no paragraphs and folds no sheets asks for, with these options and names.
+fn plain_command<'a>(name: &str, options: &Options, names: &'a [String]) -> Option<Job<'a>>
+    requires { AreOptions options.now }
+    ensures job { option_map command_in result ≡ plain_job_of name.now options.now (map string_bytes names.now) }
     ensures in_range { IfSome result IsInRange }
 {
     match name {
@@ -358,17 +373,40 @@ fn named_job<'a>(name: &str, options: &Options, names: &'a [String]) -> Option<J
         "make" => make_job(options, names),
         "check" => check_job(options, names),
         "edit" => edit_job(options, names),
+        "heads" => heads_job(options, names),
+        "compare" => compare_job(options, names),
         _ => None,
+    }
+}
+
+// What the command of this name asks for, with these options and names.
+fn named_job<'a>(name: &str, options: &Options, names: &'a [String]) -> Option<Job<'a>>
+    requires { AreOptions options.now }
+    ensures job { option_map command_in result ≡ job_of name.now (options.now, map string_bytes names.now) }
+    ensures in_range { IfSome result IsInRange }
+{
+    match name {
+        "lines" => lines_job(options, names),
+        "fold" => fold_job(options, names),
+        _ => {
+            if has_line_rule(options) || has_folding(options) {
+                None
+            } else {
+                plain_command(name, options, names)
+            }
+        }
     }
 }
 
 /// What the words after the program's name ask for, or None where they are no command.
 ///
 /// A command is `run [--labels] [--wrap W] STYLE GALLEY`, `run [--labels] --height H [--wrap W] GALLEY`,
-/// `edit [--labels] [--wrap W] STYLE GALLEY SCRIPT`, `check [--wrap W] STYLE GALLEY OUTPUT`, `show [--wrap W] GALLEY`
-/// or `make N`. Options stand between the command and the names, in any order, each at most once; H and W stand as the
-/// next word behind their options. H is wholly a scaled number above 0 and below 16384, W is 1 to 65535 and N is 0 to
-/// 2000, both in 1 to 10 digits, and a name is not empty and does not begin with a minus. No memory is taken.
+/// `edit [--labels] [--wrap W] STYLE GALLEY SCRIPT`, `check [--wrap W] STYLE GALLEY OUTPUT`, `show [--wrap W] GALLEY`,
+/// `make N`, `lines --width L --tolerance T --around K FILE`, `heads [--wrap W] STYLE GALLEY`,
+/// `compare [--wrap W] STYLE GALLEY` or `fold --folds F --nest S [--wrap W] STYLE GALLEY`. Options stand between the
+/// command and the names, in any order, each at most once, and the value of one as the next word behind it. H and L are
+/// wholly a scaled number above 0 and below 16384. W is 1 to 65535, N is 0 to 2000, T is 0 to 10000, K is 0 to 2, F is 1
+/// to 4 and S is 1 to 16, each in 1 to 10 digits. A name is not empty and does not begin with a minus. No memory is taken.
 pub fn command(words: &Vec<String>) -> Option<Job<'_>>
     ensures command { option_map command_in result ≡ command_of (texts_of words.now) }
     ensures in_range { IfSome result IsInRange }

@@ -1,10 +1,10 @@
 use Rattle.std.proofs.Common.{◌≡◌, ◌∙◌, ℕ, ap, sym, arith, List, ◌-◌, take, drop, length}
 use Rattle.std.specs.Prelude.{Some, map}
 use Rattle.std.specs.String.{string_bytes}
-use Rattle.pg_command.specs.Words.{has_value, is_labels, with_option, options_in}
+use Rattle.pg_command.specs.Words.{is_labels, option_named, with_option, options_in}
 use Rattle.pg_command.proofs.WordLemmas.{one_word, two_words, some_left, few_words, no_option, an_option, bad_option}
 use Rattle.pg_command.proofs.WordLemmas.{labels_more, labels_twice}
-use Rattle.pg_command.proofs.words.split_options.Goals as goal
+use Rattle.pg_command.proofs.options.split_options.Goals as goal
 
 pub returns-in_err-options-clause-value : goal.returns-in_err-options-clause-value
 returns-in_err-options-clause-value c =
@@ -39,16 +39,15 @@ returns-in_err-options-2-clause-value c =
     c.in-len2-up.len_at_least c.word-item.is c.value-item.is in
     let labels : is_labels (string_bytes c.word-item.result) ≡ _ =
     ap is_labels (sym c.as_str.ensures.value) ∙ sym c.is_labels.ensures ∙ c.if-is_labels.false in
-    let valued : has_value (string_bytes c.word-item.result) ≡ _ =
-    ap has_value (sym c.as_str-else-is_labels.ensures.value) ∙ sym c.has_value.ensures ∙ c.if-has_value.true in
-    let option = ap (λ (word : List ℕ). with_option c.options.options word (string_bytes c.value-item.result))
-    (sym c.as_str-then-has_value.ensures.value)
-    ∙ ap (λ (value : List ℕ). with_option c.options.options c.as_str-then-has_value.result.now value)
-    (sym c.as_str-then-has_value-2.ensures.value) ∙ sym c.in_err-options-2.ensures.value in
+    let named : option_named (string_bytes c.word-item.result) ≡ _ =
+    ap option_named (sym c.as_str-else-is_labels.ensures.value) ∙ sym c.option_name.ensures ∙ c.in-Some.is in
+    let option = ap (λ (value : List ℕ). with_option c.options.options c.in-Some.name value)
+    (sym c.as_str-in-Some.ensures.value) ∙ sym c.in_err-options-2.ensures.value in
     rw c.from_residual-in_err-options-2.ensures
     (sym (c.options.invariant.said ∙ ap (options_in c.options.options) two
     ∙ bad_option c.options.options (string_bytes c.word-item.result) (string_bytes c.value-item.result)
-    (map string_bytes (take (length c.options.rest.now - 2) (drop 2 c.options.rest.now))) labels valued option))
+    (map string_bytes (take (length c.options.rest.now - 2) (drop 2 c.options.rest.now))) c.in-Some.name labels named
+    option))
 
 pub options-preserved : goal.options-preserved
 options-preserved c =
@@ -56,31 +55,29 @@ options-preserved c =
     c.in-len2-up.len_at_least c.word-item.is c.value-item.is in
     let labels : is_labels (string_bytes c.word-item.result) ≡ _ =
     ap is_labels (sym c.as_str.ensures.value) ∙ sym c.is_labels.ensures ∙ c.if-is_labels.false in
-    let valued : has_value (string_bytes c.word-item.result) ≡ _ =
-    ap has_value (sym c.as_str-else-is_labels.ensures.value) ∙ sym c.has_value.ensures ∙ c.if-has_value.true in
-    let option = ap (λ (word : List ℕ). with_option c.options.options word (string_bytes c.value-item.result))
-    (sym c.as_str-then-has_value.ensures.value)
-    ∙ ap (λ (value : List ℕ). with_option c.options.options c.as_str-then-has_value.result.now value)
-    (sym c.as_str-then-has_value-2.ensures.value) ∙ sym c.in_ok-options-2.ensures.value in
+    let named : option_named (string_bytes c.word-item.result) ≡ _ =
+    ap option_named (sym c.as_str-else-is_labels.ensures.value) ∙ sym c.option_name.ensures ∙ c.in-Some.is in
+    let option = ap (λ (value : List ℕ). with_option c.options.options c.in-Some.name value)
+    (sym c.as_str-in-Some.ensures.value) ∙ sym c.in_ok-options-2.ensures.value in
     record {
       said = c.options.invariant.said ∙ ap (options_in c.options.options) two
           ∙ an_option c.options.options (string_bytes c.word-item.result) (string_bytes c.value-item.result)
-          (map string_bytes (take (length c.options.rest.now - 2) (drop 2 c.options.rest.now)))
-          c.in_ok-options-2.options labels valued option;
+          (map string_bytes (take (length c.options.rest.now - 2) (drop 2 c.options.rest.now))) c.in-Some.name
+          c.in_ok-options-2.options labels named option;
       in_range = c.in_ok-options-2.ensures.in_range;
     }
 
-pub returns-else-has_value-clause-value : goal.returns-else-has_value-clause-value
-returns-else-has_value-clause-value c =
+pub returns-in_default-option_name-clause-value : goal.returns-in_default-option_name-clause-value
+returns-in_default-option_name-clause-value c =
     let two = two_words string_bytes c.options.rest.now c.word-item.result c.value-item.result
     c.in-len2-up.len_at_least c.word-item.is c.value-item.is in
     let labels : is_labels (string_bytes c.word-item.result) ≡ _ =
     ap is_labels (sym c.as_str.ensures.value) ∙ sym c.is_labels.ensures ∙ c.if-is_labels.false in
-    let valued : has_value (string_bytes c.word-item.result) ≡ _ =
-    ap has_value (sym c.as_str-else-is_labels.ensures.value) ∙ sym c.has_value.ensures ∙ c.if-has_value.false in
+    let named : option_named (string_bytes c.word-item.result) ≡ _ =
+    ap option_named (sym c.as_str-else-is_labels.ensures.value) ∙ sym c.option_name.ensures ∙ c.in_default-option_name.is in
     sym (c.options.invariant.said ∙ ap (options_in c.options.options) two
     ∙ no_option c.options.options (string_bytes c.word-item.result) (string_bytes c.value-item.result)
-    (map string_bytes (take (length c.options.rest.now - 2) (drop 2 c.options.rest.now))) labels valued
+    (map string_bytes (take (length c.options.rest.now - 2) (drop 2 c.options.rest.now))) labels named
     ∙ ap (λ (words : List (List ℕ)). Some (c.options.options, words)) (sym two))
 
 pub returns-clause-value : goal.returns-clause-value

@@ -1,0 +1,2 @@
+pub mod FewPages
+pub mod ShortFits
