@@ -86,7 +86,8 @@ in_range low high word = by (digit_count word == length word && is_word_length (
     by : (b : Bool) (n : ℕ) →
         IfSome (if b then (if nat_le low n && nat_le n high then Some n else None) else None)
         (λ (m : ℕ). (low ≤ m) × (m ≤ high))
-    by true n = taken (nat_le low n && nat_le n high) n (λ e. (grind (arith, nat_tests, e), grind (arith, nat_tests, e)))
+    by true n = taken (nat_le low n && nat_le n high) n
+        (λ e. (grind (arith, nat_tests, e), grind (arith, nat_tests, e)))
     by false n = tt
 
 -- the number that is taken

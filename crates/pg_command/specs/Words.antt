@@ -219,7 +219,8 @@ options_in options (word ∷ value ∷ words) =
     if is_labels word
     then option_and_then (λ (more : Options). options_in more (value ∷ words)) (with_labels options)
     else option_map_or
-    (λ (name : OptionName). option_and_then (λ (more : Options). options_in more words) (with_option options name value))
+    (λ (name : OptionName). option_and_then (λ (more : Options). options_in more words)
+    (with_option options name value))
     (option_named word)
     (Some (options, word ∷ value ∷ words))
 

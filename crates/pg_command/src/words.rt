@@ -1,10 +1,10 @@
 //! The words of a command.
-ghost use Rattle.std.specs.Prelude.{◌≡◌, ◌≤◌, ◌∷◌, [], IfSome, map, Option, ℕ, List};
+ghost use Rattle.std.specs.Prelude.{◌≡◌, ◌≤◌, ◌∷◌, [], IfSome, map};
 ghost use Rattle.std.specs.Option.{option_map};
 ghost use Rattle.std.specs.String.{string_bytes};
-ghost use Rattle.pg_command.specs.Words.{command_in, command_of, texts_of, is_name, job_of, plain_job_of};
-ghost use Rattle.pg_command.specs.Words.{run_named, edit_named, show_named, make_named, check_named};
-ghost use Rattle.pg_command.specs.Words.{lines_named, pages_named, fold_named, heads, compare, paragraphs_of, two_files};
+ghost use Rattle.pg_command.specs.Words.{command_in, command_of, texts_of, is_name, job_of, paragraphs_of};
+ghost use Rattle.pg_command.specs.Words.{plain_job_of, run_named, edit_named, show_named, make_named, check_named};
+ghost use Rattle.pg_command.specs.Words.{lines_named, pages_named, fold_named, heads, compare, two_files};
 ghost use Rattle.pg_command.specs.Words.{AreOptions, IsInRange};
 
 use crate::options::{Options, has_folding, has_line_rule, split_options};
@@ -74,8 +74,8 @@ pub enum Job<'a> {
         galley: &'a str,
         wrap: Option<u32>,
     },
-    /// To lay the best pages on sheets that are folded `folds` times, 1 to 4, and put into each other, `nest` at a time,
-    /// 1 to 16.
+    /// To lay the best pages on sheets that are folded `folds` times, 1 to 4, and put into each other, `nest` of them at
+    /// a time, 1 to 16.
     Fold {
         style: &'a str,
         galley: &'a str,
@@ -405,8 +405,9 @@ fn named_job<'a>(name: &str, options: &Options, names: &'a [String]) -> Option<J
 /// `make N`, `lines --width L --tolerance T --around K FILE`, `heads [--wrap W] STYLE GALLEY`,
 /// `compare [--wrap W] STYLE GALLEY` or `fold --folds F --nest S [--wrap W] STYLE GALLEY`. Options stand between the
 /// command and the names, in any order, each at most once, and the value of one as the next word behind it. H and L are
-/// wholly a scaled number above 0 and below 16384. W is 1 to 65535, N is 0 to 2000, T is 0 to 10000, K is 0 to 2, F is 1
-/// to 4 and S is 1 to 16, each in 1 to 10 digits. A name is not empty and does not begin with a minus. No memory is taken.
+/// wholly a scaled number above 0 and below 16384. W is 1 to 65535, N is 0 to 2000, T is 0 to 10000, K is 0 to 2, F is
+/// 1 to 4 and S is 1 to 16, each in 1 to 10 digits. A name is not empty and does not begin with a minus. No memory is
+/// taken.
 pub fn command(words: &Vec<String>) -> Option<Job<'_>>
     ensures command { option_map command_in result ≡ command_of (texts_of words.now) }
     ensures in_range { IfSome result IsInRange }

@@ -8,4 +8,5 @@ overflow_cast-result c =
     record { fits = omega (arith, taken.1) }
 
 pub returns-clause-in_range : goal.returns-clause-in_range
-returns-clause-in_range c = (number_taken 0 10000 c.as_bytes.result.now c.in_ok-tolerance.tolerance c.in_ok-tolerance.ensures).1
+returns-clause-in_range c =
+    (number_taken 0 10000 c.as_bytes.result.now c.in_ok-tolerance.tolerance c.in_ok-tolerance.ensures).1

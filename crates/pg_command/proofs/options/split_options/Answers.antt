@@ -74,7 +74,8 @@ returns-in_default-option_name-clause-value c =
     let labels : is_labels (string_bytes c.word-item.result) ≡ _ =
     ap is_labels (sym c.as_str.ensures.value) ∙ sym c.is_labels.ensures ∙ c.if-is_labels.false in
     let named : option_named (string_bytes c.word-item.result) ≡ _ =
-    ap option_named (sym c.as_str-else-is_labels.ensures.value) ∙ sym c.option_name.ensures ∙ c.in_default-option_name.is in
+    ap option_named (sym c.as_str-else-is_labels.ensures.value) ∙ sym c.option_name.ensures
+    ∙ c.in_default-option_name.is in
     sym (c.options.invariant.said ∙ ap (options_in c.options.options) two
     ∙ no_option c.options.options (string_bytes c.word-item.result) (string_bytes c.value-item.result)
     (map string_bytes (take (length c.options.rest.now - 2) (drop 2 c.options.rest.now))) labels named
