@@ -8,3 +8,4 @@ pub mod Counts
 pub mod Scripts
 pub mod Stepping
 pub mod Labelled
+pub mod Paragraphs
