@@ -1,5 +1,5 @@
 -- The text of heads, one more at its end.
-use Rattle.std.proofs.Common.{◌≡◌, sym, ap, ◌∙◌, ℕ, suc, ◌+◌, ◌<◌, List, [], ◌∷◌, ◌++◌, length, take, get_or, append_assoc, append-nil, length-take, take-suc, take-take, arith}
+use Rattle.std.proofs.Common.{◌≡◌, sym, ap, ◌∙◌, ℕ, suc, ◌+◌, ◌<◌, List, [], ◌∷◌, ◌++◌, length, take, get_or, append_assoc, append-nil, length-take, arith}
 use Rattle.pg_lemmas.proofs.Lists.{one_more}
 use Rattle.pg_marks.specs.HeadsText.{head_line, heads_text}
 use Rattle.pg_marks.specs.declared.lists.Head.{Head}

@@ -1,7 +1,9 @@
--- What kept labels tell; nobody need believe this.
-use Rattle.std.specs.Prelude.{ℕ, List, map}
-use Rattle.pg_marks.specs.declared.uses.Label.{Label}
+-- What a map of labels tells; nobody need believe this.
+use Rattle.std.specs.Prelude.{ℕ, List, Option}
+use Rattle.std.specs.HashMap.{HashMap, get_by}
+use Rattle.std.specs.Str.{bytes_eq}
+use denote.Ref.{Bor}
 
--- each name with its page
-abbrev pub told : List Label → List (List ℕ × ℕ)
-told labels = map (λ (label : Label). (label.name.now, label.page)) labels
+-- the page that is kept for a name
+unfoldable pub page_in : {S : Type 0} → HashMap (Bor (List ℕ)) ℕ S → List ℕ → Option ℕ
+page_in labels name = get_by (λ key. bytes_eq name key.now) labels

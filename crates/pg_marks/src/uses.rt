@@ -2,9 +2,10 @@
 ghost use Rattle.std.specs.Prelude.{◌≡◌, ◌<◌, ◌+◌, ◌^◌, ◌++◌, IfOk, OnOk, length, map, List, ℕ};
 ghost use Rattle.pg_column_text.specs.Between.{behind};
 ghost use Rattle.pg_marks.specs.Fitting.{AllFit};
+ghost use Rattle.pg_marks.specs.Carries.{label_of as label_in};
 ghost use Rattle.pg_marks.specs.Heads.{references as references_of};
-ghost use Rattle.pg_marks.specs.Walked.{first_page, label_on, labels_from, labels_on, page_text, use_on, uses_from, uses_on};
-ghost use Rattle.pg_marks.specs.Told.{told};
+ghost use Rattle.pg_marks.specs.Walked.{label_behind, labelled, labels_from, labels_on, no_pages, page_text, use_on, uses_from, uses_on};
+ghost use Rattle.pg_marks.specs.Told.{page_in};
 
 use crate::carries::{label_of, use_of};
 use crate::lists::{Reference, ReferenceList};
@@ -12,74 +13,76 @@ use crate::page_items::page_items;
 use pg_list::{Bytes, Galley, Item};
 use pg_plan::{Page, Pagination};
 use std::alloc::{AllocError, Global};
+use std::collections::HashMap;
 
-/// A label and the page on which it stands.
-#[derive(Clone, Copy)]
-pub struct Label<'a> {
-    pub name: &'a [u8],
-    pub page: u32,
-}
+// The page of the first label of each name.
+type LabelPages<'a> = HashMap<&'a [u8], u32>;
 
-// Adds an item that is a label.
-fn push_label<'a>(item: &'a Item, page: u32, labels: &mut Vec<Label<'a>>) -> Result<(), AllocError>
-    ensures { OnOk result (told labels.new.items ≡ told labels.old.items ++ label_on page item.now) }
+// Keeps the page of a label, unless there is one of its name.
+fn keep_first<'a>(name: &'a [u8], page: u32, labels: &mut LabelPages<'a>) -> Result<(), AllocError>
+    ensures { OnOk result (page_in labels.new ≡ label_behind (page_in labels.old) page name.now) }
 {
-    if let Some(name) = label_of(item) {
-        labels.push(Label { name, page })?;
+    if !labels.contains_key(name) {
+        labels.insert(name, page)?;
     }
     Ok(())
 }
 
-// Adds the labels among items.
-fn push_labels<'a>(
+// Keeps the page of an item that is a label.
+fn keep_label<'a>(item: &'a Item, page: u32, labels: &mut LabelPages<'a>) -> Result<(), AllocError>
+    ensures { OnOk result (page_in labels.new ≡ labelled (page_in labels.old) page (label_in item.now)) }
+{
+    if let Some(name) = label_of(item) {
+        keep_first(name, page, labels)?;
+    }
+    Ok(())
+}
+
+// Keeps the page of the labels among items.
+fn keep_labels<'a>(
     items: &[&'a Item],
     page: u32,
-    labels: &mut Vec<Label<'a>>,
+    labels: &mut LabelPages<'a>,
 ) -> Result<(), AllocError>
-    ensures { OnOk result (told labels.new.items ≡ told labels.old.items ++ labels_on page (behind items.now)) }
+    ensures { OnOk result (page_in labels.new ≡ labels_on (page_in labels.old) page (behind items.now)) }
 {
     let mut rest = items;
     'items: while let [item, after @ ..] = rest {
-        push_label(*item, page, labels)?;
+        keep_label(*item, page, labels)?;
         rest = after;
     }
     Ok(())
 }
 
-// The labels of all pages, in order.
+// The labels of all pages.
 fn all_labels<'a>(
     alloc: Global,
     galley: &'a Galley,
     pages: &[Page],
-) -> Result<Vec<Label<'a>>, AllocError>
+) -> Result<LabelPages<'a>, AllocError>
     requires fit { AllFit galley.now.blocks pages.now }
     requires few { length pages.now < 2 ^ 31 }
-    ensures { IfOk result (λ labels. told labels.items ≡ labels_from 1 (map (page_text galley.now.blocks) pages.now)) }
+    ensures { IfOk result (λ labels.
+        page_in labels ≡ labels_from no_pages 1 (map (page_text galley.now.blocks) pages.now)) }
 {
-    let mut labels = Vec::new(alloc);
+    let mut labels = HashMap::new(alloc);
     let mut number: u32 = 0;
     let mut rest = pages;
     'pages: while let [page, after @ ..] = rest {
         number += 1;
         let items = page_items(alloc, galley, page)?;
-        push_labels(items.as_slice(), number, &mut labels)?;
+        keep_labels(items.as_slice(), number, &mut labels)?;
         rest = after;
     }
     Ok(labels)
 }
 
 // The page of the first label of this name.
-fn page_of(labels: &[Label<'_>], name: &[u8]) -> Option<u32>
-    ensures { result ≡ first_page name.now (told labels.now) }
+#[tactic(auto, unfolding(crate::specs::Told::page_in))]
+fn page_of(labels: &LabelPages<'_>, name: &[u8]) -> Option<u32>
+    ensures { result ≡ page_in labels.now name.now }
 {
-    let mut rest = labels;
-    'labels: while let [label, after @ ..] = rest {
-        if name == label.name {
-            return Some(label.page);
-        }
-        rest = after;
-    }
-    None
+    labels.get(name).copied()
 }
 
 // Adds an item that is a use.
@@ -87,10 +90,10 @@ fn push_use(
     alloc: Global,
     item: &Item,
     on: u32,
-    labels: &[Label<'_>],
+    labels: &LabelPages<'_>,
     references: &mut ReferenceList,
 ) -> Result<(), AllocError>
-    ensures { OnOk result (references.new ≡ references.old ++ use_on (told labels.now) on item.now) }
+    ensures { OnOk result (references.new ≡ references.old ++ use_on (page_in labels.now) on item.now) }
 {
     if let Some(name) = use_of(item) {
         references.push(Reference {
@@ -107,10 +110,10 @@ fn push_uses(
     alloc: Global,
     items: &[&Item],
     on: u32,
-    labels: &[Label<'_>],
+    labels: &LabelPages<'_>,
     references: &mut ReferenceList,
 ) -> Result<(), AllocError>
-    ensures { OnOk result (references.new ≡ references.old ++ uses_on (told labels.now) on (behind items.now)) }
+    ensures { OnOk result (references.new ≡ references.old ++ uses_on (page_in labels.now) on (behind items.now)) }
 {
     let mut rest = items;
     'items: while let [item, after @ ..] = rest {
@@ -125,13 +128,13 @@ fn push_all(
     alloc: Global,
     galley: &Galley,
     pages: &[Page],
-    labels: &[Label<'_>],
+    labels: &LabelPages<'_>,
     references: &mut ReferenceList,
 ) -> Result<(), AllocError>
     requires fit { AllFit galley.now.blocks pages.now }
     requires few { length pages.now < 2 ^ 31 }
     ensures { OnOk result (references.new ≡ references.old
-        ++ uses_from (told labels.now) 1 (map (page_text galley.now.blocks) pages.now)) }
+        ++ uses_from (page_in labels.now) 1 (map (page_text galley.now.blocks) pages.now)) }
 {
     let mut number: u32 = 0;
     let mut rest = pages;
@@ -148,7 +151,7 @@ fn push_all(
 /// exactly where no item of the pages is such a label. Pages are counted from 1.
 ///
 /// Conditions: each column fits the galley, as those of a legal pagination do (`legal_columns_fit` of pg_mark_laws), and
-/// there are fewer than 2^31 pages. The only refusal is for want of memory. For each use the labels are looked through.
+/// there are fewer than 2^31 pages. The only refusal is for want of memory.
 pub fn references(
     alloc: Global,
     galley: &Galley,
@@ -161,6 +164,6 @@ pub fn references(
     let pages = plan.pages.as_slice();
     let labels = all_labels(alloc, galley, pages)?;
     let mut references = ReferenceList::new(alloc);
-    push_all(alloc, galley, pages, labels.as_slice(), &mut references)?;
+    push_all(alloc, galley, pages, &labels, &mut references)?;
     Ok(references)
 }
