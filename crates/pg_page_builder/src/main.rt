@@ -1,15 +1,15 @@
 //! Builds pages as TeX does, from the parts that are proved to be the definitions, and says what TeX says under
 //! `\tracingpages`: `pg_page_builder STYLE GALLEY [STYLE GALLEY]..`.
 //!
-//! Its stored run holds it to what TeX itself said of three documents, break by break, and to where TeX ended each page:
-//! a story set by plain TeX (TeX Live 2022) in six measures, one after another, with a page's end forced behind each;
-//! and LaTeX's two sample documents, in the longer of which one page has a footnote. Their listings stand in data/ without
-//! what stands within the lines. A page is a line with the block at which it starts, and a line for each break behind its
-//! first box that TeX looked at: the total, the goal, the shrink, the badness, `*` where the page is over full, and the
-//! penalty. Of the samples the last page is left out, which LaTeX added to those of the galley, and so are the breaks in
-//! front of a page's first box, at the glue that TeX puts above it, and those at what LaTeX put behind the galley to end
-//! its last page. LaTeX gives the space above the footnote some stretch and shrink, which a style has not: behind the
-//! footnote shrink and badness are `-` here, and badness is held to TeX's in pg_parts.
+//! Its stored run holds it to what TeX itself said of three documents, break by break, and to where TeX ended each
+//! page: a story set by plain TeX (TeX Live 2022) in six measures, one after another, with a page's end forced behind
+//! each; and LaTeX's two sample documents, in the longer of which one page has a footnote. Their listings stand in
+//! data/ without what stands within the lines. A page is a line with the block at which it starts, and a line for each
+//! break behind its first box that TeX looked at: the total, the goal, the shrink, the badness, `*` where the page is
+//! over full, and the penalty. Of the samples the last page is left out, which LaTeX added to those of the galley, and
+//! so are the breaks in front of a page's first box, at the glue that TeX puts above it, and those at what LaTeX put
+//! behind the galley to end its last page. LaTeX gives the space above the footnote some stretch and shrink, which a
+//! style has not: behind the footnote shrink and badness are `-` here, and badness is held to TeX's in pg_parts.
 //!
 //! Behind the pages a line has the blocks at which TeX ended them, the next those at which `first_fit` ends its pages,
 //! and the third whether these are the same.
