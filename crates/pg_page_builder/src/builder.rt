@@ -147,8 +147,8 @@ fn item_of(block: &Block) -> Option<&Item>
     }
 }
 
-// The block at which the page ends that starts at another, with what is said of the breaks behind its first box. None
-// where the galley ends before the page.
+// The block at which the page ends that starts at another, with what is said of the breaks behind its first box. The
+// page on which the galley ends is ended behind it. None where no box is left.
 fn build_page(
     galley: &Galley,
     style: &Style,
@@ -187,13 +187,18 @@ fn build_page(
         rest = after;
         block += 1;
     }
-    Ok(None)
+    Ok(if sums.has_box() { Some(block) } else { None })
 }
 
-/// What is said of all pages: of each the block at which it starts and, for each break behind its first box, the total,
-/// the goal, the shrink, the badness and the penalty. `*` is the badness of a page that is over full; of a page with
-/// notes neither shrink nor badness is said.
-pub fn build(alloc: Global, galley: &Galley, style: &Style) -> Result<Vec<u8>, AllocError> {
+/// What is said of all pages, and where they end: of each the block at which it starts and, for each break behind its
+/// first box, the total, the goal, the shrink, the badness and the penalty. `*` is the badness of a page that is over
+/// full; of a page with notes neither shrink nor badness is said.
+pub fn build(
+    alloc: Global,
+    galley: &Galley,
+    style: &Style,
+    ends: &mut Vec<u32>,
+) -> Result<Vec<u8>, AllocError> {
     let mut out = Vec::new(alloc);
     let mut start = 0;
     for _ in 0..ROOM {
@@ -203,6 +208,7 @@ pub fn build(alloc: Global, galley: &Galley, style: &Style) -> Result<Vec<u8>, A
             Some(end) => {
                 say_page(start, &mut out)?;
                 out.extend_from_slice(&page)?;
+                ends.push(end)?;
                 start = end;
             }
         }

@@ -15,6 +15,7 @@ returns c =
     front ++ uses_from (page_in c.in_ok-labels.labels) 1 (map (page_text blocks) pages))
     c.new-references.ensures
     ∙ (ap (λ (labels : List ℕ → Option ℕ). uses_from labels 1 (map (page_text blocks) pages)) c.in_ok-labels.ensures
-    ∙ (ap (λ (ps : List Page). uses_from (labels_from no_pages 1 (map (page_text blocks) ps)) 1 (map (page_text blocks) ps))
+    ∙ (ap (λ (ps : List Page).
+    uses_from (labels_from no_pages 1 (map (page_text blocks) ps)) 1 (map (page_text blocks) ps))
     c.as_slice-pages.ensures
     ∙ sym (references_found blocks c.args.plan.now.pages))))
