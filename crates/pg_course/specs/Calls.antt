@@ -9,6 +9,10 @@ use Rattle.pg_edits.specs.declared.fault.EditFault.{EditFault}
 use Rattle.pg_edits.specs.declared.fault.EditFault.TheVariants as faults
 use Rattle.pg_check_laws.specs.declared.answers.No.{No}
 use Rattle.pg_check_laws.specs.declared.answers.No.TheVariants as fails
+use Rattle.pg_greedy.specs.declared.fault.GreedyFault.{GreedyFault}
+use Rattle.pg_greedy.specs.declared.fault.GreedyFault.TheVariants as fits
+use Rattle.pg_hlist.specs.declared.item.HItem.{HItem}
+use Rattle.pg_hlist.specs.Reading.{paras_of}
 use Rattle.pg_outside.specs.Outside.{Held, Rose}
 use Rattle.pg_command.specs.declared.ending.Ending.{Ending}
 use Rattle.pg_command.specs.declared.ending.Ending.TheVariants as ending
@@ -98,6 +102,11 @@ ending_of (fault.Class number) = ending.UnknownClass number
 ending_of (fault.Limit count) = ending.TooManyFloats count
 ending_of fault.Memory = ending.Memory
 
+-- how a run ends where a galley has no first fit
+abbrev pub fit_ending : GreedyFault → Ending
+fit_ending fits.Memory = ending.Memory
+fit_ending fault = ending.NoFirstFit fault
+
 -- how a run ends where the edit of a step is refused
 abbrev pub edit_ending : ℕ → EditFault → Ending
 edit_ending step faults.Memory = ending.Memory
@@ -112,6 +121,10 @@ no_ending fault = ending.NotProved fault
 abbrev pub AreRead : List ℕ → List ℕ → Option ℕ → StyleValue → GalleyValue → Held → Type 0
 AreRead style galley wrap s g held =
     (opened_style (named style) held ≡ Ok s) × (opened galley wrap (held galley) ≡ Ok g)
+
+-- some text says these paragraphs
+abbrev pub AreSaid : List (List HItem) → Type 0
+AreSaid paras = (text : List ℕ) × (paras_of text ≡ Ok paras)
 
 -- the promise of a function that writes what a course says of files that were read, by its ending
 pub record Writes (C : List (List ℕ) → Status → List ℕ → Type 0) (out : OverSink) (ending : Ending) : Type 0 where

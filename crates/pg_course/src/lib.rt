@@ -5,14 +5,19 @@
 //! behind it that of the frontier's labels (`specs/Out`); `edit` writes for each show of a script what `run` would write
 //! for the galley as it stands, and takes at most one step for each label that the edits since the show before can reach
 //! (`specs/Counted`); `make` tells of the galley that it makes how many pages and
-//! labels it has and what they cost (`specs/Made`); a yes of `check` shows that what the output text tells is true, and
+//! labels it has and what they cost (`specs/Made`); `lines` writes the galley of the variants of a file's paragraphs, and
+//! what it writes reads back to that galley; a yes of `check` shows that what the output text tells is true, and
 //! a no names the first test that fails (`specs/Verdict`); a check of what `run --labels` writes ends with a yes
 //! (`specs/Complete`).
 #![tactic(auto)]
 
 mod check;
+mod compare;
 mod edit;
+mod fold;
+mod heads;
 mod line;
+mod lines;
 mod make;
 mod open;
 mod paginate;
@@ -22,7 +27,11 @@ mod show;
 mod write;
 
 pub use check::check_course;
+pub use compare::compare_course;
 pub use edit::edit_course;
+pub use fold::fold_course;
+pub use heads::heads_course;
+pub use lines::lines_course;
 pub use make::make_course;
 pub use run::run_course;
 pub use show::show_course;

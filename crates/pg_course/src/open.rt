@@ -3,14 +3,15 @@ ghost use Rattle.std.specs.Prelude.{◌≡◌, ◌≢◌, ◌≤◌, ◌^◌, Ok
 ghost use Rattle.pg_command.specs.declared.status.Status.TheVariants.{Usage};
 ghost use Rattle.pg_command.specs.Words.{style_name, IsStyle};
 ghost use Rattle.pg_command.specs.Lines.{status_of, line_of};
-ghost use Rattle.pg_course.specs.Calls.{NoFile, NoStyle, Stopped, over_shelf};
+ghost use Rattle.pg_course.specs.Calls.{AreSaid, NoFile, NoStyle, Stopped, over_shelf};
 ghost use Rattle.pg_course.specs.Course.{OnSettled, OnReadFault, OnWriteFault, fetched, opened, opened_style};
-ghost use Rattle.pg_course.specs.Course.{said_style, read_by, stop, opened_output, opened_script};
+ghost use Rattle.pg_course.specs.Course.{said_style, read_by, stop, opened_output, opened_paras, opened_script};
 ghost use Rattle.pg_labels.specs.Reading.{IsFew};
 ghost use Rattle.pg_stylefile.specs.Style.{style_of_text};
 
 use pg_command::{Ending, StyleWord};
 use pg_edits::{Script, ScriptKind, read_script};
+use pg_hlist::{Paras, read_paras};
 use pg_labels::{Output, OutputFault, read_output};
 use pg_list::Galley;
 use pg_outside::{Fetch, Shelf};
@@ -168,6 +169,30 @@ pub fn open_script<'a, H: Shelf>(
         Err(fault) => match fault.kind {
             ScriptKind::Memory => Err(Ending::Memory),
             _ => Err(Ending::BadScript(name, fault)),
+        },
+    }
+}
+
+/// Fetches the file of this name and reads its paragraphs, or answers what ends the run.
+pub fn open_paras<'a, H: Shelf>(
+    alloc: Global,
+    name: &'a str,
+    shelf: &mut H,
+) -> Result<Paras, Ending<'a>>
+    ensures paras { IfOk result (λ paras. IfSome (H.held shelf.old) (λ held.
+        opened_paras name.now (held name.now) ≡ Ok paras)) }
+    ensures said { IfOk result AreSaid }
+    ensures stopped { IfErr result (Stopped (λ held. opened_paras name.now (held name.now)) (NoFile name.now)
+        (over_shelf (H.held shelf.old) (H.faults shelf.old) (H.faults shelf.new) (H.last_failed shelf.new))) }
+    ensures same { H.held shelf.new ≡ H.held shelf.old }
+    ensures later { H.faults shelf.old ≤ H.faults shelf.new }
+{
+    let bytes = fetch_file(alloc, name, shelf)?;
+    match read_paras(alloc, &bytes) {
+        Ok(paras) => Ok(paras),
+        Err(fault) => match fault.kind {
+            ListKind::Memory => Err(Ending::Memory),
+            _ => Err(Ending::BadList(name, fault)),
         },
     }
 }

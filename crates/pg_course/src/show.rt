@@ -11,8 +11,8 @@ use pg_outside::{Shelf, Sink};
 use pg_showbox::print_galley;
 use std::alloc::Global;
 
-// Writes the text of a galley in one piece.
-fn write_galley<'a, O: Sink>(alloc: Global, galley: &Galley, out: &mut O) -> Ending<'a>
+/// Writes the text of a galley in one piece, and answers how that ends the run.
+pub fn write_galley<'a, O: Sink>(alloc: Global, galley: &Galley, out: &mut O) -> Ending<'a>
     ensures writes { Writes (ShowGalley galley.now)
         (over_sink (O.written out.old) (O.written out.new) (O.faults out.old) (O.faults out.new)) result }
 {

@@ -1,0 +1,105 @@
+//! The command `lines`.
+ghost use Rattle.std.specs.Prelude.{◌≡◌, Ok, Some};
+ghost use Rattle.pg_command.specs.Words.{IsLineRule, lines as lines_command};
+ghost use Rattle.pg_paragraphs.specs.Laws.{IsRule};
+ghost use Rattle.pg_variants.specs.Answers.{AnswersLines};
+ghost use Rattle.pg_course.specs.Course.{LinesCourse, rule_of};
+ghost use Rattle.pg_course.specs.Calls.{AreSaid, Goes, Writes, over_shelf, over_sink};
+
+use crate::open::open_paras;
+use crate::show::write_galley;
+use pg_command::Ending;
+use pg_hlist::Paras;
+use pg_line_laws::lines_read_back;
+use pg_list::Galley;
+use pg_outside::{Shelf, Sink};
+use pg_paragraphs::{LineFault, LineRule};
+use pg_steps::Steps;
+use pg_variants::break_lines;
+use std::alloc::Global;
+use std::marker::Brand;
+use std::sync::ledger::{Blank, Ledger};
+
+// How paragraphs are broken.
+fn line_rule(width: i32, tolerance: u16, around: u8) -> LineRule
+    requires { IsLineRule width tolerance around }
+    ensures value { result ≡ rule_of width tolerance around }
+    ensures range { IsRule result }
+{
+    LineRule {
+        width,
+        tolerance,
+        around,
+    }
+}
+
+// The galley of paragraphs, with a counter of its own.
+fn counted_galley<L: Ledger>(
+    alloc: Global,
+    paras: &Paras,
+    rule: &LineRule,
+    blank: Blank,
+) -> Result<Galley, LineFault>
+    requires name { blank.name ≡ L.name }
+    requires parts { blank.parts ≡ L.parts }
+    requires one { blank.parts ≡ 1 }
+    requires rule { IsRule rule.now }
+    ensures { AnswersLines rule.now paras.now result }
+{
+    let mut steps = Steps::<L>::new(blank);
+    break_lines(alloc, paras, rule, &mut steps)
+}
+
+// The galley of paragraphs, or the first paragraph at fault.
+fn galley_of(alloc: Global, paras: &Paras, rule: &LineRule) -> Result<Galley, LineFault>
+    requires { IsRule rule.now }
+    ensures { AnswersLines rule.now paras.now result }
+{
+    counted_galley::<Brand>(alloc, paras, rule, Blank::new(1))
+}
+
+// Breaks the paragraphs of the file of this name, and writes their galley in one piece.
+fn write_lines<'a, O: Sink>(
+    alloc: Global,
+    name: &'a str,
+    paras: &Paras,
+    rule: &LineRule,
+    out: &mut O,
+) -> Ending<'a>
+    requires rule { IsRule rule.now }
+    requires said { AreSaid paras.now }
+    ensures writes { Writes (LinesCourse rule.now name.now (Ok paras.now))
+        (over_sink (O.written out.old) (O.written out.new) (O.faults out.old) (O.faults out.new)) result }
+{
+    lines_read_back(rule);
+    match galley_of(alloc, paras, rule) {
+        Ok(galley) => write_galley(alloc, &galley, out),
+        Err(fault) => match fault {
+            LineFault::Memory => Ending::Memory,
+            _ => Ending::BadParagraph(name, fault),
+        },
+    }
+}
+
+/// Breaks the paragraphs of the file of this name into lines of this width, each line at most so bad as the tolerance
+/// allows, in the best number of lines and up to so many around it, and writes their galley in one piece.
+pub fn lines_course<'a, H: Shelf, O: Sink>(
+    alloc: Global,
+    width: i32,
+    tolerance: u16,
+    around: u8,
+    file: &'a str,
+    shelf: &mut H,
+    out: &mut O,
+) -> Ending<'a>
+    requires { IsLineRule width tolerance around }
+    ensures goes { Goes (Some (lines_command width tolerance around file.now))
+        (over_shelf (H.held shelf.old) (H.faults shelf.old) (H.faults shelf.new) (H.last_failed shelf.new))
+        (over_sink (O.written out.old) (O.written out.new) (O.faults out.old) (O.faults out.new)) result }
+{
+    let rule = line_rule(width, tolerance, around);
+    match open_paras(alloc, file, shelf) {
+        Err(ending) => ending,
+        Ok(paras) => write_lines(alloc, file, &paras, &rule, out),
+    }
+}

@@ -1,0 +1,5 @@
+pub mod CleanEnds
+pub mod ReadRanges
+pub mod CleanRead
+pub mod SetLines
+pub mod GalleysShown
