@@ -74,8 +74,8 @@ pub enum Job<'a> {
         galley: &'a str,
         wrap: Option<u32>,
     },
-    /// To lay the best pages on sheets that are folded `folds` times, 1 to 4, and put into each other, `nest` of them at
-    /// a time, 1 to 16.
+    /// To lay the best pages on sheets that are folded `folds` times, 1 to 4, and put into each other, `nest` at a
+    /// time, 1 to 16.
     Fold {
         style: &'a str,
         galley: &'a str,

@@ -26,6 +26,7 @@ use Rattle.pg_course.specs.Course.{CheckCourse, CheckGalley, CheckText, Course, 
 use Rattle.pg_course.specs.Course.{ReadLine, RunCourse, RunGalley, Stop, Stops, StyledCourse, TellAnswer, fetched}
 use Rattle.pg_course.specs.Course.{opened, opened_output, opened_style, read_by, said_galley, said_output, said_style, stop}
 use Rattle.pg_course.specs.Out.{Out, RunOut}
+use Rattle.pg_course.specs.declared.product.Product.TheVariants.{Pages}
 use Rattle.pg_course.specs.Verdict.{Answers}
 use Rattle.pg_course.proofs.Checks.{all_told, earlier_rose, if_some}
 use Rattle.pg_course.proofs.Runs.{on_read_fault}
@@ -93,7 +94,7 @@ both_taken P Q R (Some number) few S text end line many unknown run checked =
 
 -- a run of a galley that is not read writes no text
 no_galley : (style : Result StyleValue Stop) (text : List ℕ) (end : Status) (line : List ℕ) (said : Stop) →
-    StyledCourse true style (Err said) (text ∷ []) end line → ⊥
+    StyledCourse (Pages true) style (Err said) (text ∷ []) end line → ⊥
 no_galley (Ok s) text end line said run = no_text text end line said run
 no_galley (Err other) text end line said run = no_text text end line other run
 
@@ -156,10 +157,11 @@ module _ (style galley output : List ℕ) (wrap : Option ℕ) where
     ends_done : (held : Held) (texts : List (List ℕ)) (status : Status) (line : List ℕ) →
         AreRead style galley wrap s g held → Course This held texts status line → Holds held → status ≡ Done
     ends_done held texts status line (of_style, of_galley) course it =
-        let ran : RunGalley true s g (it.text ∷ []) it.end it.line =
-        subst (λ (r : Result GalleyValue Stop). RunCourse true s r (it.text ∷ []) it.end it.line) of_galley
+        let ran : RunGalley (Pages true) s g (it.text ∷ []) it.end it.line =
+        subst (λ (r : Result GalleyValue Stop). RunCourse (Pages true) s r (it.text ∷ []) it.end it.line) of_galley
         (subst (λ (r : Result StyleValue Stop).
-        StyledCourse true r (opened galley wrap (held galley)) (it.text ∷ []) it.end it.line) of_style it.written) in
+        StyledCourse (Pages true) r (opened galley wrap (held galley)) (it.text ∷ []) it.end it.line) of_style
+        it.written) in
         let checked : CheckGalley s (Ok g) (opened_output output (held output)) texts status line =
         subst (λ (r : Result GalleyValue Stop).
         CheckGalley s r (opened_output output (held output)) texts status line) of_galley
@@ -216,7 +218,7 @@ module _ (style galley output : List ℕ) (wrap : Option ℕ) where
       stopped_complete (opened_style (named style)) style shelf out end
       (λ held why is it. no_text it.text it.end it.line why
       (subst (λ (r : Result StyleValue Stop).
-      StyledCourse true r (opened galley wrap (held galley)) (it.text ∷ []) it.end it.line) is it.written))
+      StyledCourse (Pages true) r (opened galley wrap (held galley)) (it.text ∷ []) it.end it.line) is it.written))
       (λ held why none. ap (read_by (λ bytes. said_style style (style_of_text bytes))) none) stopped
 
   pub no_galley_complete : (shelf : OverShelf) (out : OverSink) (end : Ending) →
@@ -226,7 +228,7 @@ module _ (style galley output : List ℕ) (wrap : Option ℕ) where
       stopped_complete (λ held. opened galley wrap (held galley)) galley shelf out end
       (λ held why is it. no_galley (opened_style (named style) held) it.text it.end it.line why
       (subst (λ (r : Result GalleyValue Stop).
-      StyledCourse true (opened_style (named style) held) r (it.text ∷ []) it.end it.line) is it.written))
+      StyledCourse (Pages true) (opened_style (named style) held) r (it.text ∷ []) it.end it.line) is it.written))
       (λ held why none. ap (read_by (λ bytes. said_galley galley (galley_of bytes wrap))) none) stopped
 
   -- ---- the same from an earlier moment of the shelf on

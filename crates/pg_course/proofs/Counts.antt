@@ -1,6 +1,6 @@
 -- The steps of a command, by what was found for its galley.
-use Rattle.std.proofs.Common.{◌≡◌, ◌≤◌, ◌^◌, refl, sym, ap, subst, ℕ, List, [], ◌∷◌, true}
-use Rattle.std.specs.Prelude.{Option, Some, None, Result, Ok, Err, IfSome, OnOk, nat_le}
+use Rattle.std.proofs.Common.{◌≡◌, ◌≤◌, ◌^◌, refl, sym, subst, ℕ, List, [], ◌∷◌, true}
+use Rattle.std.specs.Prelude.{Option, None, Result, Ok, Err, IfSome, OnOk, nat_le}
 use Rattle.pg_list.specs.GalleyValue.{GalleyValue}
 use Rattle.pg_style.specs.Values.{StyleValue}
 use Rattle.pg_floats.specs.AreFloats.{float_total, unknown_class}
@@ -87,14 +87,26 @@ pub taken_counted : (style : StyleValue) (galley : GalleyValue) (shown : List Sh
 taken_counted style galley shown before after known few counted =
     subst (λ (xs : List Show). AreCounted style xs before after) (sym (taken_all style galley shown known few)) counted
 
+-- a session that was solved for its galley as it stands showed it
+pub shown_counted : (old new : SessionValue) (before after : ℕ) → IsShown old new before after →
+    AreCounted old.style (show_of old ∷ []) before after
+shown_counted old new before after shown =
+    all_counted old.style (show_of old ∷ []) before after
+    (show_counted old.style [] old new shown.outcome before before after refl (none_counted old.style before)
+    shown.solved)
+
+-- what is counted of a new session's galley
+pub new_counted : (galley : GalleyValue) (style : StyleValue) (made : SessionValue) (before after : ℕ) →
+    IsNew galley style made → AreCounted made.style (show_of made ∷ []) before after →
+    AreCounted style (one_show galley) before after
+new_counted galley style made before after is counted =
+    subst (λ (session : SessionValue). AreCounted session.style (show_of session ∷ []) before after) is.is counted
+
 -- a new session was solved once
 pub solved_once : (galley : GalleyValue) (style : StyleValue) (made new : SessionValue) (before after : ℕ) →
     IsNew galley style made → IsShown made new before after → AreCounted style (one_show galley) before after
 solved_once galley style made new before after is shown =
-    subst (λ (show : Show). AreCounted style (show ∷ []) before after) (ap show_of is.is)
-    (all_counted style (show_of made ∷ []) before after
-    (show_counted style [] made new shown.outcome before before after (ap (λ (s : SessionValue). s.style) is.is)
-    (none_counted style before) shown.solved))
+    new_counted galley style made before after is (shown_counted made new before after shown)
 
 pub ok_of : {T E P : Type 0} → (r : Result T E) → P → OnOk r P
 ok_of (Ok x) p = p

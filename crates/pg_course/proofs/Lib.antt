@@ -8,4 +8,6 @@ pub mod Counts
 pub mod Scripts
 pub mod Stepping
 pub mod Labelled
+pub mod Fits
 pub mod Paragraphs
+pub mod Stops

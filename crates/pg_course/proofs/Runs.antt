@@ -1,5 +1,5 @@
 -- What a command promises, by what was found for its galley.
-use Rattle.std.proofs.Common.{◌≡◌, ◌≤◌, ◌<◌, ◌^◌, ℕ, Bool, sym, ap, List, [], ◌∷◌, refl, subst, true, false, arith}
+use Rattle.std.proofs.Common.{◌≡◌, ◌≤◌, ◌<◌, ◌^◌, ℕ, sym, ap, List, [], ◌∷◌, refl, subst, true, false, arith}
 use Rattle.std.proofs.Common.{append-nil}
 use Rattle.std.specs.Prelude.{Option, Some, None, Result, Ok, Err, IfSome, nat_le}
 use Rattle.std.specs.Io.KnownBytes.{Appends, Keeps}
@@ -15,12 +15,13 @@ use Rattle.pg_command.specs.declared.ending.Ending.TheVariants as ending
 use Rattle.pg_command.specs.declared.status.Status.{Status}
 use Rattle.pg_command.specs.declared.status.Status.TheVariants.{Done, NoLegal, Usage, Refused, ReadFault, WriteFault}
 use Rattle.pg_command.specs.declared.status.Status.TheVariants.{Memory, NotProved}
-use Rattle.pg_command.specs.Words.{StyleName, run}
+use Rattle.pg_command.specs.Words.{StyleName}
 use Rattle.pg_command.specs.Lines.{line_of, many_line, status_of}
 use Rattle.pg_command.proofs.Fronts.{appends_nothing, front_of_more}
 use Rattle.pg_course.specs.Calls.{OverSink, Writes, ending_of, over_sink}
-use Rattle.pg_course.specs.Course.{Stop, opened, opened_style, OneText, PaginateGalley, RunGalley, RunCourse, OnTaken}
-use Rattle.pg_course.specs.Course.{StyledCourse, EndsBy, BeginsBy, EndedBefore, OnSettled, OnReadFault, OnWriteFault}
+use Rattle.pg_course.specs.Course.{Stop, opened, opened_style, OneText, MakesGalley, RunGalley, RunCourse, OnTaken}
+use Rattle.pg_course.specs.Course.{StyledCourse, EndsBy, BeginsBy, OnSettled, OnReadFault, OnWriteFault}
+use Rattle.pg_course.specs.declared.product.Product.{Product}
 use Rattle.pg_lemmas.proofs.Numbers.{true_le}
 
 pub on_settled : {P Q : Type 0} → (status : Status) → (P → Q) → OnSettled status P → OnSettled status Q
@@ -188,14 +189,14 @@ no_floats C style galley old before float_fault.Memory known = record {
   no_usage = λ e. absurd (cc);
 }
 
--- a galley whose classes the style has and whose floats are few is paginated
-pub taken_writes : (labels : Bool) (style : StyleValue) (galley : GalleyValue) (out : OverSink) (end : Ending) →
+-- what is made of a galley whose classes the style has and whose floats are few
+pub taken_writes : (product : Product) (style : StyleValue) (galley : GalleyValue) (out : OverSink) (end : Ending) →
     unknown_class galley.blocks style ≡ None → float_total galley.blocks style ≤ 2 ^ 12 →
-    Writes (PaginateGalley labels style galley) out end → Writes (RunGalley labels style galley) out end
-taken_writes labels style galley out end known few w =
+    Writes (MakesGalley product style galley) out end → Writes (RunGalley product style galley) out end
+taken_writes product style galley out end known few w =
     let test : nat_le (float_total galley.blocks style) (2 ^ 12) ≡ true =
     true_le (float_total galley.blocks style) (2 ^ 12) few in
-    writes_as (PaginateGalley labels style galley) (RunGalley labels style galley) out end
+    writes_as (MakesGalley product style galley) (RunGalley product style galley) out end
     (λ texts status line course. rw (known, test) course) w
 
 -- a fact of what was read is one of what the shelf tells
@@ -204,23 +205,25 @@ pub when_said : {A : Type 0} (F : Result A Stop → Type 0) (told : Option Held)
 when_said F None said x says h = tt
 when_said F (Some held) said x says h = subst F (sym says) h
 
-styled : (told : Option Held) (chosen : StyleName) (style : StyleValue) (name : List ℕ) (labels : Bool)
+styled : (told : Option Held) (chosen : StyleName) (style : StyleValue) (name : List ℕ) (product : Product)
     (wrap : Option ℕ) (old new : Option (List ℕ)) → IfSome told (λ held. opened_style chosen held ≡ Ok style) →
-    IfSome told (λ held. BeginsBy (RunCourse labels style (opened name wrap (held name))) old new) →
-    IfSome told (λ held. EndedBefore (Some (run chosen name labels wrap)) held old new)
-styled None chosen style name labels wrap old new says h = tt
-styled (Some held) chosen style name labels wrap old new says h =
+    IfSome told (λ held. BeginsBy (RunCourse product style (opened name wrap (held name))) old new) →
+    IfSome told (λ held.
+    BeginsBy (StyledCourse product (opened_style chosen held) (opened name wrap (held name))) old new)
+styled None chosen style name product wrap old new says h = tt
+styled (Some held) chosen style name product wrap old new says h =
     subst (λ (said : Result StyleValue Stop).
-    BeginsBy (StyledCourse labels said (opened name wrap (held name))) old new) (sym says) h
+    BeginsBy (StyledCourse product said (opened name wrap (held name))) old new) (sym says) h
 
 -- the style of a file, and a galley of whose text a front was written
 pub styled_begins : (told mid : Option Held) (chosen : StyleName) (style : StyleValue) (name : List ℕ)
-    (labels : Bool) (wrap : Option ℕ) (old new : Option (List ℕ)) (status : Status) →
+    (product : Product) (wrap : Option ℕ) (old new : Option (List ℕ)) (status : Status) →
     IfSome told (λ held. opened_style chosen held ≡ Ok style) → mid ≡ told →
     OnWriteFault status (IfSome mid (λ held.
-    BeginsBy (RunCourse labels style (opened name wrap (held name))) old new)) →
-    OnWriteFault status (IfSome told (λ held. EndedBefore (Some (run chosen name labels wrap)) held old new))
-styled_begins told mid chosen style name labels wrap old new status says same h =
-    on_write_fault status (λ front. styled told chosen style name labels wrap old new says
-    (subst (λ (t : Option Held). IfSome t (λ held. BeginsBy (RunCourse labels style (opened name wrap (held name))) old
-    new)) same front)) h
+    BeginsBy (RunCourse product style (opened name wrap (held name))) old new)) →
+    OnWriteFault status (IfSome told (λ held.
+    BeginsBy (StyledCourse product (opened_style chosen held) (opened name wrap (held name))) old new))
+styled_begins told mid chosen style name product wrap old new status says same h =
+    on_write_fault status (λ front. styled told chosen style name product wrap old new says
+    (subst (λ (t : Option Held). IfSome t (λ held.
+    BeginsBy (RunCourse product style (opened name wrap (held name))) old new)) same front)) h

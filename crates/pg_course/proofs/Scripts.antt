@@ -1,16 +1,14 @@
 -- What the command `edit` promises, by what was found for its files.
-use Rattle.std.proofs.Common.{◌≡◌, ◌≤◌, ◌^◌, inl, inr, ℕ, Bool, true, false, ap, sym, subst, List, [], ◌∷◌, refl, take}
+use Rattle.std.proofs.Common.{◌≡◌, ◌≤◌, ◌^◌, inl, inr, ℕ, Bool, true, false, ap, List, [], refl}
 use Rattle.std.specs.Prelude.{Option, Some, None, Result, Ok, Err, IfSome, MatchBool, MatchOption, nat_le}
-use Rattle.std.specs.Io.KnownBytes.{Keeps}
 use Rattle.pg_list.specs.GalleyValue.{GalleyValue}
 use Rattle.pg_showbox.specs.Reading.{galley_of}
 use Rattle.pg_style.specs.Values.{StyleValue}
 use Rattle.pg_stylefile.specs.Style.{style_of_text}
-use Rattle.pg_edits.specs.Script.{script_of}
 use Rattle.pg_edits.specs.declared.script.ScriptStep.{ScriptStep}
 use Rattle.pg_floats.specs.AreFloats.{MakesList, unknown_class, float_total}
 use Rattle.pg_floats.specs.declared.fault.FloatFault.{FloatFault}
-use Rattle.pg_outside.specs.Outside.{Held, Rose}
+use Rattle.pg_outside.specs.Outside.{Held}
 use Rattle.pg_command.specs.declared.ending.Ending.{Ending}
 use Rattle.pg_command.specs.declared.status.Status.{Status}
 use Rattle.pg_command.specs.declared.status.Status.TheVariants.{Done, NoLegal, Usage, Refused, ReadFault, WriteFault}
@@ -20,7 +18,7 @@ use Rattle.pg_command.specs.Lines.{class_line, line_of, many_line, status_of}
 use Rattle.pg_course.specs.Calls.{AreRead, Goes, GoesThrough, NoFile, OverShelf, OverSink, Stopped, WritesOn, WritesTexts}
 use Rattle.pg_course.specs.Calls.{WroteWhole, ending_of, over_shelf, over_sink}
 use Rattle.pg_course.specs.Course.{BeginsBy, Course, CourseFront, EditCourse, EditFront, EditScript, EditSteps, EndsBy}
-use Rattle.pg_course.specs.Course.{Ended, OnMemory, OnReadFault, OnSettled, OnTaken, OnWriteFault, ScriptFront, Stop}
+use Rattle.pg_course.specs.Course.{Ended, OnMemory, OnSettled, OnTaken, ScriptFront, Stop}
 use Rattle.pg_course.specs.Course.{fetched, first_steps, opened, opened_script, opened_style, read_by, said_galley}
 use Rattle.pg_course.specs.Course.{Stops, said_style, stop}
 use Rattle.pg_course.proofs.Checks.{all_told, if_both, if_some, no_front, on_memory, read_line, settled_of}

@@ -9,6 +9,8 @@ use Rattle.pg_edits.specs.declared.fault.EditFault.{EditFault}
 use Rattle.pg_edits.specs.declared.fault.EditFault.TheVariants as faults
 use Rattle.pg_check_laws.specs.declared.answers.No.{No}
 use Rattle.pg_check_laws.specs.declared.answers.No.TheVariants as fails
+use Rattle.pg_greedy.specs.declared.fault.GreedyFault.{GreedyFault}
+use Rattle.pg_greedy.specs.declared.fault.GreedyFault.TheVariants as fits
 use Rattle.pg_hlist.specs.declared.item.HItem.{HItem}
 use Rattle.pg_hlist.specs.Reading.{paras_of}
 use Rattle.pg_outside.specs.Outside.{Held, Rose}
@@ -99,6 +101,11 @@ abbrev pub ending_of : FloatFault → Ending
 ending_of (fault.Class number) = ending.UnknownClass number
 ending_of (fault.Limit count) = ending.TooManyFloats count
 ending_of fault.Memory = ending.Memory
+
+-- how a run ends where a galley has no first fit
+abbrev pub fit_ending : GreedyFault → Ending
+fit_ending fits.Memory = ending.Memory
+fit_ending fault = ending.NoFirstFit fault
 
 -- how a run ends where the edit of a step is refused
 abbrev pub edit_ending : ℕ → EditFault → Ending

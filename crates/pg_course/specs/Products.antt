@@ -1,5 +1,5 @@
 -- What is written for a galley by the commands that tell of its best pages.
-use Rattle.std.specs.Prelude.{◌≡◌, ℕ, List, ◌++◌, length, ℤ, pos, ◌≤ℤ◌, ◌-ℤ◌, Option, Some}
+use Rattle.std.specs.Prelude.{◌≡◌, ℕ, List, ◌++◌, length, pos, ◌≤ℤ◌, ◌-ℤ◌, Some}
 use Rattle.pg_list.specs.GalleyValue.{GalleyValue}
 use Rattle.pg_plan.specs.declared.pages.Pagination.{Pagination}
 use Rattle.pg_style.specs.Values.{StyleValue}
@@ -16,7 +16,17 @@ use Rattle.pg_fold.specs.SheetsText.{fold_text}
 use Rattle.pg_fold.specs.declared.sheets.Sheet.{Sheet}
 use Rattle.pg_command.specs.declared.status.Status.{Status}
 use Rattle.pg_command.specs.declared.status.Status.TheVariants.{Done, NoLegal}
+use Rattle.pg_command.specs.Words.{IsFolds, IsNest}
+use Rattle.pg_course.specs.declared.product.Product.{Product}
+use Rattle.pg_course.specs.declared.product.Product.TheVariants.{Pages, Heads, Comparison, Sheets}
 use Rattle.pg_course.specs.Out.{IsNoneText}
+
+-- sheets are folded and put into each other as often as they may be
+abbrev pub IsProduct : Product → Type 0
+IsProduct (Pages labels) = Unit {0}
+IsProduct Heads = Unit {0}
+IsProduct Comparison = Unit {0}
+IsProduct (Sheets folds nest) = IsFolds folds × IsNest nest
 
 -- the heads of the best pages, and the references
 pub record IsHeadsText (galley : GalleyValue) (style : StyleValue) (text : List ℕ) : Type 0 where
@@ -42,6 +52,13 @@ pub record IsSavedText (galley : GalleyValue) (style : StyleValue) (text : List 
       first_line (length first.pages) (breach galley style first) (cost galley style first) (cost galley style plan)
       ++ best_line (length plan.pages) (cost galley style plan)
 
+-- the pages of a first fit break a rule, and the least with its first column is appended to what was there
+pub record BreaksAt (galley : GalleyValue) (style : StyleValue) (first : Pagination) (old new : List ℕ) : Type 0 where
+  pub rule : ℕ
+  pub column : ℕ
+  pub broken : breach galley style first ≡ Some (rule, column)
+  pub written : new ≡ old ++ (pages_text (length first.pages) ++ broken_text rule column)
+
 -- first fit where no pagination is legal: the least rule that its pages break, and where; and the line for none
 pub record IsUnsavedText (galley : GalleyValue) (style : StyleValue) (text : List ℕ) : Type 0 where
   pub first : Pagination
@@ -58,13 +75,17 @@ CompareOut galley style text Done = IsSavedText galley style text
 CompareOut galley style text NoLegal = IsUnsavedText galley style text
 CompareOut galley style text end = ⊥
 
--- sheets from which, folded and put into each other, the best pages are read in their order, each once
-pub record IsSheetsText (folds nest : ℕ) (galley : GalleyValue) (style : StyleValue) (text : List ℕ) : Type 0 where
-  pub plan : Pagination
-  pub best : Best galley style plan
+-- sheets from which, folded and put into each other, pages are read in their order, each once
+pub record AreSheets (folds nest : ℕ) (plan : Pagination) (text : List ℕ) : Type 0 where
   pub sheets : List Sheet
   pub reads : ReadsInOrder folds nest (length plan.pages) sheets
   pub written : text ≡ fold_text folds nest (length plan.pages) sheets
+
+-- the sheets of the best pages
+pub record IsSheetsText (folds nest : ℕ) (galley : GalleyValue) (style : StyleValue) (text : List ℕ) : Type 0 where
+  pub plan : Pagination
+  pub best : Best galley style plan
+  pub sheets : AreSheets folds nest plan text
 
 -- what is written of sheets and how that ends: those of the best pages, or the line for none
 abbrev pub SheetsOut : ℕ → ℕ → GalleyValue → StyleValue → List ℕ → Status → Type 0

@@ -12,7 +12,10 @@
 #![tactic(auto)]
 
 mod check;
+mod compare;
 mod edit;
+mod fold;
+mod heads;
 mod line;
 mod lines;
 mod make;
@@ -24,7 +27,10 @@ mod show;
 mod write;
 
 pub use check::check_course;
+pub use compare::compare_course;
 pub use edit::edit_course;
+pub use fold::fold_course;
+pub use heads::heads_course;
 pub use lines::lines_course;
 pub use make::make_course;
 pub use run::run_course;

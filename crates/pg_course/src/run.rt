@@ -4,11 +4,13 @@ ghost use Rattle.pg_session.specs.Shows.{AreCounted, one_show};
 ghost use Rattle.pg_command.specs.Lines.{status_of};
 ghost use Rattle.pg_command.specs.Words.{run as run_command, style_name, IsStyle};
 ghost use Rattle.pg_course.specs.Course.{PaginateGalley, RunGalley, RunCourse, opened};
+ghost use Rattle.pg_course.specs.Products.{IsProduct};
 ghost use Rattle.pg_course.specs.Calls.{Goes, GoesOn, Writes, ending_of, over_shelf, over_sink};
 ghost use Rattle.pg_course.specs.Counted.{CountsRun, IsCounted, IsShown, UnlessMemory, taken_shows};
 
 use crate::open::{open_galley, open_style};
 use crate::paginate::page_text_of;
+use crate::product::{Product, write_product};
 use crate::write::write_text;
 use pg_command::{Ending, StyleWord};
 use pg_floats::FloatFault;
@@ -50,38 +52,40 @@ pub fn float_ending<'a>(fault: FloatFault) -> Ending<'a>
     }
 }
 
-// Paginates a galley with a style, if the style has the classes of its inserts and its floats are not too many.
+// Makes this of a galley under a style, if the style has the classes of its inserts and its floats are not too many.
 fn run_galley<'a, O: Sink, L: Ledger>(
     alloc: Global,
     galley: Galley,
     style: Style,
-    labels: bool,
+    product: Product,
     out: &mut O,
     steps: &mut Steps<L>,
 ) -> Ending<'a>
-    ensures writes { Writes (RunGalley labels style galley)
+    requires { IsProduct product }
+    ensures writes { Writes (RunGalley product style galley)
         (over_sink (O.written out.old) (O.written out.new) (O.faults out.old) (O.faults out.new)) result }
     ensures counted { UnlessMemory (status_of result) (AreCounted style
         (taken_shows style galley (one_show galley)) steps.old steps.new) }
 {
     match Session::new(alloc, galley, style) {
         Err(fault) => float_ending(fault),
-        Ok(mut session) => write_shown(alloc, &mut session, labels, out, steps),
+        Ok(mut session) => write_product(alloc, &mut session, product, out, steps),
     }
 }
 
-// Paginates the galley of this name with a style, and writes the text in one piece.
-fn run_file<'a, H: Shelf, O: Sink, L: Ledger>(
+/// Makes this of the galley of this name under a style, and writes the text in one piece.
+pub fn run_file<'a, H: Shelf, O: Sink, L: Ledger>(
     alloc: Global,
     style: Style,
     name: &'a str,
-    labels: bool,
+    product: Product,
     wrap: Option<u32>,
     shelf: &mut H,
     out: &mut O,
     steps: &mut Steps<L>,
 ) -> Ending<'a>
-    ensures goes { GoesOn (λ held. RunCourse labels style (opened name.now wrap (held name.now))) name.now
+    requires { IsProduct product }
+    ensures goes { GoesOn (λ held. RunCourse product style (opened name.now wrap (held name.now))) name.now
         (over_shelf (H.held shelf.old) (H.faults shelf.old) (H.faults shelf.new) (H.last_failed shelf.new))
         (over_sink (O.written out.old) (O.written out.new) (O.faults out.old) (O.faults out.new)) result }
     ensures counted { UnlessMemory (status_of result) (IfSome (H.held shelf.old) (λ held.
@@ -89,7 +93,7 @@ fn run_file<'a, H: Shelf, O: Sink, L: Ledger>(
 {
     match open_galley(alloc, name, wrap, shelf) {
         Err(ending) => ending,
-        Ok(galley) => run_galley(alloc, galley, style, labels, out, steps),
+        Ok(galley) => run_galley(alloc, galley, style, product, out, steps),
     }
 }
 
@@ -115,6 +119,15 @@ pub fn run_course<'a, H: Shelf, O: Sink, L: Ledger>(
 {
     match open_style(alloc, style, shelf) {
         Err(ending) => ending,
-        Ok(style) => run_file(alloc, style, name, labels, wrap, shelf, out, steps),
+        Ok(style) => run_file(
+            alloc,
+            style,
+            name,
+            Product::Pages { labels },
+            wrap,
+            shelf,
+            out,
+            steps,
+        ),
     }
 }

@@ -1,6 +1,6 @@
 -- A page's first column rises by its place or by its floats, so that there are no more pages than items and floats.
-use Rattle.std.proofs.Common.{◌≡◌, ◌∙◌, sym, ap, subst, refl, arith, ℕ, zero, suc, ◌+◌, ◌*◌, ◌≤◌, ◌<◌, ◌^◌, ◌⊎◌, inl, inr, Bool, true, false, List, [], ◌∷◌, length, map}
-use Rattle.std.specs.Prelude.{◌==◌, nat_le, if◌then◌else◌, reverse, ℤ}
+use Rattle.std.proofs.Common.{◌≡◌, ◌∙◌, sym, ap, subst, refl, arith, ℕ, suc, ◌+◌, ◌≤◌, ◌<◌, ◌⊎◌, inl, inr, Bool, true, false, List, [], ◌∷◌, length, map}
+use Rattle.std.specs.Prelude.{◌==◌, nat_le, if◌then◌else◌, ℤ}
 use Rattle.std.specs.List.{sum_by}
 use Rattle.std.proofs.lemmas.Bool.{leb-true}
 use Rattle.std.proofs.lemmas.List.{length-map, length-reverse}
@@ -19,10 +19,9 @@ use Rattle.pg_style.specs.Values.{StyleValue}
 use Rattle.pg_flat.specs.Flat.{flat, items_before}
 use Rattle.pg_rules.specs.Cost.{cost}
 use Rattle.pg_rules.specs.Floats.{called, entry, float_numbers, sizes_of, slots, total_count}
-use Rattle.pg_rules.specs.Follow.{Follow}
 use Rattle.pg_rules.specs.History.{next_column}
 use Rattle.pg_rules.specs.IsState.{IsPlace, IsState}
-use Rattle.pg_rules.specs.Legal.{Legal, document}
+use Rattle.pg_rules.specs.Legal.{document}
 use Rattle.pg_rules.specs.NoWorse.{is_same_key}
 use Rattle.pg_rules.specs.Ranges.{AreInRange}
 use Rattle.pg_rules.specs.States.{state_at, state_of}
@@ -73,6 +72,11 @@ called_few before all (number ∷ numbers) h =
 
 -- ---- pages are counted by their first columns
 
+state_is : (g : GalleyValue) (s : StyleValue) (plan : Pagination) →
+    state_at (document g s) (columns plan) ≡ state_of g s plan
+unfolding state_of
+state_is g s plan = refl
+
 -- a column begins a page exactly where the state before it is at a page's first column
 one_page : (is_first : Bool) (page : Page) (column : Column) (pages : List Page) (low high : ℕ) → length pages ≤ low →
     low ≤ high → (is_first ≡ true → low < high) →
@@ -101,12 +105,8 @@ module _ (g : GalleyValue) (s : StyleValue) (range : AreInRange g s)
   column_is ms u c run =
       let it = begins ms u c run in
       let at : state_at (document g s) ms ≡ u =
-      sym (ap (state_at (document g s)) it.columns) ∙ state_is (plan_of s ms) ∙ it.state in
+      sym (ap (state_at (document g s)) it.columns) ∙ state_is g s (plan_of s ms) ∙ it.state in
       ap (λ (x : State). x.column) (sym at)
-    where
-      state_is : (plan : Pagination) → state_at (document g s) (columns plan) ≡ state_of g s plan
-      unfolding state_of
-      state_is plan = refl
 
   more_of : (u v : State) → Climbs (far g.blocks) u v → (u.column == 1) ≡ true → risen u < risen v
   more_of u v climbs first = by climbs.more

@@ -1,5 +1,5 @@
 -- How large legal paginations and first fits are.
-use Rattle.std.specs.Prelude.{◌≡◌, ◌<◌, ◌≤◌, ◌^◌, length, None}
+use Rattle.std.specs.Prelude.{◌<◌, ◌≤◌, ◌^◌, length}
 use Rattle.pg_list.specs.GalleyValue.{GalleyValue}
 use Rattle.pg_plan.specs.Order.{columns}
 use Rattle.pg_plan.specs.declared.pages.Pagination.{Pagination}
@@ -8,7 +8,6 @@ use Rattle.pg_rules.specs.Cost.{cost}
 use Rattle.pg_rules.specs.Legal.{Legal}
 use Rattle.pg_floats.specs.AreFloats.{float_total}
 use Rattle.pg_table.specs.Space.{Small}
-use Rattle.pg_greedy.specs.Faults.{greedy_fault}
 use Rattle.pg_greedy.specs.FirstFit.{IsFirstFit}
 
 -- few pages, and fewer where a list may have all floats; and a cost below 2^60 in size
@@ -26,5 +25,4 @@ pub record IsShortPlan (plan : Pagination) : Type 0 where
   pub columns : length (columns plan) ≤ 2 ^ 20
 
 abbrev pub FirstFitsAreShort : GalleyValue → StyleValue → Type 0
-FirstFitsAreShort galley style = (plan : Pagination) → greedy_fault style galley.blocks ≡ None →
-    IsFirstFit galley style plan → IsShortPlan plan
+FirstFitsAreShort galley style = (plan : Pagination) → IsFirstFit galley style plan → IsShortPlan plan

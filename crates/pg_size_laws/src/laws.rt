@@ -3,9 +3,10 @@
 ghost use Rattle.pg_rules.specs.Ranges.{AreInRange};
 ghost use Rattle.pg_size_laws.specs.Laws.{FirstFitsAreShort, LegalAreSmall};
 
+use pg_beginning_laws::unbroken_plans_keep_rules;
+use pg_greedy::first_fit_is_one;
 use pg_list::Galley;
 use pg_space_laws::{pages_are_a_space, runs_are_beginnings};
-use pg_beginning_laws::unbroken_plans_keep_rules;
 use pg_style::Style;
 
 /// A legal pagination has fewer than 2^30 pages, and fewer than 2^21 where there are no more floats than a list of them
@@ -23,4 +24,6 @@ pub fn legal_plans_are_small(galley: &Galley, style: &Style)
 pub fn first_fits_are_short(galley: &Galley, style: &Style)
     requires { AreInRange galley.now style.now }
     ensures { FirstFitsAreShort galley.now style.now }
-{}
+{
+    first_fit_is_one(galley, style);
+}

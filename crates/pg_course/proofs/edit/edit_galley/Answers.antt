@@ -1,8 +1,8 @@
-use Rattle.std.proofs.Common.{◌≡◌, ◌≤◌, ◌^◌, ap, subst, sym}
-use Rattle.std.specs.Prelude.{IfSome, None, Ok, Some}
+use Rattle.std.proofs.Common.{◌≡◌, ◌≤◌, ◌^◌, subst, sym}
+use Rattle.std.specs.Prelude.{None, Ok, Some}
 use Rattle.pg_floats.specs.AreFloats.{float_total, unknown_class}
 use Rattle.pg_session.specs.SessionValue.{SessionValue}
-use Rattle.pg_session.specs.Shows.{Show, show_of, unseen}
+use Rattle.pg_session.specs.Shows.{show_of}
 use Rattle.pg_outside.specs.Outside.{Held}
 use Rattle.pg_command.specs.declared.ending.Ending.{Ending}
 use Rattle.pg_command.specs.Lines.{status_of}

@@ -1,4 +1,3 @@
-use Rattle.std.proofs.Common.{rules}
 use Rattle.pg_course.specs.Calls.{over_sink}
 use Rattle.pg_course.proofs.Paragraphs.{lines_stop, lines_write}
 use Rattle.pg_course.proofs.lines.write_lines.Goals as goal

@@ -6,6 +6,7 @@ use Rattle.pg_course.specs.Course.{opened, opened_style}
 use Rattle.pg_course.proofs.Checks.{all_told}
 use Rattle.pg_course.proofs.Counts.{still_run, read_counts, unless_memory, whatever}
 use Rattle.pg_course.proofs.Runs.{styled_begins}
+use Rattle.pg_course.specs.declared.product.Product.TheVariants.{Pages}
 use Rattle.pg_course.proofs.run.run_course.Goals as goal
 
 pub returns-in-Err-clause-counted : goal.returns-in-Err-clause-counted
@@ -22,7 +23,7 @@ returns-in-Ok-clause-goes g c = record {
   write = search rules;
   front =
       styled_begins (g.H.Shelf.held c.args.shelf.now) (g.H.Shelf.held c.open_style.new.shelf)
-      (style_name c.args.style) c.in-Ok.style c.args.name.now c.args.labels c.args.wrap
+      (style_name c.args.style) c.in-Ok.style c.args.name.now (Pages c.args.labels) c.args.wrap
       (g.O.Sink.written c.args.out.now) (g.O.Sink.written c.run_file.new.out)
       (status_of c.run_file.result) c.in-Ok.ensures.style c.open_style.ensures.same
       c.run_file.ensures.goes.front;

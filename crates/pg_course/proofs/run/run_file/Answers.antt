@@ -8,7 +8,16 @@ use Rattle.pg_course.specs.Course.{BeginsBy, EndsBy, RunCourse, Stop, opened}
 use Rattle.pg_course.proofs.Checks.{all_told}
 use Rattle.pg_course.proofs.Counts.{still_run, unless_memory, whatever}
 use Rattle.pg_course.proofs.Runs.{on_settled, on_write_fault, when_said}
+use Rattle.pg_course.specs.Calls.{over_shelf}
+use Rattle.pg_course.proofs.Stops.{stopped_run}
 use Rattle.pg_course.proofs.run.run_file.Goals as goal
+
+pub returns-in-Err-clause-goes : goal.returns-in-Err-clause-goes
+returns-in-Err-clause-goes g c =
+    stopped_run c.args.product c.args.style c.args.name.now c.args.wrap
+    (over_shelf (g.H.Shelf.held c.args.shelf.now) (g.H.Shelf.faults c.args.shelf.now)
+    (g.H.Shelf.faults c.open_galley.new.shelf) (g.H.Shelf.last_failed c.open_galley.new.shelf))
+    (g.O.Sink.written c.args.out.now) (g.O.Sink.faults c.args.out.now) c.in-Err.ending c.in-Err.ensures.stopped
 
 pub returns-in-Err-clause-counted : goal.returns-in-Err-clause-counted
 returns-in-Err-clause-counted g c =
@@ -23,7 +32,7 @@ returns-in-Ok-clause-goes g c =
     record {
       settled =
           on_settled (status_of end) (when_said (λ (said : Result GalleyValue Stop).
-          EndsBy (RunCourse c.args.labels c.args.style said) old new (status_of end) (line_of end))
+          EndsBy (RunCourse c.args.product c.args.style said) old new (status_of end) (line_of end))
           (g.H.Shelf.held c.args.shelf.now)
           (λ (held : Held). opened c.args.name.now c.args.wrap (held c.args.name.now)) c.in-Ok.galley
           c.in-Ok.ensures.galley)
@@ -33,7 +42,7 @@ returns-in-Ok-clause-goes g c =
       write = search rules;
       front =
           on_write_fault (status_of end) (when_said (λ (said : Result GalleyValue Stop).
-          BeginsBy (RunCourse c.args.labels c.args.style said) old new)
+          BeginsBy (RunCourse c.args.product c.args.style said) old new)
           (g.H.Shelf.held c.args.shelf.now)
           (λ (held : Held). opened c.args.name.now c.args.wrap (held c.args.name.now)) c.in-Ok.galley
           c.in-Ok.ensures.galley)

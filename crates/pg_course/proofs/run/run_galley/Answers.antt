@@ -5,17 +5,17 @@ use Rattle.pg_command.specs.Lines.{status_of}
 use Rattle.pg_command.specs.declared.ending.Ending.{Ending}
 use Rattle.pg_course.specs.Calls.{Writes, over_sink}
 use Rattle.pg_course.specs.Counted.{taken_shows}
-use Rattle.pg_course.specs.Course.{PaginateGalley, RunGalley}
-use Rattle.pg_course.proofs.Counts.{solved_once, still_counted, taken_counted, unless_memory, whatever}
+use Rattle.pg_course.specs.Course.{MakesGalley, RunGalley}
+use Rattle.pg_course.proofs.Counts.{new_counted, still_counted, taken_counted, unless_memory, whatever}
 use Rattle.pg_course.proofs.Runs.{no_floats, taken_writes}
 use Rattle.pg_course.proofs.run.run_galley.Goals as goal
 
 pub returns-in-Err-clause-writes : goal.returns-in-Err-clause-writes
 returns-in-Err-clause-writes g c =
-    subst (λ (end : Ending). Writes (RunGalley c.args.labels c.args.style c.args.galley)
+    subst (λ (end : Ending). Writes (RunGalley c.args.product c.args.style c.args.galley)
     (over_sink (g.O.Sink.written c.args.out.now) (g.O.Sink.written c.args.out.now)
     (g.O.Sink.faults c.args.out.now) (g.O.Sink.faults c.args.out.now)) end) (sym c.float_ending.ensures)
-    (no_floats (PaginateGalley c.args.labels c.args.style c.args.galley) c.args.style c.args.galley
+    (no_floats (MakesGalley c.args.product c.args.style c.args.galley) c.args.style c.args.galley
     (g.O.Sink.written c.args.out.now) (g.O.Sink.faults c.args.out.now) c.in-Err.fault c.in-Err.ensures)
 
 pub returns-in-Err-clause-counted : goal.returns-in-Err-clause-counted
@@ -25,17 +25,17 @@ returns-in-Err-clause-counted g c =
 
 pub returns-in-Ok-clause-writes : goal.returns-in-Ok-clause-writes
 returns-in-Ok-clause-writes g c =
-    let out = over_sink (g.O.Sink.written c.args.out.now) (g.O.Sink.written c.write_shown.new.out)
-    (g.O.Sink.faults c.args.out.now) (g.O.Sink.faults c.write_shown.new.out) in
-    taken_writes c.args.labels c.args.style c.args.galley out c.write_shown.result
+    let out = over_sink (g.O.Sink.written c.args.out.now) (g.O.Sink.written c.write_product.new.out)
+    (g.O.Sink.faults c.args.out.now) (g.O.Sink.faults c.write_product.new.out) in
+    taken_writes c.args.product c.args.style c.args.galley out c.write_product.result
     c.in-Ok.ensures.1 c.in-Ok.ensures.2
-    (subst (λ (s : SessionValue). Writes (PaginateGalley c.args.labels s.style s.galley) out c.write_shown.result)
-    c.in-Ok.ensures.0.is c.write_shown.ensures.writes)
+    (subst (λ (s : SessionValue). Writes (MakesGalley c.args.product s.style s.galley) out c.write_product.result)
+    c.in-Ok.ensures.0.is c.write_product.ensures.writes)
 
 pub returns-in-Ok-clause-counted : goal.returns-in-Ok-clause-counted
 returns-in-Ok-clause-counted g c =
-    unless_memory (status_of c.write_shown.result)
-    (λ shown. taken_counted c.args.style c.args.galley (one_show c.args.galley) c.args.steps.now
-    c.write_shown.new.steps c.in-Ok.ensures.1 c.in-Ok.ensures.2
-    (solved_once c.args.galley c.args.style c.in-Ok.session c.write_shown.new.session c.args.steps.now
-    c.write_shown.new.steps c.in-Ok.ensures.0 shown)) c.write_shown.ensures.shown
+    unless_memory (status_of c.write_product.result)
+    (λ counted. taken_counted c.args.style c.args.galley (one_show c.args.galley) c.args.steps.now
+    c.write_product.new.steps c.in-Ok.ensures.1 c.in-Ok.ensures.2
+    (new_counted c.args.galley c.args.style c.in-Ok.session c.args.steps.now c.write_product.new.steps
+    c.in-Ok.ensures.0 counted)) c.write_product.ensures.counted

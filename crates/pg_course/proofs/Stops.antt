@@ -1,0 +1,40 @@
+-- A galley that is not read ends a course behind a style.
+use Rattle.std.proofs.Common.{◌≡◌, ℕ, sym, subst, refl, List, [], Option}
+use Rattle.std.specs.Prelude.{Result, Err}
+use Rattle.pg_list.specs.GalleyValue.{GalleyValue}
+use Rattle.pg_style.specs.Values.{StyleValue}
+use Rattle.pg_outside.specs.Outside.{Held}
+use Rattle.pg_command.specs.declared.ending.Ending.{Ending}
+use Rattle.pg_command.specs.Lines.{line_of, status_of}
+use Rattle.pg_course.specs.Calls.{GoesOn, NoFile, OverShelf, Stopped, over_sink}
+use Rattle.pg_course.specs.Course.{EndsBy, RunCourse, Stop, opened, stop}
+use Rattle.pg_course.specs.declared.product.Product.{Product}
+use Rattle.pg_course.proofs.Checks.{if_some, on_memory}
+use Rattle.pg_course.proofs.Runs.{appends_none, keeps_all, on_read_fault, on_settled, on_write_fault}
+
+stopped_ends : (product : Product) (style : StyleValue) (name : List ℕ) (wrap : Option ℕ) (old : Option (List ℕ))
+    (end : Ending) (held : Held) → opened name wrap (held name) ≡ Err (stop (status_of end) (line_of end)) →
+    EndsBy (RunCourse product style (opened name wrap (held name))) old old (status_of end) (line_of end)
+stopped_ends product style name wrap old end held is = record {
+  texts = [];
+  course =
+      subst (λ (said : Result GalleyValue Stop). RunCourse product style said [] (status_of end) (line_of end)) (sym is)
+      (refl, refl, refl);
+  written = appends_none old;
+}
+
+pub stopped_run : (product : Product) (style : StyleValue) (name : List ℕ) (wrap : Option ℕ) (shelf : OverShelf)
+    (old : Option (List ℕ)) (faults : ℕ) (end : Ending) →
+    Stopped (λ held. opened name wrap (held name)) (NoFile name) shelf end →
+    GoesOn (λ held. RunCourse product style (opened name wrap (held name))) name shelf
+    (over_sink old old faults faults) end
+stopped_run product style name wrap shelf old faults end stopped = record {
+  settled =
+      on_settled (status_of end) (if_some shelf.told (stopped_ends product style name wrap old end)) stopped.settled;
+  read = stopped.read;
+  read_keeps = on_read_fault (status_of end) (λ it. keeps_all old) stopped.read;
+  write = on_write_fault (status_of end) (λ none. absurd none) stopped.no_write;
+  front = on_write_fault (status_of end) (λ none. absurd none) stopped.no_write;
+  memory = on_memory (status_of end) (keeps_all old);
+  no_usage = stopped.no_usage;
+}
