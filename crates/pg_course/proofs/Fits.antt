@@ -85,9 +85,6 @@ pub illegal_line : (pages : ℕ) (fault : Option (ℕ × ℕ)) (rule column : �
     new ≡ old ++ first_line pages fault paid best
 illegal_line pages fault rule column paid best old new is written = rw is written
 
-saving : (a b : ℤ) → b ≤ℤ a → pos 0 ≤ℤ (a -ℤ b)
-saving a b h = omega (arith, ints, h)
-
 -- both lines, in an empty text
 pub both_lines : (galley : GalleyValue) (style : StyleValue) (first plan : Pagination) (paid : ℤ)
     (none one text : List ℕ) → IsFirstFit galley style first → Best galley style plan →
@@ -99,7 +96,7 @@ both_lines galley style first plan paid none one text fit best is empty line las
   fit = fit;
   plan = plan;
   best = best;
-  saved = λ legal. saving (cost galley style first) (cost galley style plan) (best.least first legal);
+  saved = λ legal. omega (arith, ints, best.least first legal);
   written =
       last ∙ ap (λ (xs : List ℕ). xs ++ best_line (length plan.pages) paid)
       (line ∙ ap (λ (xs : List ℕ). xs ++ first_line (length first.pages) (breach galley style first)

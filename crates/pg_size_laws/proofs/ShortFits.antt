@@ -1,5 +1,5 @@
 -- A first fit has no more pages than its galley has items, and each has one column.
-use Rattle.std.proofs.Common.{◌≡◌, ◌∙◌, ap, sym, subst, refl, arith, ℕ, zero, suc, ◌+◌, ◌≤◌, Bool, true, false, List, [], ◌∷◌, ◌++◌, length, length-append, drop}
+use Rattle.std.proofs.Common.{◌≡◌, ap, sym, subst, refl, arith, ℕ, zero, suc, ◌+◌, ◌≤◌, Bool, true, false, List, [], ◌∷◌, ◌++◌, length, length-append, drop}
 use Rattle.std.specs.Prelude.{if◌then◌else◌, reverse}
 use Rattle.std.proofs.lemmas.List.{length-map, reverse-append}
 use Rattle.std.proofs.lemmas.List.Sums.{sum_by-cons}
@@ -12,7 +12,7 @@ use Rattle.pg_list.specs.declared.item.Item.{Item}
 use Rattle.pg_list.proofs.Sizes.{picked_le}
 use Rattle.pg_flat.specs.Break.{is_spent}
 use Rattle.pg_flat.specs.Flat.{FlatItem, flat, flat_items_from, variant_flat_items}
-use Rattle.pg_place_laws.proofs.Measures.{variant_items}
+use Rattle.pg_breaks.proofs.Walk.{variant_length}
 use Rattle.pg_plan.specs.Order.{columns_of}
 use Rattle.pg_plan.specs.declared.pages.Page.{Page}
 use Rattle.pg_style.specs.Values.{StyleValue}
@@ -25,11 +25,6 @@ use Rattle.pg_size_laws.specs.Laws.{FirstFitsAreShort, IsShortPlan}
 
 -- ---- no more items stand in the flat list than are counted
 
-variant_long : (n variant : ℕ) (items : List Item) → length (variant_flat_items n variant items) ≡ length items
-variant_long n variant items =
-    sym (length-map (variant_flat_items n variant items) (λ (it : FlatItem). it.item))
-    ∙ ap length (variant_items 0 n variant items)
-
 items_few : (n : ℕ) (blocks : List Block) → length (flat_items_from n blocks []) ≤ item_count blocks
 items_few n [] = omega arith
 items_few n (One item ∷ blocks) =
@@ -40,7 +35,7 @@ items_few n (Choice variants ∷ blocks) =
     let items = picked_items (Choice variants) 0 in
     let sum = sum_by-cons block_size (Choice variants) blocks in
     let both = length-append (variant_flat_items n 0 items) (flat_items_from (n + 1) blocks []) in
-    let long = variant_long n 0 items in
+    let long = variant_length n 0 items in
     let few = picked_le (Choice variants) 0 in
     let rest = items_few (n + 1) blocks in
     omega (arith, sum, both, long, few, rest)
