@@ -1,0 +1,5 @@
+pub mod Pieces
+pub mod Shapes
+pub mod Letters
+pub mod Drawn
+pub mod Laws

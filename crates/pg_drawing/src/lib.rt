@@ -1,0 +1,24 @@
+//! The drawing of a page text: its pages, their columns, the areas of these, and a mark for each item line.
+//!
+//! Proved: `read_drawing` answers the drawing that the definition makes of the lines of a text; the marks of an area are
+//! those of its item lines, one for each and in order, and each begins where the one before it ends. The definitions are
+//! in `specs/Pieces`, `specs/Shapes`, `specs/Letters` and `specs/Drawn`; `specs/Laws` says what follows of marks.
+#![tactic(auto)]
+
+mod heads;
+mod laws;
+mod letters;
+mod model;
+mod pieces;
+mod read;
+mod series;
+mod shapes;
+
+pub use laws::{marks_are_items, marks_fill_areas};
+pub use model::{
+    AreaName, Drawing, DrawnArea, DrawnColumn, DrawnPage, Ends, Head, Mark, Numbers, PageHead,
+    Shape,
+};
+pub use read::read_drawing;
+pub use series::Series;
+pub use shapes::extent;
