@@ -1,3 +1,4 @@
 pub mod PieceLemmas
 pub mod Placed
 pub mod Filled
+pub mod WorkedDrawings
