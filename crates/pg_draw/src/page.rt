@@ -32,7 +32,13 @@ fn print_name(name: &str, out: &mut Vec<u8>) -> Result<(), AllocError> {
 fn print_styled(out: &mut Vec<u8>) -> Result<(), AllocError> {
     print(out, &[Piece::Markup(", page by page</title>\n")])?;
     print_styles(out)?;
-    print(out, &[Piece::Markup("</head>\n<body>\n<header>\n")])
+    print(
+        out,
+        &[
+            Piece::Markup("</head>\n<body>\n<a class=\"skip\" href=\"#p1\">To the pages</a>\n"),
+            Piece::Markup("<header>\n"),
+        ],
+    )
 }
 
 // What an output text says of all its pages.
@@ -248,12 +254,12 @@ fn print_both(
     print(out, &[Piece::Markup("</section>\n")])
 }
 
-// A page at which breaks part, as a link.
-fn print_parting(letter: &str, number: usize, out: &mut Vec<u8>) -> Result<(), AllocError> {
+// A page, as a link.
+fn print_link(letter: &str, number: usize, out: &mut Vec<u8>) -> Result<(), AllocError> {
     print(
         out,
         &[
-            Piece::Markup(" <a href=\"#"),
+            Piece::Markup("<a href=\"#"),
             Piece::Markup(letter),
             Piece::Count(number),
             Piece::Markup("\">"),
@@ -263,37 +269,54 @@ fn print_parting(letter: &str, number: usize, out: &mut Vec<u8>) -> Result<(), A
     )
 }
 
-// Where the breaks of both part, and where they are the same again.
+// Pages from one to another, of which there is none where the first is 0.
+fn print_range(
+    letter: &str,
+    first: usize,
+    last: usize,
+    out: &mut Vec<u8>,
+) -> Result<(), AllocError> {
+    if first == 0 {
+        return Ok(());
+    }
+    print(out, &[Piece::Markup(" ")])?;
+    print_link(letter, first, out)?;
+    if first < last {
+        print(out, &[Piece::Markup(" to ")])?;
+        print_link(letter, last, out)?;
+    }
+    Ok(())
+}
+
+// On which pages the breaks of both part.
 fn print_partings(
     one: &View<'_>,
     other: &View<'_>,
     count: usize,
     out: &mut Vec<u8>,
 ) -> Result<(), AllocError> {
+    let left = one.drawing.pages.as_slice();
+    let right = other.drawing.pages.as_slice();
+    let letter = if left.len() < right.len() {
+        other.letter
+    } else {
+        one.letter
+    };
     print(
         out,
-        &[Piece::Markup("<p class=\"partings\">Breaks part on the pages")],
+        &[Piece::Markup("<p class=\"partings\">Breaks part on pages:")],
     )?;
-    let mut parted = 0;
+    let mut first: usize = 0;
     for index in 0..count {
-        let left = one.drawing.pages.as_slice().get(index);
-        let right = other.drawing.pages.as_slice().get(index);
-        if !is_same(left, right) {
-            let letter = if left.is_some() {
-                one.letter
-            } else {
-                other.letter
-            };
-            print_parting(letter, index.saturating_add(1), out)?;
-            parted = 1;
+        if is_same(left.get(index), right.get(index)) {
+            print_range(letter, first, index, out)?;
+            first = 0;
+        } else if first == 0 {
+            first = index.saturating_add(1);
         }
     }
-    let end = if parted == 0 {
-        " of none: both are broken alike.</p>\n"
-    } else {
-        ".</p>\n"
-    };
-    print(out, &[Piece::Markup(end)])
+    print_range(letter, first, count, out)?;
+    print(out, &[Piece::Markup(".</p>\n")])
 }
 
 /// The page of two output texts side by side.

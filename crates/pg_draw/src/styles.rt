@@ -24,6 +24,7 @@ header{padding-bottom:0}h1{font-size:1.35rem;line-height:1.3;margin:0;overflow-w
 .overview{margin-bottom:1.5rem}.overview p,.partings{margin:.25rem 0 .75rem;color:var(--soft)}
 .overview p b{color:var(--ink);font-weight:600}a{color:inherit}
 a:focus-visible{outline:2px solid var(--stretch);outline-offset:2px}
+.skip{position:absolute;left:-99rem}.skip:focus{left:1rem;top:.4rem;background:var(--paper);padding:.2rem .6rem}
 ";
 
 // The strip of bars.
