@@ -5,7 +5,7 @@ use crate::frame::{
 };
 use crate::marks::{Spot, print_line, print_marks, print_strip};
 use crate::pieces::{Piece, print};
-use pg_drawing::{AreaName, DrawnArea, DrawnColumn, DrawnPage, Ends, Numbers};
+use pg_drawing::{AreaName, DrawnArea, DrawnColumn, DrawnPage, Ends, Numbers, adds_up};
 use pg_plan::Side;
 use std::alloc::AllocError;
 
@@ -242,6 +242,44 @@ fn print_ends(ends: Option<Ends>, out: &mut Vec<u8>) -> Result<(), AllocError> {
     }
 }
 
+// Whether the texts among areas add up to this total.
+fn have_total(areas: &[DrawnArea], total: i64) -> bool {
+    for area in areas {
+        if is_text(area.name) && !adds_up(area.marks.as_slice(), &total) {
+            return false;
+        }
+    }
+    true
+}
+
+// Whether an area is that of the text.
+fn is_text(name: AreaName) -> bool {
+    match name {
+        AreaName::Text => true,
+        _ => false,
+    }
+}
+
+// That the item lines of a column do not add up to its total, where they do not.
+fn print_odd(column: &DrawnColumn, out: &mut Vec<u8>) -> Result<(), AllocError> {
+    match column.numbers {
+        Some(Numbers::Set { total, .. }) => {
+            if have_total(column.areas.as_slice(), total) {
+                Ok(())
+            } else {
+                print(
+                    out,
+                    &[
+                        Piece::Markup("<div class=\"odd\"><dt>item lines</dt>"),
+                        Piece::Markup("<dd>add up to another total</dd></div>\n"),
+                    ],
+                )
+            }
+        }
+        _ => Ok(()),
+    }
+}
+
 // The numbers of all columns.
 fn print_sums(columns: &[DrawnColumn], out: &mut Vec<u8>) -> Result<(), AllocError> {
     print(out, &[Piece::Markup("<div class=\"sums\">\n")])?;
@@ -249,6 +287,7 @@ fn print_sums(columns: &[DrawnColumn], out: &mut Vec<u8>) -> Result<(), AllocErr
         print(out, &[Piece::Markup("<dl>\n")])?;
         print_numbers(column.numbers, out)?;
         print_ends(column.ends, out)?;
+        print_odd(column, out)?;
         print(out, &[Piece::Markup("</dl>\n")])?;
     }
     print(out, &[Piece::Markup("</div>\n")])

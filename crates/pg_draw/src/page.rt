@@ -288,6 +288,16 @@ fn print_range(
     Ok(())
 }
 
+// Whether both are broken alike on all pages.
+fn are_alike(one: &[DrawnPage], other: &[DrawnPage], count: usize) -> bool {
+    for index in 0..count {
+        if !is_same(one.get(index), other.get(index)) {
+            return false;
+        }
+    }
+    true
+}
+
 // On which pages the breaks of both part.
 fn print_partings(
     one: &View<'_>,
@@ -302,6 +312,12 @@ fn print_partings(
     } else {
         one.letter
     };
+    if are_alike(left, right, count) {
+        return print(
+            out,
+            &[Piece::Markup("<p class=\"partings\">Both are broken alike.</p>\n")],
+        );
+    }
     print(
         out,
         &[Piece::Markup("<p class=\"partings\">Breaks part on pages:")],

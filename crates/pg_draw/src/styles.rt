@@ -77,7 +77,7 @@ const SUMS: &str =
     ".sums{display:flex;gap:1.6rem;padding:.6rem .8rem .8rem;border-top:1px solid var(--rule)}
 dl{flex:1 1 0;display:grid;grid-template-columns:repeat(auto-fill,minmax(8.5rem,1fr));gap:.05rem 1.6rem;margin:0;
 font-size:.82rem}dl div{display:flex;justify-content:space-between;gap:.5rem}dt{color:var(--soft)}
-dd{margin:0;font-variant-numeric:tabular-nums;white-space:nowrap}
+dd{margin:0;font-variant-numeric:tabular-nums;white-space:nowrap}.odd,.odd dt{color:var(--cost)}
 ";
 
 // A narrow screen, and paper.

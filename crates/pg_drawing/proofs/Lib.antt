@@ -2,3 +2,4 @@ pub mod PieceLemmas
 pub mod Placed
 pub mod Filled
 pub mod WorkedDrawings
+pub mod Summed

@@ -1,22 +1,18 @@
 -- Drawings that are computed.
-use Rattle.std.proofs.Common.{◌≡◌, refl, ℕ, pos, List, [], ◌∷◌, map}
-use Rattle.std.specs.Prelude.{codes, Some, None}
-use Rattle.pg_list.specs.Places.{place}
+use Rattle.std.proofs.Common.{◌≡◌, refl, true, false, pos, [], ◌∷◌, map}
+use Rattle.std.specs.Prelude.{codes}
 use Rattle.pg_list.specs.declared.item.Order.TheVariants.{Finite, Fil}
-use Rattle.pg_plan.specs.declared.states.Side.TheVariants.{L}
 use Rattle.pg_scan.specs.Parts.{after, named, parts_of, past, word_number}
-use Rattle.pg_showbox.specs.Nodes.{amount_at, glue_at, glue_text_at, kern_at, leaders_at, past_name, penalty_at, shrink_at, stretch_at}
+use Rattle.pg_showbox.specs.Nodes.{amount_at, glue_at, glue_text_at, kern_at, past_name, penalty_at, shrink_at, stretch_at}
 use Rattle.pg_showbox.specs.Parts.{digits_at, due, order_at, size_at, whole_at}
-use Rattle.pg_words.specs.InOrder.{place_at, words_of}
-use Rattle.pg_words.specs.Read.{negative_word, number_below, numeral, positive_word, scaled_word, side_word, size_behind, size_word, value_word, whole_word}
-use Rattle.pg_scaled.specs.Scaled.{fraction_digits}
-use Rattle.pg_drawing.specs.Drawn.{area_name, area_of, demerits_at, ends_of, numbers_of, page_head, set_from, set_parts, without_of}
+use Rattle.pg_drawing.specs.Drawn.{area_name, area_of}
 use Rattle.pg_drawing.specs.Letters.{letter, letters, letters_at, letters_of, ligature}
 use Rattle.pg_drawing.specs.Pieces.{Lines}
 use Rattle.pg_drawing.specs.Shapes.{box_at, later_at, natural_at, past_natural, rule_at, set_at, shape_at, shape_of, sized_at}
+use Rattle.pg_drawing.specs.Totals.{adds_up}
 use Rattle.pg_drawing.specs.declared.model.AreaName.TheVariants.{Text}
 use Rattle.pg_drawing.specs.declared.model.Mark.{Mark}
-use Rattle.pg_drawing.specs.declared.model.Shape.TheVariants.{Box, Glue, Insert, Kern, Other, Penalty, Rule}
+use Rattle.pg_drawing.specs.declared.model.Shape.TheVariants.{Box, Glue, Insert, Other, Rule}
 
 -- ---- item lines
 
@@ -72,3 +68,21 @@ height_is = refl
 name_is : (area_of two_lines).name ≡ Text
 unfolding area_name
 name_is = refl
+
+-- ---- totals: two lines of 9 points, 2 of them depth, with 4 points between and above them
+
+with_depth : adds_up (area_of two_lines).marks (pos 1441792) ≡ true
+unfolding shape_of shape_at sized_at later_at box_at glue_at glue_text_at past_name stretch_at shrink_at set_at kern_at penalty_at past whole_at digits_at after named parts_of due size_at
+with_depth = refl
+
+without_depth : adds_up (area_of two_lines).marks (pos 1310720) ≡ true
+unfolding shape_of shape_at sized_at later_at box_at glue_at glue_text_at past_name stretch_at shrink_at set_at kern_at penalty_at past whole_at digits_at after named parts_of due size_at
+without_depth = refl
+
+too_much : adds_up (area_of two_lines).marks (pos 1441793) ≡ false
+unfolding shape_of shape_at sized_at later_at box_at glue_at glue_text_at past_name stretch_at shrink_at set_at kern_at penalty_at past whole_at digits_at after named parts_of due size_at
+too_much = refl
+
+too_little : adds_up (area_of two_lines).marks (pos 1310719) ≡ false
+unfolding shape_of shape_at sized_at later_at box_at glue_at glue_text_at past_name stretch_at shrink_at set_at kern_at penalty_at past whole_at digits_at after named parts_of due size_at
+too_little = refl

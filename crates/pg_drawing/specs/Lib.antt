@@ -3,3 +3,4 @@ pub mod Shapes
 pub mod Letters
 pub mod Drawn
 pub mod Laws
+pub mod Totals

@@ -13,6 +13,7 @@ mod pieces;
 mod read;
 mod series;
 mod shapes;
+mod totals;
 
 pub use laws::{marks_are_items, marks_fill_areas};
 pub use model::{
@@ -22,3 +23,4 @@ pub use model::{
 pub use read::read_drawing;
 pub use series::Series;
 pub use shapes::extent;
+pub use totals::adds_up;

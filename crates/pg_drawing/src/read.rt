@@ -11,7 +11,7 @@ use crate::letters::first_letters;
 use crate::model::{Drawing, DrawnArea, DrawnColumn, DrawnPage, Mark};
 use crate::pieces::{Kind, front, next_piece};
 use crate::series::Series;
-use crate::shapes::{extent, shape};
+use crate::shapes::{extent, lower, shape};
 use pg_scan::split_part;
 use std::alloc::{AllocError, Global};
 
@@ -20,16 +20,6 @@ use std::alloc::{AllocError, Global};
 struct Placing {
     marks: Series<Mark>,
     top: i128,
-}
-
-// A height, so much further down.
-fn lower(top: &i128, extent: &i64) -> i128
-    requires high { nat_abs top.now < 2 ^ 120 }
-    requires small { nat_abs extent.now ≤ 2 ^ 32 }
-    ensures value { result ≡ top.now +ℤ extent.now }
-    ensures size { nat_abs result ≤ nat_abs top.now + 2 ^ 32 }
-{
-    *top + i128::from(*extent)
 }
 
 impl Placing {

@@ -1,5 +1,5 @@
 //! What the first line of an item says.
-ghost use Rattle.std.specs.Prelude.{◌≡◌, ◌≤◌, ◌^◌, nat_abs};
+ghost use Rattle.std.specs.Prelude.{◌≡◌, ◌≤◌, ◌<◌, ◌+◌, ◌^◌, ◌+ℤ◌, nat_abs};
 ghost use Rattle.pg_scan.specs.Parts.{parts_of, word_number};
 ghost use Rattle.pg_drawing.specs.Shapes.{as_shape as as_shape_of, box_at, extent as extent_of, first_part, insert_at, insert_of as insert_from, later_at, natural_at, past_natural, rule_at, second_part, set_at, shape_at, shape_of, sized_at};
 ghost use Rattle.pg_showbox.specs.Parts.{Answers};
@@ -204,4 +204,14 @@ pub fn extent(shape: Shape) -> i64
         Shape::Penalty { .. } => 0,
         Shape::Other => 0,
     }
+}
+
+/// A height, so much further down.
+pub fn lower(top: &i128, extent: &i64) -> i128
+    requires high { nat_abs top.now < 2 ^ 120 }
+    requires small { nat_abs extent.now ≤ 2 ^ 32 }
+    ensures value { result ≡ top.now +ℤ extent.now }
+    ensures size { nat_abs result ≤ nat_abs top.now + 2 ^ 32 }
+{
+    *top + i128::from(*extent)
 }
