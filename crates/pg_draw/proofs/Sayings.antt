@@ -1,10 +1,10 @@
 -- What is said where there is no memory for a line.
-use Rattle.std.proofs.Common.{◌≡◌, ◌∙◌, refl, inl, inr, sym, subst, List, ℕ, ◌++◌, [], append-nil}
-use Rattle.std.specs.Prelude.{◌⊎◌, codes, Option, Result, Ok, Err, OnOk, OnErr}
+use Rattle.std.proofs.Common.{◌≡◌, ◌∙◌, refl, inl, inr, subst, List, ℕ}
+use Rattle.std.specs.Prelude.{codes, Option, Result, Ok, Err, OnOk, OnErr}
 use Rattle.std.specs.Io.KnownBytes.{Appends}
 use Rattle.pg_outside.specs.Outside.{AppendsFront, Rose}
 use Rattle.pg_outside.specs.declared.sink.WriteFailed.{WriteFailed}
-use Rattle.pg_draw.specs.Texts.{OverSink, Said, SaysLine, over_sink}
+use Rattle.pg_draw.specs.Texts.{Said, over_sink}
 use Rattle.pg_draw.specs.Lines.{line_of}
 use Rattle.pg_draw.specs.declared.ending.Ending.{Ending}
 use Rattle.pg_draw.specs.declared.ending.Ending.TheVariants.{Memory}

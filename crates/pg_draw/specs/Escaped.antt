@@ -1,5 +1,5 @@
 -- Text within markup, and pieces of a page.
-use Rattle.std.specs.Prelude.{ℕ, ◌==◌, ◌||◌, nat_lt, if◌then◌else◌, List, [], ◌∷◌, ◌++◌, codes, decimal, ℤ}
+use Rattle.std.specs.Prelude.{ℕ, ◌==◌, ◌||◌, nat_lt, if◌then◌else◌, List, [], ◌∷◌, codes, decimal}
 use Rattle.std.specs.List.{flat_map}
 use Rattle.pg_scaled.specs.Scaled.{scaled_text}
 use Rattle.pg_words.specs.Written.{whole_text}

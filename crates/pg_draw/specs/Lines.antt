@@ -1,5 +1,5 @@
 -- How the program ends: its status, and its line for the user.
-use Rattle.std.specs.Prelude.{ℕ, List, [], ◌∷◌, ◌++◌, codes, decimal}
+use Rattle.std.specs.Prelude.{ℕ, List, [], ◌++◌, codes, decimal}
 use Rattle.pg_draw.specs.declared.ending.Ending.{Ending}
 use Rattle.pg_draw.specs.declared.ending.Ending.TheVariants.{Done, Usage, TooLong, BadOutput, Unread, WriteFault, Memory}
 use Rattle.pg_draw.specs.declared.ending.Status.{Status}

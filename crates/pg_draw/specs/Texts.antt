@@ -1,5 +1,5 @@
 -- The texts that are drawn, and how a run of the program may end.
-use Rattle.std.specs.Prelude.{◌≡◌, ℕ, List, [], ◌∷◌, ◌++◌, Option, Some, None, Result, Ok, Err, ⊤, ◌⊎◌, codes}
+use Rattle.std.specs.Prelude.{◌≡◌, ℕ, List, ◌++◌, Option, Some, None, Result, Ok, Err, ⊤, ◌⊎◌, codes}
 use Rattle.pg_drawing.specs.Drawn.{drawing_of}
 use Rattle.pg_drawing.specs.declared.model.Drawing.{Drawing}
 use Rattle.pg_labels.specs.Reading.{output_of}
