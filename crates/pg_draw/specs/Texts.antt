@@ -97,7 +97,8 @@ SaysLine ending say = Appends say.old say.new (line_of ending)
 
 -- the line of an ending is said, with its status; or there was no memory for the line, and that is said
 abbrev pub Said : Ending → OverSink → Status → Type 0
-Said ending say end = ((end ≡ status_of ending) × SaysLine ending say) ⊎ ((end ≡ status_of Memory) × SaysLine Memory say)
+Said ending say end = ((end ≡ status_of ending) × SaysLine ending say)
+    ⊎ ((end ≡ status_of Memory) × SaysLine Memory say)
 
 -- the program over the files that a shelf tells, with the names of its words: some ending that may be, with what was
 -- written for it, and what was said

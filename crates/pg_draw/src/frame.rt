@@ -10,8 +10,8 @@ const COLUMN_GAP: i128 = 1200;
 /// The least width of a column, in units.
 const LEAST_WIDTH: i128 = 1000;
 
-/// What is drawn of one output text: the letter in front of the numbers of its pages where they are named, its name, its
-/// pages, and what the most costly of them costs.
+/// What is drawn of one output text: the letter in front of the numbers of its pages where they are named, its name,
+/// its pages, and what the most costly of them costs.
 #[derive(Clone, Copy)]
 pub struct View<'a> {
     pub letter: &'a str,

@@ -1,4 +1,5 @@
-//! The program over the system: files under the working folder, standard output and standard error, and the exit status.
+//! The program over the system: files under the working folder, standard output and standard error, and the exit
+//! status.
 ghost use Rattle.std.specs.Prelude.{◌≡◌};
 ghost use Rattle.std.specs.Process.{exit_status};
 ghost use Rattle.pg_draw.specs.Lines.{exit_number};

@@ -13,7 +13,8 @@ use Rattle.pg_drawing.specs.declared.pieces.Kind.TheVariants as at
 
 head_by : (b : Bool) (P : List ℕ → Bool) (line : List ℕ) (lines : List (List ℕ)) →
     map (λ (it : Lines). it.head) (cut P lines) ≡ filter P lines →
-    map (λ (it : Lines). it.head) (if b then record { head = line; rest = until P lines } ∷ cut P lines else cut P lines)
+    map (λ (it : Lines). it.head)
+    (if b then record { head = line; rest = until P lines } ∷ cut P lines else cut P lines)
     ≡ (if b then line ∷ filter P lines else filter P lines)
 head_by true P line lines same = ap (λ (ls : List (List ℕ)). line ∷ ls) same
 head_by false P line lines same = same

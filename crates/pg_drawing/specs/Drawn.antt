@@ -195,7 +195,8 @@ head_words words = do
 
 -- the cost and the width
 unfoldable pub head_of : List (List ℕ) → Option Head
-head_of words = head_words words >>= (λ it. option_map (λ width. record { cost = it.0; width = width }) (scaled_word it.1))
+head_of words = head_words words
+    >>= (λ it. option_map (λ width. record { cost = it.0; width = width }) (scaled_word it.1))
 
 -- the drawing of lines
 abbrev pub drawn : List (List ℕ) → Drawing
