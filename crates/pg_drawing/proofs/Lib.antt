@@ -3,3 +3,4 @@ pub mod Placed
 pub mod Filled
 pub mod WorkedDrawings
 pub mod Summed
+pub mod Limits

@@ -1,10 +1,12 @@
 -- What follows of the marks of areas.
-use Rattle.std.specs.Prelude.{◌≡◌, ℕ, List, [], ◌∷◌, map, ℤ, pos, ◌+ℤ◌}
+use Rattle.std.specs.Prelude.{◌≡◌, ◌≤ℤ◌, ◌-ℤ◌, true, ℕ, List, [], ◌∷◌, map, ℤ, pos, ◌+ℤ◌}
+use Rattle.std.specs.Int.{int_min}
 use Rattle.std.specs.List.{filter}
 use Rattle.pg_flat.specs.Whole.{whole_sum_by}
 use Rattle.pg_drawing.specs.Drawn.{area_of}
 use Rattle.pg_drawing.specs.Pieces.{Lines, begins}
 use Rattle.pg_drawing.specs.Shapes.{extent, shape_of}
+use Rattle.pg_drawing.specs.Totals.{adds_up, hanging, with_items}
 use Rattle.pg_drawing.specs.declared.model.Mark.{Mark}
 use Rattle.pg_drawing.specs.declared.pieces.Kind.TheVariants as at
 
@@ -29,3 +31,8 @@ line_extent line = extent (shape_of line)
 pub record IsFilled (lines : Lines) : Type 0 where
   pub height : (area_of lines).height ≡ whole_sum_by line_extent (item_lines lines.rest)
   pub marks : Adjoin (pos 0) (area_of lines).marks (area_of lines).height
+
+-- the items of a text add up to their height less what a limit allows of the depth that hangs below
+abbrev pub TotalsAddUp : Type 0
+TotalsAddUp = (marks : List Mark) (limit : ℤ) → pos 0 ≤ℤ limit →
+    adds_up marks (with_items (pos 0) marks -ℤ int_min limit (hanging (pos 0) marks)) ≡ true

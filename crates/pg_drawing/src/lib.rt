@@ -17,7 +17,7 @@ mod series;
 mod shapes;
 mod totals;
 
-pub use laws::{marks_are_items, marks_fill_areas};
+pub use laws::{marks_are_items, marks_fill_areas, totals_add_up};
 pub use model::{
     AreaName, Drawing, DrawnArea, DrawnColumn, DrawnPage, Ends, Head, Mark, Numbers, PageHead,
     Shape,
