@@ -1,11 +1,10 @@
 -- The words of a command.
 use Rattle.std.specs.Prelude.{ℕ, ◌^◌, ◌≤◌, List, [], ◌∷◌, length, ◌&&◌, ◌==◌, ◌||◌, Bool, true, false, not, nat_lt}
-use Rattle.std.specs.Prelude.{if◌then◌else◌, Option, Some, None, is_some, codes, ℤ, pos, negsuc, ◌≤ℤ◌, ◌<ℤ◌, String}
-use Rattle.std.specs.Prelude.{Vec, map, IfSome}
-use Rattle.std.specs.String.{string_bytes}
+use Rattle.std.specs.Prelude.{if◌then◌else◌, Option, Some, None, is_some, codes, ℤ, pos, negsuc, ◌≤ℤ◌, ◌<ℤ◌}
+use Rattle.std.specs.Prelude.{IfSome}
 use Rattle.std.specs.Option.{option_map, option_map_or, option_and_then}
 use Rattle.std.specs.Str.{bytes_eq}
-use Rattle.std.specs.declared.alloc.Global.{Global}
+use Rattle.pg_outside.specs.Words.{is_name}
 use Rattle.pg_scaled.specs.declared.read.Front.{Front}
 use Rattle.pg_scaled.specs.declared.read.Front.TheVariants.{Value}
 use Rattle.pg_scaled.specs.Scaled.{scaled_value}
@@ -131,11 +130,6 @@ folds_of word = word_number 1 4 word
 -- how many sheets are put into each other is 1 to 16, in 1 to 10 digits
 abbrev pub nest_of : List ℕ → Option ℕ
 nest_of word = word_number 1 16 word
-
--- a name is not empty and does not begin with a minus
-abbrev pub is_name : List ℕ → Bool
-is_name [] = false
-is_name (c ∷ cs) = not (c == 45)
 
 -- ---- options between a command and its names
 
@@ -316,7 +310,3 @@ job_of word (options, names) =
 abbrev pub command_of : List (List ℕ) → Option Command
 command_of [] = None
 command_of (word ∷ words) = option_and_then (job_of word) (options_in no_options words)
-
--- the bytes of each word
-abbrev pub texts_of : Vec (String Global) Global → List (List ℕ)
-texts_of words = map string_bytes words.items

@@ -2,12 +2,14 @@
 ghost use Rattle.std.specs.Prelude.{◌≡◌, ◌≤◌, ◌∷◌, [], IfSome, map};
 ghost use Rattle.std.specs.Option.{option_map};
 ghost use Rattle.std.specs.String.{string_bytes};
-ghost use Rattle.pg_command.specs.Words.{command_in, command_of, texts_of, is_name, job_of, paragraphs_of};
+ghost use Rattle.pg_outside.specs.Words.{texts_of};
+ghost use Rattle.pg_command.specs.Words.{command_in, command_of, job_of, paragraphs_of};
 ghost use Rattle.pg_command.specs.Words.{plain_job_of, run_named, edit_named, show_named, make_named, check_named};
 ghost use Rattle.pg_command.specs.Words.{lines_named, pages_named, fold_named, heads, compare, two_files};
 ghost use Rattle.pg_command.specs.Words.{AreOptions, IsInRange};
 
 use crate::options::{Options, has_folding, has_line_rule, split_options};
+use pg_outside::is_file_name;
 use pg_scan::whole_word;
 
 /// Which style a run takes.
@@ -91,15 +93,6 @@ fn paragraph_count(word: &str) -> Option<u32>
     ensures few { IfSome result (λ count. count ≤ 2000) }
 {
     whole_word(0, 2000, word.as_bytes())
-}
-
-fn is_file_name(word: &str) -> bool
-    ensures { result ≡ is_name word.now }
-{
-    match word.as_bytes() {
-        [] | [b'-', ..] => false,
-        _ => true,
-    }
 }
 
 // A run with these options and names.

@@ -13,7 +13,7 @@ use Rattle.pg_check_laws.specs.Laws.{ShowsSolution, ShowsTruth}
 use Rattle.pg_check_laws.specs.declared.answers.No.{No}
 use Rattle.pg_check_laws.specs.declared.answers.No.TheVariants as fails
 use Rattle.pg_check_laws.specs.declared.answers.Proved.{Proved}
-use Rattle.pg_outside.specs.Outside.{Held, Rose}
+use Rattle.pg_outside.specs.Outside.{Held, OverSink, Rose, over_sink}
 use Rattle.pg_command.specs.declared.ending.Ending.{Ending}
 use Rattle.pg_command.specs.declared.ending.Ending.TheVariants as ending
 use Rattle.pg_command.specs.declared.status.Status.{Status}
@@ -21,8 +21,8 @@ use Rattle.pg_command.specs.declared.status.Status.TheVariants.{Done, NoLegal, U
 use Rattle.pg_command.specs.declared.status.Status.TheVariants.{Memory, NotProved}
 use Rattle.pg_command.specs.Words.{Command, check, named}
 use Rattle.pg_command.specs.Lines.{line_of, status_of}
-use Rattle.pg_course.specs.Calls.{AreRead, Goes, GoesOn, NoFile, OverShelf, OverSink, Stopped, Writes, ending_of}
-use Rattle.pg_course.specs.Calls.{no_ending, over_shelf, over_sink}
+use Rattle.pg_course.specs.Calls.{AreRead, Goes, GoesOn, NoFile, OverShelf, Stopped, Writes, ending_of}
+use Rattle.pg_course.specs.Calls.{no_ending, over_shelf}
 use Rattle.pg_course.specs.Course.{CheckOutput, CheckText, Course, Ended, OneText}
 use Rattle.pg_course.specs.Course.{FailedAt, FailedFile, IsFileOf, OnMemory, OnSettled, OnTaken}
 use Rattle.pg_course.specs.Course.{EndsBy, OnWriteFault}

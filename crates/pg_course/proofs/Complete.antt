@@ -13,14 +13,14 @@ use Rattle.pg_check_laws.specs.Laws.{ShowsSolution}
 use Rattle.pg_check_laws.specs.declared.answers.No.{No}
 use Rattle.pg_check_laws.specs.declared.answers.Proved.{Proved}
 use Rattle.pg_recheck_laws.specs.Laws.{BestTextTells, NoneTextTells, TellsSolution, TellsWithLabels}
-use Rattle.pg_outside.specs.Outside.{Held, Rose}
+use Rattle.pg_outside.specs.Outside.{Held, OverSink, Rose}
 use Rattle.pg_command.specs.declared.ending.Ending.{Ending}
 use Rattle.pg_command.specs.declared.status.Status.{Status}
 use Rattle.pg_command.specs.declared.status.Status.TheVariants.{Done, NoLegal, Usage, Refused, ReadFault, WriteFault}
 use Rattle.pg_command.specs.declared.status.Status.TheVariants.{Memory, NotProved}
 use Rattle.pg_command.specs.Words.{Command, check, named}
 use Rattle.pg_command.specs.Lines.{line_of, status_of}
-use Rattle.pg_course.specs.Calls.{AreRead, Goes, NoFile, OverShelf, OverSink, Stopped, over_shelf}
+use Rattle.pg_course.specs.Calls.{AreRead, Goes, NoFile, OverShelf, Stopped, over_shelf}
 use Rattle.pg_course.specs.Complete.{HoldsRun, IsComplete, IsDoneOrMemory}
 use Rattle.pg_course.specs.Course.{CheckCourse, CheckGalley, CheckText, Course, Ended, FailedAt, FailedFile, OnReadFault, OnSettled, OnWriteFault}
 use Rattle.pg_course.specs.Course.{ReadLine, RunCourse, RunGalley, Stop, Stops, StyledCourse, TellAnswer, fetched}

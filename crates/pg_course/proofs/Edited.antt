@@ -19,13 +19,13 @@ use Rattle.pg_session.specs.SessionValue.{SessionValue}
 use Rattle.pg_session.specs.Sessions.{IsEdited}
 use Rattle.pg_session.specs.Shows.{AreCounted, Show, after_edit, after_show, show_of, shows_from}
 use Rattle.pg_session.proofs.Counted.{firsts_counted, none_counted, show_counted}
-use Rattle.pg_outside.specs.Outside.{AppendsFront}
+use Rattle.pg_outside.specs.Outside.{AppendsFront, OverSink, over_sink}
 use Rattle.pg_command.specs.declared.ending.Ending.{Ending}
 use Rattle.pg_command.specs.declared.status.Status.{Status}
 use Rattle.pg_command.specs.declared.status.Status.TheVariants.{Done, Refused}
 use Rattle.pg_command.specs.Lines.{edit_line, status_of}
 use Rattle.pg_command.proofs.Fronts.{appends_both, front_after}
-use Rattle.pg_course.specs.Calls.{OverSink, WritesOn, over_sink}
+use Rattle.pg_course.specs.Calls.{WritesOn}
 use Rattle.pg_course.specs.Counted.{UnlessMemory}
 use Rattle.pg_course.specs.Course.{EditFront, EditSteps, with_end}
 use Rattle.pg_course.specs.Out.{RunOut}

@@ -2,6 +2,7 @@
 use Rattle.std.proofs.Common.{◌≡◌, ◌∙◌, inl, inr, ℕ, List, [], ◌++◌, Option, length, refl, ap, sym, arith}
 use Rattle.std.specs.Prelude.{None, Some, ℤ, pos, ◌-ℤ◌, ◌≤ℤ◌}
 use Rattle.std.proofs.lemmas.Int.{ints}
+use Rattle.pg_outside.specs.Outside.{OverSink, over_sink}
 use Rattle.pg_list.specs.GalleyValue.{GalleyValue}
 use Rattle.pg_plan.specs.declared.pages.Pagination.{Pagination}
 use Rattle.pg_style.specs.Values.{StyleValue}
@@ -15,7 +16,7 @@ use Rattle.pg_greedy.specs.declared.fault.GreedyFault.{GreedyFault}
 use Rattle.pg_greedy.specs.declared.fault.GreedyFault.TheVariants as fits
 use Rattle.pg_command.specs.declared.ending.Ending.{Ending}
 use Rattle.pg_command.specs.declared.ending.Ending.TheVariants as ending
-use Rattle.pg_course.specs.Calls.{OverSink, Writes, fit_ending, over_sink}
+use Rattle.pg_course.specs.Calls.{Writes, fit_ending}
 use Rattle.pg_course.specs.Course.{CompareGalley, WritesOne}
 use Rattle.pg_course.specs.Products.{CompareOut, IsSavedText}
 use Rattle.pg_course.proofs.Runs.{appends_none, keeps_all, writes_as}

@@ -1,6 +1,7 @@
 -- What the command `lines` promises, by what was found for its paragraphs.
 use Rattle.std.proofs.Common.{◌≡◌, ℕ, List, [], refl}
 use Rattle.std.specs.Prelude.{Option, None, Ok, Err}
+use Rattle.pg_outside.specs.Outside.{OverSink}
 use Rattle.pg_list.specs.GalleyValue.{GalleyValue}
 use Rattle.pg_showbox.specs.Reading.{galley_of}
 use Rattle.pg_showbox.specs.Text.{galley_text}
@@ -13,7 +14,7 @@ use Rattle.pg_variants.specs.Answers.{AnswersLines}
 use Rattle.pg_command.specs.declared.ending.Ending.{Ending}
 use Rattle.pg_command.specs.declared.status.Status.TheVariants.{Refused}
 use Rattle.pg_command.specs.Lines.{paragraph_line}
-use Rattle.pg_course.specs.Calls.{OverSink, Writes}
+use Rattle.pg_course.specs.Calls.{Writes}
 use Rattle.pg_course.specs.Course.{EndsBy, LinesCourse, ShowGalley}
 use Rattle.pg_course.proofs.Runs.{appends_none, writes_as}
 

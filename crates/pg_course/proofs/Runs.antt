@@ -9,7 +9,7 @@ use Rattle.pg_style.specs.Values.{StyleValue}
 use Rattle.pg_floats.specs.AreFloats.{MakesList, unknown_class, float_total}
 use Rattle.pg_floats.specs.declared.fault.FloatFault.{FloatFault}
 use Rattle.pg_floats.specs.declared.fault.FloatFault.TheVariants as float_fault
-use Rattle.pg_outside.specs.Outside.{AppendsFront, Held, Rose}
+use Rattle.pg_outside.specs.Outside.{AppendsFront, Held, OverSink, Rose, over_sink}
 use Rattle.pg_command.specs.declared.ending.Ending.{Ending}
 use Rattle.pg_command.specs.declared.ending.Ending.TheVariants as ending
 use Rattle.pg_command.specs.declared.status.Status.{Status}
@@ -18,7 +18,7 @@ use Rattle.pg_command.specs.declared.status.Status.TheVariants.{Memory, NotProve
 use Rattle.pg_command.specs.Words.{StyleName}
 use Rattle.pg_command.specs.Lines.{line_of, many_line, status_of}
 use Rattle.pg_command.proofs.Fronts.{appends_nothing, front_of_more}
-use Rattle.pg_course.specs.Calls.{OverSink, Writes, ending_of, over_sink}
+use Rattle.pg_course.specs.Calls.{Writes, ending_of}
 use Rattle.pg_course.specs.Course.{Stop, opened, opened_style, OneText, MakesGalley, RunGalley, RunCourse, OnTaken}
 use Rattle.pg_course.specs.Course.{StyledCourse, EndsBy, BeginsBy, OnSettled, OnReadFault, OnWriteFault}
 use Rattle.pg_course.specs.declared.product.Product.{Product}

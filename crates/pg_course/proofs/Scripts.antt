@@ -8,15 +8,15 @@ use Rattle.pg_stylefile.specs.Style.{style_of_text}
 use Rattle.pg_edits.specs.declared.script.ScriptStep.{ScriptStep}
 use Rattle.pg_floats.specs.AreFloats.{MakesList, unknown_class, float_total}
 use Rattle.pg_floats.specs.declared.fault.FloatFault.{FloatFault}
-use Rattle.pg_outside.specs.Outside.{Held}
+use Rattle.pg_outside.specs.Outside.{Held, OverSink, over_sink}
 use Rattle.pg_command.specs.declared.ending.Ending.{Ending}
 use Rattle.pg_command.specs.declared.status.Status.{Status}
 use Rattle.pg_command.specs.declared.status.Status.TheVariants.{Done, NoLegal, Usage, Refused, ReadFault, WriteFault}
 use Rattle.pg_command.specs.declared.status.Status.TheVariants.{Memory, NotProved}
 use Rattle.pg_command.specs.Words.{Command, edit, named}
 use Rattle.pg_command.specs.Lines.{class_line, line_of, many_line, status_of}
-use Rattle.pg_course.specs.Calls.{AreRead, Goes, GoesThrough, NoFile, OverShelf, OverSink, Stopped, WritesOn, WritesTexts}
-use Rattle.pg_course.specs.Calls.{WroteWhole, ending_of, over_shelf, over_sink}
+use Rattle.pg_course.specs.Calls.{AreRead, Goes, GoesThrough, NoFile, OverShelf, Stopped, WritesOn, WritesTexts}
+use Rattle.pg_course.specs.Calls.{WroteWhole, ending_of, over_shelf}
 use Rattle.pg_course.specs.Course.{BeginsBy, Course, CourseFront, EditCourse, EditFront, EditScript, EditSteps, EndsBy}
 use Rattle.pg_course.specs.Course.{Ended, OnMemory, OnSettled, OnTaken, ScriptFront, Stop}
 use Rattle.pg_course.specs.Course.{fetched, first_steps, opened, opened_script, opened_style, read_by, said_galley}

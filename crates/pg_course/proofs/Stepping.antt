@@ -2,6 +2,7 @@
 use Rattle.std.proofs.Common.{◌≡◌, inl, inr, refl, subst, ℕ, Bool, List, Option}
 use Rattle.std.specs.Prelude.{Err}
 use Rattle.std.specs.Io.KnownBytes.{Appends}
+use Rattle.pg_outside.specs.Outside.{OverSink}
 use Rattle.pg_list.specs.declared.galley.Edit.{Edit}
 use Rattle.pg_edits.specs.declared.fault.EditFault.{EditFault}
 use Rattle.pg_edits.specs.declared.fault.EditFault.TheVariants.{Class, Floats, Limit, Memory, Range}
@@ -10,7 +11,7 @@ use Rattle.pg_session.specs.Edits.{Refuses, edit_fault}
 use Rattle.pg_session.specs.SessionValue.{SessionValue}
 use Rattle.pg_command.specs.declared.ending.Ending.{Ending}
 use Rattle.pg_command.specs.declared.status.Status.{Status}
-use Rattle.pg_course.specs.Calls.{OverSink, edit_ending}
+use Rattle.pg_course.specs.Calls.{edit_ending}
 use Rattle.pg_course.specs.Counted.{IsShown}
 use Rattle.pg_course.specs.Out.{RunOut}
 use Rattle.pg_course.specs.Steps.{IsNoStep, IsShow, shown_end}

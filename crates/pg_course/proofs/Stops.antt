@@ -3,10 +3,10 @@ use Rattle.std.proofs.Common.{◌≡◌, ℕ, sym, subst, refl, List, [], Option
 use Rattle.std.specs.Prelude.{Result, Err}
 use Rattle.pg_list.specs.GalleyValue.{GalleyValue}
 use Rattle.pg_style.specs.Values.{StyleValue}
-use Rattle.pg_outside.specs.Outside.{Held}
+use Rattle.pg_outside.specs.Outside.{Held, over_sink}
 use Rattle.pg_command.specs.declared.ending.Ending.{Ending}
 use Rattle.pg_command.specs.Lines.{line_of, status_of}
-use Rattle.pg_course.specs.Calls.{GoesOn, NoFile, OverShelf, Stopped, over_sink}
+use Rattle.pg_course.specs.Calls.{GoesOn, NoFile, OverShelf, Stopped}
 use Rattle.pg_course.specs.Course.{EndsBy, RunCourse, Stop, opened, stop}
 use Rattle.pg_course.specs.declared.product.Product.{Product}
 use Rattle.pg_course.proofs.Checks.{if_some, on_memory}

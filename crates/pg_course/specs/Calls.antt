@@ -13,7 +13,7 @@ use Rattle.pg_greedy.specs.declared.fault.GreedyFault.{GreedyFault}
 use Rattle.pg_greedy.specs.declared.fault.GreedyFault.TheVariants as fits
 use Rattle.pg_hlist.specs.declared.item.HItem.{HItem}
 use Rattle.pg_hlist.specs.Reading.{paras_of}
-use Rattle.pg_outside.specs.Outside.{Held, Rose}
+use Rattle.pg_outside.specs.Outside.{Held, OverSink, Rose}
 use Rattle.pg_command.specs.declared.ending.Ending.{Ending}
 use Rattle.pg_command.specs.declared.ending.Ending.TheVariants as ending
 use Rattle.pg_command.specs.declared.status.Status.{Status}
@@ -35,17 +35,6 @@ pub record OverShelf : Type 0 where
 -- these over a call
 abbrev pub over_shelf : Option Held → ℕ → ℕ → Option (List ℕ) → OverShelf
 over_shelf told before after last = record { told = told; before = before; after = after; last = last }
-
--- a sink over a call: what was written, and how many faults it counted, before and after
-pub record OverSink : Type 0 where
-  pub old : Option (List ℕ)
-  pub new : Option (List ℕ)
-  pub before : ℕ
-  pub after : ℕ
-
--- these over a call
-abbrev pub over_sink : Option (List ℕ) → Option (List ℕ) → ℕ → ℕ → OverSink
-over_sink old new before after = record { old = old; new = new; before = before; after = after }
 
 -- a course has whole texts that were written
 abbrev pub WritesTexts : (List (List ℕ) → Status → List ℕ → Type 0) → Option (List ℕ) → Option (List ℕ) → Type 0

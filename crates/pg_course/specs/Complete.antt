@@ -1,10 +1,10 @@
 -- A check of what a run with labels writes.
 use Rattle.std.specs.Prelude.{◌≡◌, ◌≤◌, ◌^◌, ℕ, ⊤, true, List, [], ◌∷◌, length, Option, Some, IfSome}
-use Rattle.pg_outside.specs.Outside.{Held, Rose}
+use Rattle.pg_outside.specs.Outside.{Held, OverSink, Rose}
 use Rattle.pg_command.specs.declared.status.Status.{Status}
 use Rattle.pg_command.specs.declared.status.Status.TheVariants.{Done, Memory}
 use Rattle.pg_command.specs.Words.{Command, check, named, run}
-use Rattle.pg_course.specs.Calls.{OverShelf, OverSink}
+use Rattle.pg_course.specs.Calls.{OverShelf}
 use Rattle.pg_course.specs.Course.{Course}
 
 -- the file `output` holds the text, of at most 2^26 bytes, that `run --labels` writes for this style, galley and wrap

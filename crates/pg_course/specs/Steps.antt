@@ -10,12 +10,11 @@ use Rattle.pg_session.specs.Edits.{edit_fault}
 use Rattle.pg_session.specs.SessionValue.{SessionValue}
 use Rattle.pg_session.specs.Sessions.{IsEdited}
 use Rattle.pg_session.specs.Shows.{AreAllCounted, Show, show_of, shows_from}
-use Rattle.pg_outside.specs.Outside.{AppendsFront, Rose}
+use Rattle.pg_outside.specs.Outside.{AppendsFront, OverSink, Rose}
 use Rattle.pg_command.specs.declared.ending.Ending.{Ending}
 use Rattle.pg_command.specs.declared.ending.Ending.TheVariants as ending
 use Rattle.pg_command.specs.declared.status.Status.{Status}
 use Rattle.pg_command.specs.declared.status.Status.TheVariants.{Done, NoLegal}
-use Rattle.pg_course.specs.Calls.{OverSink}
 use Rattle.pg_course.specs.Counted.{IsShown}
 use Rattle.pg_course.specs.Course.{EditSteps}
 use Rattle.pg_course.specs.Out.{RunOut}

@@ -1,5 +1,6 @@
 //! The command `check`.
 ghost use Rattle.std.specs.Prelude.{◌≡◌, ℕ, List, Option, Ok, Some, IfSome};
+ghost use Rattle.pg_outside.specs.Outside.{over_sink};
 ghost use Rattle.pg_floats.specs.AreFloats.{AreFloats};
 ghost use Rattle.pg_labels.specs.Reading.{IsFew};
 ghost use Rattle.pg_command.specs.declared.status.Status.TheVariants.{Done};
@@ -7,7 +8,7 @@ ghost use Rattle.pg_command.specs.Lines.{status_of};
 ghost use Rattle.pg_command.specs.Words.{check as check_command, named};
 ghost use Rattle.pg_course.specs.Complete.{IsComplete};
 ghost use Rattle.pg_course.specs.Course.{CheckOutput, CheckText, OneText, opened_output, opened_style};
-ghost use Rattle.pg_course.specs.Calls.{AreRead, Goes, GoesOn, Writes, no_ending, over_shelf, over_sink};
+ghost use Rattle.pg_course.specs.Calls.{AreRead, Goes, GoesOn, Writes, no_ending, over_shelf};
 ghost use Rattle.pg_course.specs.Verdict.{yes_line};
 
 use crate::line::yes_line_of;

@@ -1,5 +1,6 @@
 //! The command `compare`.
 ghost use Rattle.std.specs.Prelude.{◌≡◌, ◌++◌, ◌∷◌, ◌-ℤ◌, [], length, Some, IfOk, OnOk};
+ghost use Rattle.pg_outside.specs.Outside.{over_sink};
 ghost use Rattle.pg_plan.specs.declared.pages.Pagination.{Pagination as APagination};
 ghost use Rattle.pg_rules.specs.Best.{Best};
 ghost use Rattle.pg_rules.specs.Cost.{cost as cost_of};
@@ -13,7 +14,7 @@ ghost use Rattle.pg_space.specs.Solves.{Solves};
 ghost use Rattle.pg_table.specs.Space.{Small};
 ghost use Rattle.pg_command.specs.Lines.{status_of};
 ghost use Rattle.pg_command.specs.Words.{compare as compare_command};
-ghost use Rattle.pg_course.specs.Calls.{Goes, Writes, fit_ending, over_shelf, over_sink};
+ghost use Rattle.pg_course.specs.Calls.{Goes, Writes, fit_ending, over_shelf};
 ghost use Rattle.pg_course.specs.Counted.{IsCounted, IsShown, UnlessMemory};
 ghost use Rattle.pg_course.specs.Course.{CompareGalley, WritesOne};
 ghost use Rattle.pg_course.specs.Out.{bytes_of, end_of};

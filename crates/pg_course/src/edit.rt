@@ -1,5 +1,6 @@
 //! The command `edit`.
 ghost use Rattle.std.specs.Prelude.{◌≡◌, ◌≤◌, ◌^◌, ℕ, List, Option, None, Ok, Some, IfErr, IfOk, IfSome};
+ghost use Rattle.pg_outside.specs.Outside.{over_sink};
 ghost use Rattle.pg_command.specs.Lines.{status_of};
 ghost use Rattle.pg_command.specs.Words.{edit as edit_command, named};
 ghost use Rattle.pg_edits.specs.declared.script.ScriptStep.TheVariants.{Show as AShow};
@@ -7,7 +8,7 @@ ghost use Rattle.pg_floats.specs.AreFloats.{float_total, unknown_class};
 ghost use Rattle.pg_session.specs.Shows.{AreCounted, show_of, shows_from};
 ghost use Rattle.pg_course.specs.Course.{EditFront, EditScript, EditSteps, ScriptFront, opened, opened_script};
 ghost use Rattle.pg_course.specs.Course.{opened_style};
-ghost use Rattle.pg_course.specs.Calls.{AreRead, Goes, GoesThrough, WritesOn, edit_ending, over_shelf, over_sink};
+ghost use Rattle.pg_course.specs.Calls.{AreRead, Goes, GoesThrough, WritesOn, edit_ending, over_shelf};
 ghost use Rattle.pg_course.specs.Steps.{AreMade, IsNoStep, IsStep, ending_of_made};
 ghost use Rattle.pg_course.specs.Counted.{CountsEdit, CountsScript, IsCounted, UnlessMemory};
 ghost use Rattle.pg_command.specs.declared.status.Status.TheVariants.{Done};

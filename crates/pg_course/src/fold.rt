@@ -1,5 +1,6 @@
 //! The command `fold`.
 ghost use Rattle.std.specs.Prelude.{◌≡◌, ◌<◌, ◌≤◌, ◌^◌, List, length, Some, IfOk, OnOk};
+ghost use Rattle.pg_outside.specs.Outside.{over_sink};
 ghost use Rattle.pg_floats.specs.AreFloats.{float_total};
 ghost use Rattle.pg_fold.specs.Laws.{ReadsInOrder};
 ghost use Rattle.pg_fold.specs.SheetsText.{fold_text};
@@ -8,7 +9,7 @@ ghost use Rattle.pg_size_laws.specs.Laws.{LegalAreSmall};
 ghost use Rattle.pg_space.specs.Solves.{Solves};
 ghost use Rattle.pg_command.specs.Lines.{status_of};
 ghost use Rattle.pg_command.specs.Words.{fold as fold_command, IsFolds, IsNest};
-ghost use Rattle.pg_course.specs.Calls.{Goes, Writes, over_shelf, over_sink};
+ghost use Rattle.pg_course.specs.Calls.{Goes, Writes, over_shelf};
 ghost use Rattle.pg_course.specs.Counted.{IsCounted, IsShown, UnlessMemory};
 ghost use Rattle.pg_course.specs.Course.{WritesOne};
 ghost use Rattle.pg_course.specs.Out.{bytes_of, end_of};

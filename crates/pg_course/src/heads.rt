@@ -1,5 +1,6 @@
 //! The command `heads`.
 ghost use Rattle.std.specs.Prelude.{◌≡◌, ◌<◌, ◌^◌, ◌++◌, length, Some, IfOk, OnOk};
+ghost use Rattle.pg_outside.specs.Outside.{over_sink};
 ghost use Rattle.pg_mark_laws.specs.Laws.{LegalColumnsFit};
 ghost use Rattle.pg_marks.specs.Fitting.{AllFit};
 ghost use Rattle.pg_marks.specs.Heads.{heads as the_heads, references as the_references};
@@ -8,7 +9,7 @@ ghost use Rattle.pg_size_laws.specs.Laws.{LegalAreSmall};
 ghost use Rattle.pg_space.specs.Solves.{Solves};
 ghost use Rattle.pg_command.specs.Lines.{status_of};
 ghost use Rattle.pg_command.specs.Words.{heads as heads_command};
-ghost use Rattle.pg_course.specs.Calls.{Goes, Writes, over_shelf, over_sink};
+ghost use Rattle.pg_course.specs.Calls.{Goes, Writes, over_shelf};
 ghost use Rattle.pg_course.specs.Counted.{IsCounted, IsShown, UnlessMemory};
 ghost use Rattle.pg_course.specs.Course.{WritesOne};
 ghost use Rattle.pg_course.specs.Out.{bytes_of, end_of};

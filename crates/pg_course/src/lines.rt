@@ -1,10 +1,11 @@
 //! The command `lines`.
 ghost use Rattle.std.specs.Prelude.{◌≡◌, Ok, Some};
+ghost use Rattle.pg_outside.specs.Outside.{over_sink};
 ghost use Rattle.pg_command.specs.Words.{IsLineRule, lines as lines_command};
 ghost use Rattle.pg_paragraphs.specs.Laws.{IsRule};
 ghost use Rattle.pg_variants.specs.Answers.{AnswersLines};
 ghost use Rattle.pg_course.specs.Course.{LinesCourse, rule_of};
-ghost use Rattle.pg_course.specs.Calls.{AreSaid, Goes, Writes, over_shelf, over_sink};
+ghost use Rattle.pg_course.specs.Calls.{AreSaid, Goes, Writes, over_shelf};
 
 use crate::open::open_paras;
 use crate::show::write_galley;

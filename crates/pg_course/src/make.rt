@@ -1,12 +1,13 @@
 //! The command `make`.
 ghost use Rattle.std.specs.Prelude.{◌≡◌, ◌≤◌, IfOk, OnOk, Some};
+ghost use Rattle.pg_outside.specs.Outside.{over_sink};
 ghost use Rattle.pg_command.specs.Lines.{status_of};
 ghost use Rattle.pg_command.specs.Words.{make as make_command};
 ghost use Rattle.pg_make.specs.Generated.{made_galley};
 ghost use Rattle.pg_make.specs.Made.{made_style};
 ghost use Rattle.pg_session.specs.Sessions.{IsNew};
 ghost use Rattle.pg_session.specs.Shows.{AreCounted, one_show};
-ghost use Rattle.pg_course.specs.Calls.{Goes, OverShelf, Writes, over_sink};
+ghost use Rattle.pg_course.specs.Calls.{Goes, OverShelf, Writes};
 ghost use Rattle.pg_course.specs.Counted.{UnlessMemory};
 ghost use Rattle.pg_course.specs.Course.{MakeCourse};
 ghost use Rattle.pg_course.specs.Made.{MadeOut};

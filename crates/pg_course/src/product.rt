@@ -1,8 +1,9 @@
 //! What a command makes of a galley.
 ghost use Rattle.std.specs.Prelude.{◌≡◌, ◌<◌, ◌^◌, ◌∷◌, [], length};
+ghost use Rattle.pg_outside.specs.Outside.{over_sink};
 ghost use Rattle.pg_session.specs.Shows.{AreCounted, show_of};
 ghost use Rattle.pg_command.specs.Lines.{status_of};
-ghost use Rattle.pg_course.specs.Calls.{Writes, over_sink};
+ghost use Rattle.pg_course.specs.Calls.{Writes};
 ghost use Rattle.pg_course.specs.Counted.{UnlessMemory};
 ghost use Rattle.pg_course.specs.Course.{MakesGalley};
 ghost use Rattle.pg_course.specs.Products.{IsProduct};

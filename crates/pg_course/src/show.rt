@@ -1,8 +1,9 @@
 //! The command `show`.
 ghost use Rattle.std.specs.Prelude.{Some};
+ghost use Rattle.pg_outside.specs.Outside.{over_sink};
 ghost use Rattle.pg_command.specs.Words.{show as show_command};
 ghost use Rattle.pg_course.specs.Course.{ShowGalley};
-ghost use Rattle.pg_course.specs.Calls.{Goes, Writes, over_shelf, over_sink};
+ghost use Rattle.pg_course.specs.Calls.{Goes, Writes, over_shelf};
 
 use crate::open::open_galley;
 use pg_command::Ending;

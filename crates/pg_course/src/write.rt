@@ -1,5 +1,6 @@
 //! A text is written.
-ghost use Rattle.pg_course.specs.Calls.{Writes, over_sink};
+ghost use Rattle.pg_outside.specs.Outside.{over_sink};
+ghost use Rattle.pg_course.specs.Calls.{Writes};
 ghost use Rattle.pg_course.specs.Course.{OneText};
 ghost use Rattle.pg_course.specs.Out.{bytes_of, end_of};
 

@@ -9,14 +9,13 @@ ghost use Rattle.std.specs.Prelude.{◌≡◌};
 ghost use Rattle.std.specs.Process.{exit_status};
 ghost use Rattle.pg_command.specs.Lines.{exit_number};
 
-use pg_outside::{FileShelf, StreamSink};
+use pg_outside::{FileShelf, StreamSink, words_of};
 use pg_steps::Steps;
 use pg_top::{Status, serve};
-use std::alloc::Global;
+use std::io;
 use std::marker::Brand;
 use std::process::ExitCode;
 use std::sync::ledger::{Blank, Ledger};
-use std::{env, io};
 
 /// The exit number where memory for the words is wanting.
 const NO_MEMORY: u8 = 6;
@@ -49,12 +48,6 @@ fn run<L: Ledger>(rt: &HostRuntime, words: &Vec<String>, blank: Blank) -> Status
         &mut say,
         &mut steps,
     )
-}
-
-// The words after the program's name.
-fn words_of(rt: &HostRuntime) -> Result<Vec<String>, io::Error> {
-    let words = env::args(rt)?.skip(1).collect(rt.alloc())?;
-    Ok(words)
 }
 
 /// Serves the words that the system gives.

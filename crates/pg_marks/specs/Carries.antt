@@ -5,7 +5,7 @@ use Rattle.std.specs.Option.{option_map_or}
 use Rattle.std.specs.Str.{bytes_eq}
 use Rattle.pg_list.specs.declared.item.Item.{Item}
 use Rattle.pg_list.specs.declared.item.Item.TheVariants.{Carry}
-use Rattle.pg_scan.specs.Parts.{after, parts_of}
+use Rattle.pg_scan.specs.Parts.{after, first_part, parts_of}
 
 -- what stands before a closing brace at the end
 abbrev pub before_brace : List ℕ → Option (List ℕ)
@@ -14,10 +14,6 @@ before_brace text = if ends_with nat_eq text (125 ∷ []) then Some (take (lengt
 -- what stands between a text in front and a closing brace at the end
 abbrev pub between : List ℕ → List ℕ → Option (List ℕ)
 between front text = option_map_or before_brace (after front text) None
-
-abbrev pub first_part : List (List ℕ) → List ℕ
-first_part [] = []
-first_part (part ∷ parts) = part
 
 -- what stands before the first line feed
 abbrev pub first_line : List ℕ → List ℕ

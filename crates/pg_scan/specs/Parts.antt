@@ -16,6 +16,11 @@ parts_of separator [] = [] ∷ []
 parts_of separator (c ∷ cs) = if c == separator then [] ∷ parts_of separator cs
     else onto_first c (parts_of separator cs)
 
+-- the first of parts; nothing where there is none
+abbrev pub first_part : List (List ℕ) → List ℕ
+first_part [] = []
+first_part (part ∷ parts) = part
+
 -- the bytes after this text, where it stands in front
 unfoldable pub after : List ℕ → List ℕ → Option (List ℕ)
 after text bytes = if bytes_eq (take (length text) bytes) text then Some (drop (length text) bytes) else None

@@ -1,14 +1,14 @@
 -- What the program promises, over any shelf and any sinks.
 use Rattle.std.specs.Prelude.{◌≡◌, ◌↔◌, ℕ, List, [], ⊤, Option, None, IfSome}
 use Rattle.std.specs.Io.KnownBytes.{Keeps}
-use Rattle.pg_outside.specs.Outside.{Held, Rose}
+use Rattle.pg_outside.specs.Outside.{Held, OverSink, Rose}
 use Rattle.pg_command.specs.declared.status.Status.{Status}
 use Rattle.pg_command.specs.declared.status.Status.TheVariants.{Done, NoLegal, Usage, Refused, ReadFault, WriteFault}
 use Rattle.pg_command.specs.declared.status.Status.TheVariants.{Memory, NotProved}
 use Rattle.pg_command.specs.Words.{Command, command_of}
 use Rattle.pg_command.specs.Lines.{usage_line, output_line, memory_line, Says}
 use Rattle.pg_course.specs.Course.{Course, Ended, EndedBefore, OnSettled, OnReadFault, OnWriteFault, OnMemory, ReadLine}
-use Rattle.pg_course.specs.Calls.{OverShelf, OverSink, WroteWhole}
+use Rattle.pg_course.specs.Calls.{OverShelf, WroteWhole}
 
 -- a file could not be read, with a cause, and nothing was written
 pub record ReadFailed (command : Option Command) (shelf : OverShelf) (out : OverSink) : Type 0 where

@@ -1,9 +1,9 @@
 use Rattle.std.proofs.Common.{◌≡◌, subst, sym}
 use Rattle.std.specs.Prelude.{IfSome, Ok, Option, Some}
-use Rattle.pg_outside.specs.Outside.{Held}
+use Rattle.pg_outside.specs.Outside.{Held, over_sink}
 use Rattle.pg_command.specs.Lines.{status_of}
 use Rattle.pg_command.specs.Words.{check, named}
-use Rattle.pg_course.specs.Calls.{over_shelf, over_sink}
+use Rattle.pg_course.specs.Calls.{over_shelf}
 use Rattle.pg_course.specs.Course.{opened_style}
 use Rattle.pg_course.proofs.Checks.{goes_earlier}
 use Rattle.pg_course.proofs.Complete.{complete_earlier, no_style_complete}

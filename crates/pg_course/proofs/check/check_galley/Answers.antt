@@ -1,8 +1,9 @@
 use Rattle.std.proofs.Common.{subst, sym}
 use Rattle.std.specs.Prelude.{Some}
+use Rattle.pg_outside.specs.Outside.{over_sink}
 use Rattle.pg_command.specs.declared.ending.Ending.{Ending}
 use Rattle.pg_command.specs.Words.{check}
-use Rattle.pg_course.specs.Calls.{Goes, over_shelf, over_sink}
+use Rattle.pg_course.specs.Calls.{Goes, over_shelf}
 use Rattle.pg_course.proofs.Checks.{refused_goes, taken_goes}
 use Rattle.pg_course.proofs.Complete.{goes_complete}
 use Rattle.pg_course.proofs.check.check_galley.Goals as goal

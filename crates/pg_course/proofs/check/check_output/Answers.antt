@@ -1,6 +1,7 @@
 use Rattle.std.proofs.Common.{subst, sym}
+use Rattle.pg_outside.specs.Outside.{over_sink}
 use Rattle.pg_command.specs.declared.ending.Ending.{Ending}
-use Rattle.pg_course.specs.Calls.{Writes, over_sink}
+use Rattle.pg_course.specs.Calls.{Writes}
 use Rattle.pg_course.specs.Course.{CheckOutput}
 use Rattle.pg_course.proofs.Checks.{not_proved, proved_writes}
 use Rattle.pg_course.proofs.check.check_output.Goals as goal

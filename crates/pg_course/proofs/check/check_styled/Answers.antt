@@ -1,7 +1,8 @@
 use Rattle.std.specs.Prelude.{Some}
+use Rattle.pg_outside.specs.Outside.{over_sink}
 use Rattle.pg_command.specs.Lines.{status_of}
 use Rattle.pg_command.specs.Words.{check}
-use Rattle.pg_course.specs.Calls.{over_shelf, over_sink}
+use Rattle.pg_course.specs.Calls.{over_shelf}
 use Rattle.pg_course.proofs.Checks.{both_read, goes_earlier, stopped_goes}
 use Rattle.pg_course.proofs.Complete.{complete_earlier, no_galley_complete}
 use Rattle.pg_course.proofs.check.check_styled.Goals as goal

@@ -1,13 +1,14 @@
 use Rattle.std.proofs.Common.{◌≡◌, [], ◌∷◌, subst}
 use Rattle.std.specs.Prelude.{None}
 use Rattle.std.proofs.Common.{sym}
+use Rattle.pg_outside.specs.Outside.{over_sink}
 use Rattle.pg_list.specs.GalleyValue.{GalleyValue}
 use Rattle.pg_style.specs.Values.{StyleValue}
 use Rattle.pg_greedy.specs.Faults.{Causes, greedy_fault}
 use Rattle.pg_session.specs.Shows.{show_of}
 use Rattle.pg_command.specs.Lines.{status_of}
 use Rattle.pg_command.specs.declared.ending.Ending.{Ending}
-use Rattle.pg_course.specs.Calls.{Writes, over_sink}
+use Rattle.pg_course.specs.Calls.{Writes}
 use Rattle.pg_course.specs.Course.{CompareGalley}
 use Rattle.pg_course.proofs.Counts.{shown_counted, still_counted, unless_memory, whatever}
 use Rattle.pg_course.proofs.Fits.{compared_writes, no_fit_writes}

@@ -1,10 +1,10 @@
 use Rattle.std.proofs.Common.{◌≡◌, subst, sym}
 use Rattle.std.specs.Prelude.{IfSome, Ok, Option, Result, Some}
 use Rattle.pg_style.specs.Values.{StyleValue}
-use Rattle.pg_outside.specs.Outside.{Held}
+use Rattle.pg_outside.specs.Outside.{Held, over_sink}
 use Rattle.pg_command.specs.Lines.{status_of}
 use Rattle.pg_command.specs.Words.{edit, named}
-use Rattle.pg_course.specs.Calls.{over_shelf, over_sink}
+use Rattle.pg_course.specs.Calls.{over_shelf}
 use Rattle.pg_course.specs.Counted.{CountsEdit}
 use Rattle.pg_course.specs.Course.{Stop, opened, opened_script, opened_style}
 use Rattle.pg_course.proofs.Checks.{all_told, goes_earlier}

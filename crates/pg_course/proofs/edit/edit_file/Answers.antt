@@ -2,10 +2,10 @@ use Rattle.std.proofs.Common.{List, subst}
 use Rattle.pg_session.specs.Shows.{AreCounted, show_of, shows_from}
 use Rattle.std.specs.Prelude.{Result}
 use Rattle.pg_edits.specs.declared.script.ScriptStep.{ScriptStep}
-use Rattle.pg_outside.specs.Outside.{Held}
+use Rattle.pg_outside.specs.Outside.{Held, over_sink}
 use Rattle.pg_command.specs.Lines.{status_of}
 use Rattle.pg_command.specs.declared.status.Status.TheVariants.{Done}
-use Rattle.pg_course.specs.Calls.{WritesOn, over_shelf, over_sink}
+use Rattle.pg_course.specs.Calls.{WritesOn, over_shelf}
 use Rattle.pg_course.specs.Counted.{CountsScript}
 use Rattle.pg_course.specs.Course.{EditFront, EditSteps, Stop, opened_script}
 use Rattle.pg_course.proofs.Checks.{all_told}

@@ -3,11 +3,11 @@ use Rattle.std.specs.Prelude.{None, Ok, Some}
 use Rattle.pg_floats.specs.AreFloats.{float_total, unknown_class}
 use Rattle.pg_session.specs.SessionValue.{SessionValue}
 use Rattle.pg_session.specs.Shows.{show_of}
-use Rattle.pg_outside.specs.Outside.{Held}
+use Rattle.pg_outside.specs.Outside.{Held, over_sink}
 use Rattle.pg_command.specs.declared.ending.Ending.{Ending}
 use Rattle.pg_command.specs.Lines.{status_of}
 use Rattle.pg_command.specs.Words.{edit}
-use Rattle.pg_course.specs.Calls.{Goes, GoesThrough, over_shelf, over_sink}
+use Rattle.pg_course.specs.Calls.{Goes, GoesThrough, over_shelf}
 use Rattle.pg_course.specs.Counted.{CountsScript}
 use Rattle.pg_course.specs.Course.{EditScript, ScriptFront, opened_script}
 use Rattle.pg_course.proofs.Checks.{all_told, if_some}

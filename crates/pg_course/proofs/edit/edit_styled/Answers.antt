@@ -1,9 +1,9 @@
 use Rattle.std.specs.Prelude.{Ok, Result, Some}
 use Rattle.pg_list.specs.GalleyValue.{GalleyValue}
-use Rattle.pg_outside.specs.Outside.{Held}
+use Rattle.pg_outside.specs.Outside.{Held, over_sink}
 use Rattle.pg_command.specs.Lines.{status_of}
 use Rattle.pg_command.specs.Words.{edit}
-use Rattle.pg_course.specs.Calls.{over_shelf, over_sink}
+use Rattle.pg_course.specs.Calls.{over_shelf}
 use Rattle.pg_course.specs.Counted.{CountsEdit}
 use Rattle.pg_course.specs.Course.{Stop, opened, opened_script}
 use Rattle.pg_course.proofs.Checks.{all_told, both_read, goes_earlier}

@@ -1,7 +1,7 @@
 use Rattle.std.proofs.Common.{subst, sym}
 use Rattle.std.specs.Prelude.{IfErr}
+use Rattle.pg_outside.specs.Outside.{over_sink}
 use Rattle.pg_edits.specs.declared.script.ScriptStep.{ScriptStep}
-use Rattle.pg_course.specs.Calls.{over_sink}
 use Rattle.pg_course.specs.Steps.{IsNoStep}
 use Rattle.pg_course.proofs.edit.make_step.Goals as goal
 

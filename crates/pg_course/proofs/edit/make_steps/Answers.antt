@@ -1,9 +1,10 @@
 use Rattle.std.proofs.Common.{subst, sym}
+use Rattle.pg_outside.specs.Outside.{over_sink}
 use Rattle.pg_session.specs.Shows.{AreCounted, show_of, shows_from}
 use Rattle.pg_command.specs.Lines.{status_of}
 use Rattle.pg_command.specs.declared.ending.Ending.{Ending}
 use Rattle.pg_command.specs.declared.status.Status.TheVariants.{Done}
-use Rattle.pg_course.specs.Calls.{WritesOn, over_sink}
+use Rattle.pg_course.specs.Calls.{WritesOn}
 use Rattle.pg_course.specs.Counted.{UnlessMemory}
 use Rattle.pg_course.specs.Course.{EditFront, EditSteps}
 use Rattle.pg_course.proofs.Edited.{made_writes}

@@ -2,10 +2,10 @@ use Rattle.std.proofs.Common.{◌≡◌, ◌∙◌, List, ap, rules, subst, w32,
 use Rattle.std.specs.Prelude.{Ok, Result}
 use Rattle.std.proofs.lemmas.Int.{to_z-of_z}
 use Rattle.pg_hlist.specs.declared.item.HItem.{HItem}
-use Rattle.pg_outside.specs.Outside.{Held}
+use Rattle.pg_outside.specs.Outside.{Held, over_sink}
 use Rattle.pg_paragraphs.specs.declared.rule.LineRule.{LineRule}
 use Rattle.pg_command.specs.Lines.{line_of, status_of}
-use Rattle.pg_course.specs.Calls.{Writes, over_sink}
+use Rattle.pg_course.specs.Calls.{Writes}
 use Rattle.pg_course.specs.Course.{BeginsBy, EndsBy, LinesCourse, Stop, opened_paras, rule_of}
 use Rattle.pg_course.proofs.Runs.{on_settled, on_write_fault, when_said}
 use Rattle.pg_course.proofs.lines.lines_course.Goals as goal

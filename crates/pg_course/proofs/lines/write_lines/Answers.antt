@@ -1,4 +1,4 @@
-use Rattle.pg_course.specs.Calls.{over_sink}
+use Rattle.pg_outside.specs.Outside.{over_sink}
 use Rattle.pg_course.proofs.Paragraphs.{lines_stop, lines_write}
 use Rattle.pg_course.proofs.lines.write_lines.Goals as goal
 

@@ -1,9 +1,10 @@
 use Rattle.std.proofs.Common.{subst, sym}
+use Rattle.pg_outside.specs.Outside.{over_sink}
 use Rattle.pg_session.specs.SessionValue.{SessionValue}
 use Rattle.pg_session.specs.Shows.{one_show}
 use Rattle.pg_command.specs.Lines.{status_of}
 use Rattle.pg_command.specs.declared.ending.Ending.{Ending}
-use Rattle.pg_course.specs.Calls.{Writes, over_sink}
+use Rattle.pg_course.specs.Calls.{Writes}
 use Rattle.pg_course.specs.Counted.{taken_shows}
 use Rattle.pg_course.specs.Course.{MakesGalley, RunGalley}
 use Rattle.pg_course.proofs.Counts.{new_counted, still_counted, taken_counted, unless_memory, whatever}

@@ -1,0 +1,4 @@
+pub mod Escaped
+pub mod Words
+pub mod Lines
+pub mod Texts

@@ -1,0 +1,6 @@
+pub mod PieceLemmas
+pub mod Placed
+pub mod Filled
+pub mod WorkedDrawings
+pub mod Summed
+pub mod Limits

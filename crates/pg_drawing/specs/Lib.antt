@@ -1,0 +1,6 @@
+pub mod Pieces
+pub mod Shapes
+pub mod Letters
+pub mod Drawn
+pub mod Laws
+pub mod Totals
