@@ -27,10 +27,10 @@ exit_number status.Memory = 6
 -- the line of an ending, or nothing
 abbrev pub line_of : Ending → List ℕ
 line_of Done = []
-line_of Usage = codes "usage: pg_draw [--other OUTPUT] OUTPUT\n" ++ []
-line_of (TooLong name) = codes "pg_draw: " ++ (name.now ++ (codes ": longer than 67108864 bytes\n" ++ []))
+line_of Usage = codes "usage: pg_draw [--other OUTPUT] OUTPUT\n"
+line_of (TooLong name) = codes "pg_draw: " ++ (name.now ++ codes ": longer than 67108864 bytes\n")
 line_of (BadOutput name line) =
-    codes "pg_draw: " ++ (name.now ++ (codes ": line " ++ (decimal line ++ (codes ": not an output text\n" ++ []))))
-line_of (Unread name) = codes "pg_draw: " ++ (name.now ++ (codes ": cannot be read\n" ++ []))
-line_of WriteFault = codes "pg_draw: output failed\n" ++ []
-line_of Memory = codes "pg_draw: out of memory\n" ++ []
+    codes "pg_draw: " ++ (name.now ++ (codes ": line " ++ (decimal line ++ codes ": not an output text\n")))
+line_of (Unread name) = codes "pg_draw: " ++ (name.now ++ codes ": cannot be read\n")
+line_of WriteFault = codes "pg_draw: output failed\n"
+line_of Memory = codes "pg_draw: out of memory\n"

@@ -145,7 +145,7 @@ fn print_picture(
 }
 
 // A name and a number.
-fn print_fact(name: &str, number: i128, out: &mut Vec<u8>) -> Result<(), AllocError> {
+fn print_fact(name: &'static str, number: i128, out: &mut Vec<u8>) -> Result<(), AllocError> {
     print(
         out,
         &[
@@ -159,7 +159,7 @@ fn print_fact(name: &str, number: i128, out: &mut Vec<u8>) -> Result<(), AllocEr
 }
 
 // A name and a length.
-fn print_length(name: &str, length: i64, out: &mut Vec<u8>) -> Result<(), AllocError> {
+fn print_length(name: &'static str, length: i64, out: &mut Vec<u8>) -> Result<(), AllocError> {
     print(
         out,
         &[
@@ -342,7 +342,7 @@ fn print_head(
 }
 
 // The beginning of a page, of this class beside its own.
-fn print_article(class: &str, out: &mut Vec<u8>) -> Result<(), AllocError> {
+fn print_article(class: &'static str, out: &mut Vec<u8>) -> Result<(), AllocError> {
     print(
         out,
         &[Piece::Markup("<article class=\"page"), Piece::Markup(class)],
@@ -353,7 +353,7 @@ fn print_article(class: &str, out: &mut Vec<u8>) -> Result<(), AllocError> {
 pub fn print_card(
     frame: Frame,
     view: &View<'_>,
-    class: &str,
+    class: &'static str,
     number: usize,
     page: &DrawnPage,
     out: &mut Vec<u8>,

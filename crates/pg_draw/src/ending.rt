@@ -1,8 +1,8 @@
 //! How the program ends.
-ghost use Rattle.std.specs.Prelude.{◌≡◌, ◌++◌, [], codes, decimal, IfOk, OnOk};
+ghost use Rattle.std.specs.Prelude.{◌≡◌, ◌++◌, codes, decimal, IfOk, OnOk};
 ghost use Rattle.pg_draw.specs.Lines.{exit_number, line_of, status_of};
 
-use crate::pieces::{Piece, print};
+use pg_words::print_decimal;
 use std::alloc::{AllocError, Global};
 
 /// How the program ends.
@@ -83,49 +83,37 @@ impl<'a> Ending<'a> {
 }
 
 // The line about a file.
-fn print_file<'a>(name: &'a str, fault: &'a str, out: &mut Vec<u8>) -> Result<(), AllocError>
-    ensures { OnOk result (out.new.items ≡ out.old.items ++ (codes "pg_draw: " ++ (name.now ++ (fault.now ++ [])))) }
+fn print_file(name: &str, fault: &str, out: &mut Vec<u8>) -> Result<(), AllocError>
+    ensures { OnOk result (out.new.items ≡ out.old.items ++ (codes "pg_draw: " ++ (name.now ++ fault.now))) }
 {
-    print(
-        out,
-        &[
-            Piece::Markup("pg_draw: "),
-            Piece::Markup(name),
-            Piece::Markup(fault),
-        ],
-    )
+    out.extend_from_slice(b"pg_draw: ")?;
+    out.extend_from_slice(name.as_bytes())?;
+    out.extend_from_slice(fault.as_bytes())?;
+    Ok(())
 }
 
 // The line about a line of a file.
 fn print_bad(name: &str, line: u32, out: &mut Vec<u8>) -> Result<(), AllocError>
     ensures { OnOk result (out.new.items ≡ out.old.items ++ (codes "pg_draw: " ++ (name.now ++ (codes ": line "
-        ++ (decimal line ++ (codes ": not an output text\n" ++ [])))))) }
+        ++ (decimal line ++ codes ": not an output text\n"))))) }
 {
-    print(
-        out,
-        &[
-            Piece::Markup("pg_draw: "),
-            Piece::Markup(name),
-            Piece::Markup(": line "),
-            Piece::Count(line as usize),
-            Piece::Markup(": not an output text\n"),
-        ],
-    )
+    print_file(name, ": line ", out)?;
+    print_decimal(u128::from(line), out)?;
+    out.extend_from_slice(b": not an output text\n")?;
+    Ok(())
 }
 
 fn print_line(ending: &Ending<'_>, out: &mut Vec<u8>) -> Result<(), AllocError>
     ensures { OnOk result (out.new.items ≡ out.old.items ++ line_of ending.now) }
 {
     match ending {
-        Ending::Done => Ok(()),
-        Ending::Usage => print(
-            out,
-            &[Piece::Markup("usage: pg_draw [--other OUTPUT] OUTPUT\n")],
-        ),
-        Ending::TooLong(name) => print_file(name, ": longer than 67108864 bytes\n", out),
-        Ending::BadOutput(name, line) => print_bad(name, *line, out),
-        Ending::Unread(name) => print_file(name, ": cannot be read\n", out),
-        Ending::WriteFault => print(out, &[Piece::Markup("pg_draw: output failed\n")]),
-        Ending::Memory => print(out, &[Piece::Markup("pg_draw: out of memory\n")]),
+        Ending::Done => {}
+        Ending::Usage => out.extend_from_slice(b"usage: pg_draw [--other OUTPUT] OUTPUT\n")?,
+        Ending::TooLong(name) => print_file(name, ": longer than 67108864 bytes\n", out)?,
+        Ending::BadOutput(name, line) => print_bad(name, *line, out)?,
+        Ending::Unread(name) => print_file(name, ": cannot be read\n", out)?,
+        Ending::WriteFault => out.extend_from_slice(b"pg_draw: output failed\n")?,
+        Ending::Memory => out.extend_from_slice(b"pg_draw: out of memory\n")?,
     }
+    Ok(())
 }

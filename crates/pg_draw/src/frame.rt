@@ -14,7 +14,7 @@ const LEAST_WIDTH: i128 = 1000;
 /// its pages, and what the most costly of them costs.
 #[derive(Clone, Copy)]
 pub struct View<'a> {
-    pub letter: &'a str,
+    pub letter: &'static str,
     pub name: &'a str,
     pub drawing: &'a Drawing,
     pub most: i128,
@@ -94,7 +94,7 @@ pub fn share(cost: i128, most: i128) -> i128 {
 }
 
 /// What is drawn of an output text.
-pub fn view_of<'a>(letter: &'a str, name: &'a str, drawing: &'a Drawing) -> View<'a> {
+pub fn view_of<'a>(letter: &'static str, name: &'a str, drawing: &'a Drawing) -> View<'a> {
     View {
         letter,
         name,

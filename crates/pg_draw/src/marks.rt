@@ -15,7 +15,7 @@ pub struct Spot {
 
 /// A strip from one height to another, in units, without the end of its tag.
 pub fn print_strip(
-    class: &str,
+    class: &'static str,
     left: i128,
     width: i128,
     from: i128,
@@ -44,7 +44,7 @@ pub fn print_strip(
 
 /// A line across, in units.
 pub fn print_line(
-    class: &str,
+    class: &'static str,
     left: i128,
     width: i128,
     at: i128,
@@ -202,8 +202,8 @@ fn glue_class(own: i32, stretch: i32, order: Order, shrink: i32, set: i32) -> &'
 fn print_space(
     spot: &Spot,
     mark: &Mark,
-    class: &str,
-    name: &str,
+    class: &'static str,
+    name: &'static str,
     own: i32,
     out: &mut Vec<u8>,
 ) -> Result<(), AllocError> {

@@ -222,7 +222,7 @@ fn is_same(one: Option<&DrawnPage>, other: Option<&DrawnPage>) -> bool {
 fn print_side_of(
     frame: Frame,
     view: &View<'_>,
-    class: &str,
+    class: &'static str,
     number: usize,
     page: Option<&DrawnPage>,
     out: &mut Vec<u8>,
@@ -255,7 +255,7 @@ fn print_both(
 }
 
 // A page, as a link.
-fn print_link(letter: &str, number: usize, out: &mut Vec<u8>) -> Result<(), AllocError> {
+fn print_link(letter: &'static str, number: usize, out: &mut Vec<u8>) -> Result<(), AllocError> {
     print(
         out,
         &[
@@ -271,7 +271,7 @@ fn print_link(letter: &str, number: usize, out: &mut Vec<u8>) -> Result<(), Allo
 
 // Pages from one to another, of which there is none where the first is 0.
 fn print_range(
-    letter: &str,
+    letter: &'static str,
     first: usize,
     last: usize,
     out: &mut Vec<u8>,

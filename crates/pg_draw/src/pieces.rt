@@ -10,8 +10,8 @@ use std::alloc::AllocError;
 /// A piece of a page.
 #[derive(Clone, Copy)]
 pub enum Piece<'a> {
-    /// As it is.
-    Markup(&'a str),
+    /// Text of the program itself, as it is. No text of a file lives as long, so none can stand here.
+    Markup(&'static str),
     /// What stands in a file, or is its name.
     Text(&'a [u8]),
     Count(usize),
