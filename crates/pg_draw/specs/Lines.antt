@@ -24,13 +24,17 @@ exit_number status.ReadFault = 4
 exit_number status.WriteFault = 5
 exit_number status.Memory = 6
 
+-- in front of a line about the file of this name
+abbrev pub named : List ℕ → List ℕ
+named name = codes "pg_draw: " ++ name
+
 -- the line of an ending, or nothing
 abbrev pub line_of : Ending → List ℕ
 line_of Done = []
 line_of Usage = codes "usage: pg_draw [--other OUTPUT] OUTPUT\n"
-line_of (TooLong name) = codes "pg_draw: " ++ (name.now ++ codes ": longer than 67108864 bytes\n")
+line_of (TooLong name) = named name.now ++ codes ": longer than 67108864 bytes\n"
 line_of (BadOutput name line) =
-    codes "pg_draw: " ++ (name.now ++ (codes ": line " ++ (decimal line ++ codes ": not an output text\n")))
-line_of (Unread name) = codes "pg_draw: " ++ (name.now ++ codes ": cannot be read\n")
+    ((named name.now ++ codes ": line ") ++ decimal line) ++ codes ": not an output text\n"
+line_of (Unread name) = named name.now ++ codes ": cannot be read\n"
 line_of WriteFault = codes "pg_draw: output failed\n"
 line_of Memory = codes "pg_draw: out of memory\n"

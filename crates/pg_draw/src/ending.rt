@@ -1,6 +1,6 @@
 //! How the program ends.
-ghost use Rattle.std.specs.Prelude.{◌≡◌, ◌++◌, codes, decimal, IfOk, OnOk};
-ghost use Rattle.pg_draw.specs.Lines.{exit_number, line_of, status_of};
+ghost use Rattle.std.specs.Prelude.{◌≡◌, ◌++◌, codes, decimal, IfOk};
+ghost use Rattle.pg_draw.specs.Lines.{exit_number, line_of, named, status_of};
 
 use pg_words::print_decimal;
 use std::alloc::{AllocError, Global};
@@ -76,44 +76,43 @@ impl<'a> Ending<'a> {
     pub fn line(&self, alloc: Global) -> Result<Vec<u8>, AllocError>
         ensures { IfOk result (λ line. line.items ≡ line_of self.now) }
     {
-        let mut line = Vec::new(alloc);
-        print_line(self, &mut line)?;
-        Ok(line)
+        match self {
+            Ending::Done => Ok(Vec::new(alloc)),
+            Ending::Usage => Vec::from_slice(alloc, b"usage: pg_draw [--other OUTPUT] OUTPUT\n"),
+            Ending::TooLong(name) => file_line(alloc, name, ": longer than 67108864 bytes\n"),
+            Ending::BadOutput(name, line) => text_line(alloc, name, *line),
+            Ending::Unread(name) => file_line(alloc, name, ": cannot be read\n"),
+            Ending::WriteFault => Vec::from_slice(alloc, b"pg_draw: output failed\n"),
+            Ending::Memory => Vec::from_slice(alloc, b"pg_draw: out of memory\n"),
+        }
     }
+}
+
+// What stands in front of each line about a file.
+fn file_named(alloc: Global, name: &str) -> Result<Vec<u8>, AllocError>
+    ensures { IfOk result (λ line. line.items ≡ named name.now) }
+{
+    let mut line = Vec::from_slice(alloc, b"pg_draw: ")?;
+    line.extend_from_slice(name.as_bytes())?;
+    Ok(line)
 }
 
 // The line about a file.
-fn print_file(name: &str, fault: &str, out: &mut Vec<u8>) -> Result<(), AllocError>
-    ensures { OnOk result (out.new.items ≡ out.old.items ++ (codes "pg_draw: " ++ (name.now ++ fault.now))) }
+fn file_line(alloc: Global, name: &str, fault: &str) -> Result<Vec<u8>, AllocError>
+    ensures { IfOk result (λ line. line.items ≡ named name.now ++ fault.now) }
 {
-    out.extend_from_slice(b"pg_draw: ")?;
-    out.extend_from_slice(name.as_bytes())?;
-    out.extend_from_slice(fault.as_bytes())?;
-    Ok(())
+    let mut line = file_named(alloc, name)?;
+    line.extend_from_slice(fault.as_bytes())?;
+    Ok(line)
 }
 
 // The line about a line of a file.
-fn print_bad(name: &str, line: u32, out: &mut Vec<u8>) -> Result<(), AllocError>
-    ensures { OnOk result (out.new.items ≡ out.old.items ++ (codes "pg_draw: " ++ (name.now ++ (codes ": line "
-        ++ (decimal line ++ codes ": not an output text\n"))))) }
+fn text_line(alloc: Global, name: &str, number: u32) -> Result<Vec<u8>, AllocError>
+    ensures { IfOk result (λ line. line.items ≡ ((named name.now ++ codes ": line ") ++ decimal number)
+        ++ codes ": not an output text\n") }
 {
-    print_file(name, ": line ", out)?;
-    print_decimal(u128::from(line), out)?;
-    out.extend_from_slice(b": not an output text\n")?;
-    Ok(())
-}
-
-fn print_line(ending: &Ending<'_>, out: &mut Vec<u8>) -> Result<(), AllocError>
-    ensures { OnOk result (out.new.items ≡ out.old.items ++ line_of ending.now) }
-{
-    match ending {
-        Ending::Done => {}
-        Ending::Usage => out.extend_from_slice(b"usage: pg_draw [--other OUTPUT] OUTPUT\n")?,
-        Ending::TooLong(name) => print_file(name, ": longer than 67108864 bytes\n", out)?,
-        Ending::BadOutput(name, line) => print_bad(name, *line, out)?,
-        Ending::Unread(name) => print_file(name, ": cannot be read\n", out)?,
-        Ending::WriteFault => out.extend_from_slice(b"pg_draw: output failed\n")?,
-        Ending::Memory => out.extend_from_slice(b"pg_draw: out of memory\n")?,
-    }
-    Ok(())
+    let mut line = file_line(alloc, name, ": line ")?;
+    print_decimal(u128::from(number), &mut line)?;
+    line.extend_from_slice(b": not an output text\n")?;
+    Ok(line)
 }
