@@ -1,0 +1,2 @@
+//! What `pg run` prints adds up in its drawing.
+#![tactic(auto)]
