@@ -1,3 +1,5 @@
 pub mod Commas
 pub mod Nodes
 pub mod ItemShapes
+pub mod Lines
+pub mod ItemLines
