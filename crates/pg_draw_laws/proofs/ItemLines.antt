@@ -191,8 +191,8 @@ SetShows _ set = Unit {0}
 
 module _ (first : List ℕ) (deeper : List (List ℕ)) (lack : lacks 10 first ≡ true)
     (none : is_some (after (codes ".") first) ≡ false) (each : AllByRecursion IsDeeper deeper) where
-  body : List ℕ
-  body = first ++ deeper_text deeper
+
+
 
   shows : Shows (body_text (first ++ deeper_text deeper)) (shape_of (46 ∷ first) ∷ [])
   shows = body_shows first deeper lack none each

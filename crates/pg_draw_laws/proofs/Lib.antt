@@ -3,3 +3,7 @@ pub mod Nodes
 pub mod ItemShapes
 pub mod Lines
 pub mod ItemLines
+pub mod Heights
+pub mod Cuts
+pub mod TextArea
+pub mod Ends
