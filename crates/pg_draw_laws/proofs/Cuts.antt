@@ -7,40 +7,40 @@ use Rattle.pg_lemmas.proofs.Lists.{all_append, reverse_cons}
 use Rattle.pg_drawing.specs.Pieces.{Lines, cut, until}
 
 -- no head among lines
-abbrev pub None : (List ℕ → Bool) → List (List ℕ) → Type 0
-None P lines = AllByRecursion (λ (line : List ℕ). P line ≡ false) lines
+abbrev pub NoHead : (List ℕ → Bool) → List (List ℕ) → Type 0
+NoHead P lines = AllByRecursion (λ (line : List ℕ). P line ≡ false) lines
 
 -- a piece begins at a head, and has no further one
 pub record IsPiece (P : List ℕ → Bool) (piece : Lines) : Type 0 where
   pub head : P piece.head ≡ true
-  pub rest : None P piece.rest
+  pub rest : NoHead P piece.rest
 
 -- the lines of a piece
 abbrev pub lines_of : Lines → List (List ℕ)
 lines_of piece = piece.head ∷ piece.rest
 
-pub until_none : (P : List ℕ → Bool) (lines : List (List ℕ)) → None P lines → until P lines ≡ lines
+pub until_none : (P : List ℕ → Bool) (lines : List (List ℕ)) → NoHead P lines → until P lines ≡ lines
 until_none P [] h = refl
 until_none P (line ∷ lines) h = rw (h.0, until_none P lines h.1) refl
 
-pub cut_none : (P : List ℕ → Bool) (lines more : List (List ℕ)) → None P lines → cut P (lines ++ more) ≡ cut P more
+pub cut_none : (P : List ℕ → Bool) (lines more : List (List ℕ)) → NoHead P lines → cut P (lines ++ more) ≡ cut P more
 cut_none P [] more h = refl
 cut_none P (line ∷ lines) more h = rw (h.0, cut_none P lines more h.1) refl
 
 -- lines up to a head
-until_head : (P : List ℕ → Bool) (lines : List (List ℕ)) (head : List ℕ) (more : List (List ℕ)) → None P lines →
+until_head : (P : List ℕ → Bool) (lines : List (List ℕ)) (head : List ℕ) (more : List (List ℕ)) → NoHead P lines →
     P head ≡ true → until P (lines ++ head ∷ more) ≡ lines
 until_head P [] head more h k = rw k refl
 until_head P (line ∷ lines) head more h k = rw (h.0, until_head P lines head more h.1 k) refl
 
 -- lines up to the next piece, or to the end
-until_pieces : (P : List ℕ → Bool) (lines : List (List ℕ)) (pieces : List Lines) → None P lines →
+until_pieces : (P : List ℕ → Bool) (lines : List (List ℕ)) (pieces : List Lines) → NoHead P lines →
     AllByRecursion (IsPiece P) pieces → until P (lines ++ flat_map lines_of pieces) ≡ lines
 until_pieces P lines [] h each = ap (until P) (append-nil lines) ∙ until_none P lines h
 until_pieces P lines (piece ∷ pieces) h each =
     until_head P lines piece.head (piece.rest ++ flat_map lines_of pieces) h each.0.head
 
-pub until_first : (P : List ℕ → Bool) (front : List (List ℕ)) (pieces : List Lines) → None P front →
+pub until_first : (P : List ℕ → Bool) (front : List (List ℕ)) (pieces : List Lines) → NoHead P front →
     AllByRecursion (IsPiece P) pieces → until P (front ++ flat_map lines_of pieces) ≡ front
 until_first P front pieces h each = until_pieces P front pieces h each
 
@@ -56,7 +56,7 @@ cut_pieces P (piece ∷ pieces) each =
       cut_pieces P pieces each.1,
     ) refl
 
-pub cut_front : (P : List ℕ → Bool) (front : List (List ℕ)) (pieces : List Lines) → None P front →
+pub cut_front : (P : List ℕ → Bool) (front : List (List ℕ)) (pieces : List Lines) → NoHead P front →
     AllByRecursion (IsPiece P) pieces → cut P (front ++ flat_map lines_of pieces) ≡ pieces
 cut_front P front pieces h each = cut_none P front (flat_map lines_of pieces) h ∙ cut_pieces P pieces each
 
@@ -85,12 +85,12 @@ all_back P [] each = tt
 all_back P (piece ∷ pieces) each = subst (AllByRecursion (IsPiece P)) (sym (reverse_cons piece pieces))
     (all_append (IsPiece P) (reverse pieces) (piece ∷ []) (all_back P pieces each.1) (each.0, tt))
 
-pub cut_back : (P : List ℕ → Bool) (front : List (List ℕ)) (pieces : List Lines) → None P front →
+pub cut_back : (P : List ℕ → Bool) (front : List (List ℕ)) (pieces : List Lines) → NoHead P front →
     AllByRecursion (IsPiece P) pieces → cut P (front ++ joined_back pieces) ≡ reverse pieces
 cut_back P front pieces h each = ap (λ (ls : List (List ℕ)). cut P (front ++ ls)) (back_is pieces)
     ∙ cut_front P front (reverse pieces) h (all_back P pieces each)
 
-pub until_back : (P : List ℕ → Bool) (front : List (List ℕ)) (pieces : List Lines) → None P front →
+pub until_back : (P : List ℕ → Bool) (front : List (List ℕ)) (pieces : List Lines) → NoHead P front →
     AllByRecursion (IsPiece P) pieces → until P (front ++ joined_back pieces) ≡ front
 until_back P front pieces h each = ap (λ (ls : List (List ℕ)). until P (front ++ ls)) (back_is pieces)
     ∙ until_first P front (reverse pieces) h (all_back P pieces each)

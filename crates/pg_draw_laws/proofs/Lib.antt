@@ -7,3 +7,5 @@ pub mod Heights
 pub mod Cuts
 pub mod TextArea
 pub mod Ends
+pub mod Areas
+pub mod Columns

@@ -1,19 +1,21 @@
 -- Texts that are whole lines, and lines that begin with a point.
-use Rattle.std.proofs.Common.{◌≡◌, ◌∙◌, refl, sym, ap, subst, Bool, true, false, ℕ, List, [], ◌∷◌, ◌++◌, append_assoc, append-nil}
+use Rattle.std.proofs.Common.{◌≡◌, ◌∙◌, refl, sym, ap, subst, ◌+◌, Bool, true, false, ℕ, suc, List, [], ◌∷◌, ◌++◌, take, drop, append_assoc, append-nil, arith}
 use Rattle.std.proofs.lemmas.Bool.{eqb-true}
-use Rattle.std.specs.List.{AllByRecursion, flat_map, range_with_len}
-use Rattle.std.specs.Prelude.{◌==◌, ◌&&◌, not, if◌then◌else◌, codes, IsTrue}
+use Rattle.std.specs.List.{AllByRecursion, flat_map, prefix_len, range_with_len}
+use Rattle.std.specs.Prelude.{◌==◌, ◌&&◌, not, if◌then◌else◌, codes, cond, IsTrue, ℤ}
 use Rattle.pg_lemmas.proofs.Bools.{both, both_of, not_true}
 use Rattle.pg_lemmas.proofs.Lists.{all_append}
 use Rattle.pg_rules.specs.Floats.{dealt}
 use Rattle.pg_rules.specs.Room.{Document}
 use Rattle.pg_style.specs.Values.{StyleValue}
 use Rattle.pg_list.specs.declared.item.Item.{Item}
-use Rattle.pg_pages.specs.Bodies.{body_text}
+use Rattle.pg_pages.specs.Bodies.{body_text, set_text}
 use Rattle.pg_pages.specs.PageText.{float_bodies, floats_text, inserted, is_note, notes_text}
+use Rattle.pg_scaled.specs.Scaled.{scaled_text}
 use Rattle.pg_scan.specs.Lines.{dotted, has_point, is_no_feed}
 use Rattle.pg_scan.specs.Parts.{after, parts_of}
 use Rattle.pg_words.specs.Written.{line}
+use Rattle.pg_word_laws.proofs.Blanks.{any_scaled_lacks}
 use Rattle.pg_word_laws.proofs.Cut.{lacks, lacks_append, part_here}
 use Rattle.pg_drawing.specs.Pieces.{begins}
 use Rattle.pg_drawing.specs.declared.pieces.Kind.TheVariants as at
@@ -73,14 +75,14 @@ pointed_both a b p q = record {
   each = all_append HasPoint p.lines q.lines p.each q.each;
 }
 
-pointed_as : (a b : List ℕ) → a ≡ b → IsPointed a → IsPointed b
+pub pointed_as : (a b : List ℕ) → a ≡ b → IsPointed a → IsPointed b
 pointed_as a b e p = subst IsPointed e p
 
-pointed_line : (text : List ℕ) → lacks 10 text ≡ true → IsPointed (line (46 ∷ text))
+pub pointed_line : (text : List ℕ) → lacks 10 text ≡ true → IsPointed (line (46 ∷ text))
 pointed_line text none = record { lines = (46 ∷ text) ∷ []; are = lines_line (46 ∷ text) none; each = (refl, tt) }
 
 -- a line that goes on with a body
-pointed_dotted : (front body : List ℕ) → lacks 10 front ≡ true → IsPointed (line (46 ∷ (front ++ dotted body)))
+pub pointed_dotted : (front body : List ℕ) → lacks 10 front ≡ true → IsPointed (line (46 ∷ (front ++ dotted body)))
 pointed_dotted front [] none = pointed_as (line (46 ∷ front)) (line (46 ∷ (front ++ dotted [])))
     (ap (λ (t : List ℕ). line (46 ∷ t)) (sym (append-nil front))) (pointed_line front none)
 pointed_dotted front (c ∷ cs) none = by (c == 10) refl
@@ -100,7 +102,7 @@ pointed_dotted front (c ∷ cs) none = by (c == 10) refl
 pub body_pointed : (body : List ℕ) → IsPointed (body_text body)
 body_pointed body = pointed_dotted [] body refl
 
-all_pointed : {X : Type 0} (text : X → List ℕ) → ((x : X) → IsPointed (text x)) → (xs : List X) →
+pub all_pointed : {X : Type 0} (text : X → List ℕ) → ((x : X) → IsPointed (text x)) → (xs : List X) →
     IsPointed (flat_map text xs)
 all_pointed text each [] = pointed_none
 all_pointed text each (x ∷ xs) = pointed_both (text x) (flat_map text xs) (each x) (all_pointed text each xs)
@@ -133,3 +135,30 @@ dotted_more (c ∷ cs) more h =
     let t = both_of (not (c == 10)) (lacks 10 cs) h in
     let e : (c == 10) ≡ false = not_true (c == 10) t.0 in
     rw (e, dotted_more cs more t.1) refl
+
+-- ---- set glue
+
+-- the first line of a body has no line feed
+front_lacks : (body : List ℕ) → lacks 10 (dotted (take (prefix_len is_no_feed body) body)) ≡ true
+front_lacks [] = refl
+front_lacks (c ∷ cs) = by (c == 10) refl (prefix_len is_no_feed cs) (front_lacks cs)
+  where
+    by : (b : Bool) → b ≡ (c == 10) → (n : ℕ) → lacks 10 (dotted (take n cs)) ≡ true →
+        lacks 10 (dotted (take (cond (not b) (1 + n) 0) (c ∷ cs))) ≡ true
+    by true e n h = refl
+    by false e n h = let one : 1 + n ≡ suc n = omega arith in rw (one, sym e, sym e) h
+
+pub set_pointed : (body : List ℕ) (width : ℤ) → IsPointed (set_text body width)
+set_pointed body width =
+    let front = dotted (take (prefix_len is_no_feed body) body) in
+    let rest = drop (prefix_len is_no_feed body) body in
+    pointed_as (line (46 ∷ (front ++ codes ", set " ++ scaled_text width ++ dotted rest))) (set_text body width)
+    (grouped front (codes ", set ") (scaled_text width) (dotted rest))
+    (pointed_dotted (front ++ codes ", set " ++ scaled_text width) rest
+    (lacks_append 10 (front ++ codes ", set ") (scaled_text width)
+    (lacks_append 10 front (codes ", set ") (front_lacks body) refl) (any_scaled_lacks 10 width (omega arith))))
+  where
+    grouped : (a b c d : List ℕ) → line (46 ∷ (a ++ b ++ c ++ d)) ≡ 46 ∷ a ++ (b ++ c ++ line d)
+    grouped a b c d = ap (λ (t : List ℕ). 46 ∷ t) (append_assoc (a ++ b ++ c) d (10 ∷ [])
+        ∙ append_assoc (a ++ b) c (line d) ∙ append_assoc a b (c ++ line d)
+        ∙ ap (λ (t : List ℕ). a ++ t) (sym (append_assoc b c (line d))))
