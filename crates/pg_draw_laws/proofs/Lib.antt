@@ -9,3 +9,5 @@ pub mod TextArea
 pub mod Ends
 pub mod Areas
 pub mod Columns
+pub mod Pages
+pub mod Whole
