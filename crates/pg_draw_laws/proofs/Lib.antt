@@ -11,3 +11,4 @@ pub mod Areas
 pub mod Columns
 pub mod Pages
 pub mod Whole
+pub mod WorkedLines

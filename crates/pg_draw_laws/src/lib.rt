@@ -1,2 +1,11 @@
-//! What `pg run` prints adds up in its drawing.
+//! What is printed of a legal pagination adds up in its drawing.
+//!
+//! Proved: the drawing of the page text has the pages and columns of the pagination in order, with the printed numbers;
+//! a column with text has one text area, whose marks are those of its items and add up to its total. The law is in
+//! `specs/Laws`, the marks of items in `specs/Marks`; `proofs/WorkedLines` computes lines that are not drawn as items,
+//! for which the premises are. There is no code here.
 #![tactic(auto)]
+
+mod laws;
+
+pub use laws::legal_texts_add_up;

@@ -1,0 +1,18 @@
+//! The law is the contract of a function that does nothing but ask for the ranges that the types of a galley and of a
+//! style keep.
+ghost use Rattle.pg_draw_laws.specs.Laws.{LegalAreDrawn};
+
+use pg_column::blocks_of;
+use pg_list::Galley;
+use pg_style::Style;
+
+/// Where a galley shows its items, none of them glue with a comma in its first line, the drawing of the page text of
+/// each legal pagination has its pages and columns, the numbers of each column, and for each column with text one text
+/// area. Where its glue is in range, the marks of this area are those of the text's items, and add up to its total.
+pub fn legal_texts_add_up(galley: &Galley, style: &Style)
+    ensures { LegalAreDrawn galley.now style.now }
+{
+    let _ = galley.width();
+    let _ = blocks_of(galley);
+    style.stays_in_range();
+}
