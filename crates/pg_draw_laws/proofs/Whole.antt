@@ -47,8 +47,8 @@ use Rattle.pg_draw_laws.proofs.Cuts.{IsPiece, NoHead, cut_back}
 use Rattle.pg_draw_laws.proofs.Ends.{drawn_ended}
 use Rattle.pg_draw_laws.proofs.ItemLines.{Reads}
 use Rattle.pg_draw_laws.proofs.Lines.{IsLines, lines_as, lines_both, lines_line}
-use Rattle.pg_draw_laws.proofs.Pages.{ArePages, IsPage, PageLines, all_columns, all_drawn, counts, counts_drawn, drawn_counts, page_counts, page_drawn, page_is, page_piece, pages_are, pages_joined}
-use Rattle.pg_draw_laws.specs.Laws.{AreColumnsDrawn, IsPlanDrawn, LegalAreDrawn, drawn_columns}
+use Rattle.pg_draw_laws.proofs.Pages.{ArePages, IsPage, PageLines, all_columns, all_drawn, counts, counts_drawn, drawn_counts, heads_drawn, heads_in_order, page_counts, page_drawn, page_is, page_piece, pages_are, pages_joined}
+use Rattle.pg_draw_laws.specs.Laws.{AreColumnsDrawn, IsPlanDrawn, LegalAreDrawn, drawn_columns, heads_from}
 use Rattle.pg_draw_laws.specs.Marks.{HasNoComma, HasNoCommas}
 
 -- ---- the head
@@ -117,6 +117,9 @@ lines_drawn galley style plan cost text wide small filled s =
       pages = ap drawn_counts all ∙ counts_drawn s.pages s.each ∙ ap reverse s.counts_are
           ∙ counts_back (pages_from style (columns plan))
           ∙ ap (λ (it : Pagination). page_counts it.pages) (plan_back style plan filled);
+      heads = ap (map (λ (page : DrawnPage). page.head)) all ∙ heads_drawn s.pages ∙ ap reverse s.heads_are
+          ∙ heads_in_order style (pages_from style (columns plan))
+          ∙ ap (λ (it : Pagination). heads_from style 1 it.pages) (plan_back style plan filled);
       columns = subst (AreColumnsDrawn (document galley style) (columns plan))
           (sym (ap (λ (ds : List DrawnPage). reverse (drawn_columns ds)) all ∙ all_drawn s.pages s.each)) s.drawn;
     }

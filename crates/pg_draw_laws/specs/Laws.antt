@@ -1,5 +1,5 @@
 -- What the drawing of a printed pagination shows, in the words of the contracts.
-use Rattle.std.specs.Prelude.{◌≡◌, ◌<◌, ◌^◌, ℕ, Bool, true, false, List, [], ◌∷◌, length, map, reverse, Some, ℤ, pos}
+use Rattle.std.specs.Prelude.{◌≡◌, ◌<◌, ◌+◌, ◌^◌, ℕ, Bool, true, false, List, [], ◌∷◌, length, map, reverse, Option, Some, ℤ, pos}
 use Rattle.std.specs.List.{AllByRecursion, filter, flat_map}
 use Rattle.pg_flat.specs.Totals.{top_glue}
 use Rattle.pg_list.specs.GalleyValue.{GalleyValue}
@@ -10,7 +10,7 @@ use Rattle.pg_plan.specs.declared.pages.Pagination.{Pagination}
 use Rattle.pg_style.specs.Values.{StyleValue}
 use Rattle.pg_rules.specs.ColumnRules.{segment, text_badness, text_goal, text_total}
 use Rattle.pg_rules.specs.Cost.{text_demerits}
-use Rattle.pg_rules.specs.History.{context}
+use Rattle.pg_rules.specs.History.{context, side_of}
 use Rattle.pg_rules.specs.Legal.{Legal, document}
 use Rattle.pg_rules.specs.Room.{ColumnContext, Document, is_text, size_of}
 use Rattle.pg_pages.specs.PageText.{end_penalty, page_text}
@@ -29,6 +29,7 @@ use Rattle.pg_drawing.specs.declared.model.Drawing.{Drawing}
 use Rattle.pg_drawing.specs.declared.model.Mark.{Mark}
 use Rattle.pg_drawing.specs.declared.model.Numbers.{Numbers}
 use Rattle.pg_drawing.specs.declared.model.Numbers.TheVariants.{Set, Without}
+use Rattle.pg_drawing.specs.declared.model.PageHead.{PageHead}
 use Rattle.pg_draw_laws.specs.Marks.{HasNoCommas, IsTextDrawn}
 
 -- ---- text areas
@@ -91,12 +92,19 @@ AreColumnsDrawn doc (m ∷ ms) (column ∷ drawn) = IsColumnDrawn (context doc m
 abbrev pub drawn_columns : List DrawnPage → List DrawnColumn
 drawn_columns pages = flat_map (λ (page : DrawnPage). page.columns) pages
 
--- as many pages, each with as many columns, and the columns of the pagination in order
+-- what the lines of pages say that are numbered from here on
+abbrev pub heads_from : StyleValue → ℕ → List Page → List (Option PageHead)
+heads_from style number [] = []
+heads_from style number (page ∷ pages) =
+    Some (record { side = side_of style.first number; run = page.run }) ∷ heads_from style (number + 1) pages
+
+-- as many pages, each with its side, its run and as many columns, and the columns of the pagination in order
 pub record IsPlanDrawn (galley : GalleyValue) (style : StyleValue) (plan : Pagination) (cost : ℤ) (drawing : Drawing) :
     Type 0 where
   pub head : drawing.head ≡ Some (record { cost = cost; width = galley.width })
   pub pages : map (λ (page : DrawnPage). length page.columns) drawing.pages
       ≡ map (λ (page : Page). length page.columns) plan.pages
+  pub heads : map (λ (page : DrawnPage). page.head) drawing.pages ≡ heads_from style 1 plan.pages
   pub columns : AreColumnsDrawn (document galley style) (columns plan) (reverse (drawn_columns drawing.pages))
 
 -- the drawing of what is printed of a legal pagination of a galley that shows its items, none of them glue with a comma
