@@ -1,22 +1,21 @@
 -- The areas of a printed column as pieces of its lines.
-use Rattle.std.proofs.Common.{◌≡◌, ◌∙◌, refl, sym, ap, subst, Bool, true, false, ℕ, List, [], ◌∷◌, ◌++◌, length, map, drop, append_assoc, append-nil, arith}
+use Rattle.std.proofs.Common.{◌≡◌, ◌∙◌, refl, sym, ap, subst, Bool, true, false, ℕ, List, [], ◌∷◌, ◌++◌, length, map, drop, append-nil, arith}
 use Rattle.std.proofs.lemmas.Grind.{flat_map-append}
 use Rattle.std.proofs.lemmas.List.{map-append}
 use Rattle.std.proofs.lemmas.List.Elements.{filter-append}
 use Rattle.std.specs.List.{AllByRecursion, filter, flat_map, take_while}
-use Rattle.std.specs.Prelude.{codes, if◌then◌else◌, not, ℤ, pos, ◌≤ℤ◌}
+use Rattle.std.specs.Prelude.{codes, not, ℤ, pos, ◌≤ℤ◌}
 use Rattle.pg_lemmas.proofs.Lists.{all_append}
 use Rattle.pg_list.specs.declared.item.Item.{Item}
 use Rattle.pg_list.specs.declared.item.Item.TheVariants as item
 use Rattle.pg_list.specs.Shapes.{is_box}
 use Rattle.pg_flat.specs.Totals.{top_glue}
-use Rattle.pg_rules.specs.ColumnRules.{segment, text_total}
+use Rattle.pg_rules.specs.ColumnRules.{segment}
 use Rattle.pg_rules.specs.Room.{ColumnContext, before_bottom}
 use Rattle.pg_pages.specs.Bodies.{body_text, plain_text, set_text}
 use Rattle.pg_pages.specs.PageText.{area, bottom_area, floats_text, items_text, notes_text, set_items, text_area, top_area, top_line}
 use Rattle.pg_pages.specs.SetGlue.{glue_widths}
 use Rattle.pg_scaled.specs.Scaled.{scaled_text}
-use Rattle.pg_scan.specs.Lines.{dotted}
 use Rattle.pg_scan.specs.Parts.{after, parts_of}
 use Rattle.pg_words.specs.Written.{line}
 use Rattle.pg_word_laws.proofs.Blanks.{any_scaled_lacks}
@@ -27,7 +26,7 @@ use Rattle.pg_drawing.specs.declared.model.DrawnArea.{DrawnArea}
 use Rattle.pg_drawing.specs.declared.pieces.Kind.TheVariants as at
 use Rattle.pg_draw_laws.proofs.Cuts.{IsPiece, NoHead, lines_of}
 use Rattle.pg_draw_laws.proofs.ItemLines.{Reads}
-use Rattle.pg_draw_laws.proofs.Lines.{HasPoint, IsLines, IsPointed, all_pointed, body_pointed, floats_pointed, lines_as, lines_both, lines_line, lines_none, notes_pointed, pointed_both, pointed_line, pointed_none, points_none, set_pointed}
+use Rattle.pg_draw_laws.proofs.Lines.{HasPoint, IsLines, IsPointed, all_pointed, body_pointed, floats_pointed, lines_both, lines_line, lines_none, notes_pointed, pointed_both, pointed_line, pointed_none, points_none, set_pointed}
 use Rattle.pg_draw_laws.proofs.TextArea.{area_adds_up, items_shown, marks_say}
 use Rattle.pg_drawing.specs.declared.model.Shape.{Shape}
 use Rattle.pg_draw_laws.specs.Marks.{IsTextDrawn}

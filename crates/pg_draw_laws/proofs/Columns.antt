@@ -1,8 +1,8 @@
 -- A printed column as a piece of lines, and what is drawn of it.
-use Rattle.std.proofs.Common.{◌≡◌, ◌∙◌, refl, sym, ap, subst, ◌<◌, ◌≤◌, ◌^◌, Bool, true, false, ℕ, List, [], ◌∷◌, ◌++◌, map, append_assoc, append-nil, arith}
+use Rattle.std.proofs.Common.{◌≡◌, ◌∙◌, refl, sym, ap, subst, ◌<◌, ◌^◌, Bool, true, false, ℕ, List, [], ◌∷◌, ◌++◌, map, append_assoc, arith}
 use Rattle.std.specs.List.{AllByRecursion, filter, flat_map}
 use Rattle.std.specs.Option.{option_map_or}
-use Rattle.std.specs.Prelude.{codes, decimal, if◌then◌else◌, Option, Some, None, ℤ, pos, ◌≤ℤ◌}
+use Rattle.std.specs.Prelude.{codes, if◌then◌else◌, Option, Some, None, ℤ, pos, ◌≤ℤ◌}
 use Rattle.pg_lemmas.proofs.Bools.{not_both}
 use Rattle.pg_lemmas.proofs.Lists.{some_is}
 use Rattle.pg_plan.specs.declared.pages.Column.{Column}
@@ -10,7 +10,7 @@ use Rattle.pg_rules.specs.ColumnRules.{segment, text_badness, text_goal, text_to
 use Rattle.pg_rules.specs.Cost.{text_demerits}
 use Rattle.pg_rules.specs.Room.{ColumnContext, is_text, size_of}
 use Rattle.pg_pages.specs.PageText.{area, bottom_area, column_body, column_line as printed_column, end_penalty, float_column, notes_text, set_line, text_area, text_column, top_area}
-use Rattle.pg_scan.specs.Parts.{after, first_part, parts_of}
+use Rattle.pg_scan.specs.Parts.{after, first_part}
 use Rattle.pg_words.specs.InOrder.{words_of}
 use Rattle.pg_words.specs.Written.{line}
 use Rattle.pg_word_laws.proofs.Cut.{joined, joined_lacks, joined_parts, lacks}
@@ -20,7 +20,7 @@ use Rattle.pg_word_laws.proofs.Words.{place_reads}
 use Rattle.pg_output_laws.proofs.PageLines.{column_line_is, column_rest, column_words_lack, counts_words, set_line_is, set_rest, set_words, set_words_lack, to_words, without_rest, without_words_lack}
 use Rattle.pg_output_laws.specs.PageRanges.{IsPrintedBody, IsPrintedColumn, IsPrintedNumbers}
 use Rattle.pg_drawing.specs.Drawn.{area_of, areas_of, column_of, demerits_at, ends_of, numbers_of, one_of, set_from, set_of, set_parts, without_of}
-use Rattle.pg_drawing.specs.Pieces.{Lines, begins, cut}
+use Rattle.pg_drawing.specs.Pieces.{Lines, begins}
 use Rattle.pg_drawing.specs.declared.model.DrawnArea.{DrawnArea}
 use Rattle.pg_drawing.specs.declared.model.DrawnColumn.{DrawnColumn}
 use Rattle.pg_drawing.specs.declared.model.Numbers.{Numbers}
@@ -30,11 +30,13 @@ use Rattle.pg_draw_laws.proofs.Areas.{Areas, areas_both, bottom_areas, notes_are
 use Rattle.pg_draw_laws.proofs.Cuts.{IsPiece, NoHead, cut_front, lines_of}
 use Rattle.pg_draw_laws.proofs.ItemLines.{Reads}
 use Rattle.pg_draw_laws.proofs.Lines.{IsLines, lines_as, lines_both, lines_line}
-use Rattle.pg_draw_laws.specs.Laws.{IsColumnDrawn, IsFloatColumn, IsTextColumn, is_text_area, text_numbers}
+use Rattle.pg_draw_laws.specs.Marks.{AreReadable}
+use Rattle.pg_draw_laws.specs.Laws.{IsColumnDrawn, is_text_area, text_numbers}
 
 -- ---- the numbers of a column
 
-set_says : (goal total : ℤ) (badness : ℕ) (penalty demerits : ℤ) → IsPrintedNumbers goal total badness penalty demerits →
+set_says : (goal total : ℤ) (badness : ℕ) (penalty demerits : ℤ) →
+    IsPrintedNumbers goal total badness penalty demerits →
     set_of (codes "set" ∷ set_words goal total badness penalty demerits)
     ≡ Some (Set goal total (pos badness) penalty demerits)
 unfolding set_parts set_from demerits_at
@@ -152,7 +154,8 @@ body_of : (first text : List ℕ) (numbers : Option Numbers) (texts : List Drawn
     numbers_of first ≡ numbers → Areas text texts → IsBody (line first ++ text) numbers texts
 body_of first text numbers texts none says areas = record {
   lines = first ∷ flat_map lines_of areas.pieces;
-  are = lines_both (line first) text (first ∷ []) (flat_map lines_of areas.pieces) (lines_line first none.feed) areas.are;
+  are = lines_both (line first) text (first ∷ []) (flat_map lines_of areas.pieces) (lines_line first none.feed)
+      areas.are;
   no_page = (none.page, areas.no_page);
   no_column = (none.column, areas.no_column);
   says = says;
@@ -224,7 +227,8 @@ column_with it number h numbers texts body drawn =
     let piece : Lines = record { head = head; rest = body.lines } in
     record {
       piece = piece;
-      are = lines_as (line head ++ column_body it) (printed_column number it.column ++ column_body it) (head ∷ body.lines)
+      are = lines_as (line head ++ column_body it) (printed_column number it.column ++ column_body it)
+          (head ∷ body.lines)
           (ap (λ (t : List ℕ). t ++ column_body it) (sym (column_line_is number it.column)))
           (lines_both (line head) (column_body it) (head ∷ []) body.lines
           (lines_line head (joined_lacks 10 32 (codes "column" ∷ column_rest number it.column) refl
@@ -235,12 +239,14 @@ column_with it number h numbers texts body drawn =
     }
 
 pub column_lines : (it : ColumnContext) (number : ℕ) → IsPrintedColumn it.column → IsPrintedBody it →
-    pos 0 ≤ℤ it.document.style.maxdepth → ((n : ℕ) → AllByRecursion Reads (segment it n)) → IsColumnLines it number
+    pos 0 ≤ℤ it.document.style.maxdepth →
+    (AreReadable it.document.blocks → (n : ℕ) → AllByRecursion Reads (segment it n)) → IsColumnLines it number
 column_lines it number column h low reads = by (is_text it) refl
   where
     body_is : (b : Bool) → is_text it ≡ b →
         (if b then option_map_or (text_column it) (size_of it) [] else float_column it) ≡ column_body it
-    body_is b e = ap (λ (x : Bool). if x then option_map_or (text_column it) (size_of it) [] else float_column it) (sym e)
+    body_is b e =
+        ap (λ (x : Bool). if x then option_map_or (text_column it) (size_of it) [] else float_column it) (sym e)
 
     by : (b : Bool) → is_text it ≡ b → IsColumnLines it number
     by true e =
@@ -258,7 +264,7 @@ column_lines it number column h low reads = by (is_text it) refl
             numbers = numbers;
             area = text;
             only = areas;
-            shown = text_shown it n.0 (reads n.0) low;
+            shown = λ readable. text_shown it n.0 (reads readable n.0) low;
           };
           floats = λ f. absurd (not_both (is_text it) e f);
         })

@@ -1,5 +1,5 @@
 -- What is read at the front of a text is the same where a comma, and whatever follows it, stands behind the text.
-use Rattle.std.proofs.Common.{◌≡◌, ◌∙◌, refl, sym, ap, subst, ◌≤◌, ◌+◌, ◌-◌, ℕ, suc, Bool, true, false, List, [], ◌∷◌, ◌++◌, length, take, drop, append-nil, arith}
+use Rattle.std.proofs.Common.{◌≡◌, ◌∙◌, refl, sym, ap, subst, ◌≤◌, ◌+◌, ◌-◌, ℕ, suc, Bool, true, false, List, [], ◌∷◌, ◌++◌, length, take, drop, arith}
 use Rattle.std.proofs.lemmas.List.{take-append-le, drop-append-le, length-drop}
 use Rattle.std.proofs.lemmas.List.Sums.{prefix_len-le-length}
 use Rattle.std.proofs.lemmas.List.Folds.{length-prefix_len}
@@ -7,7 +7,7 @@ use Rattle.std.proofs.lemmas.Bool.{eqb-true}
 use Rattle.std.proofs.lemmas.Bool.Decides.{nat_tests}
 use Rattle.std.specs.Char.{is_ascii_digit}
 use Rattle.std.specs.Option.{option_map}
-use Rattle.std.specs.Prelude.{◌==◌, ◌&&◌, not, if◌then◌else◌, codes, Option, Some, None, Result, Ok, Err, ℤ, nat_lt, nat_le, int_le}
+use Rattle.std.specs.Prelude.{◌==◌, ◌&&◌, not, if◌then◌else◌, codes, Option, Some, None, Result, Ok, Err, ℤ, nat_le, int_le}
 use Rattle.std.specs.Str.{bytes_eq}
 use Rattle.std.specs.Str.Parse.{digits_value}
 use Rattle.pg_lemmas.proofs.Bools.{both_of, not_true}
@@ -79,7 +79,8 @@ letter_append [] [] k = refl
 letter_append [] (c ∷ cs) k = subst (λ (d : ℕ). begins_with_letter (d ∷ cs) ≡ false) (sym k) refl
 letter_append (c ∷ cs) b k = refl
 
-unless_append : (o : Option (List ℕ)) (b : List ℕ) → Behind b → unless_letter (with_more b o) ≡ with_more b (unless_letter o)
+unless_append : (o : Option (List ℕ)) (b : List ℕ) → Behind b →
+    unless_letter (with_more b o) ≡ with_more b (unless_letter o)
 unless_append None b k = refl
 unless_append (Some t) b k = ap (λ (test : Bool). if test then None else Some (t ++ b)) (letter_append t b k)
     ∙ by (begins_with_letter t)

@@ -1,8 +1,7 @@
 -- Lines cut at heads: the pieces are those of which the lines were made.
 use Rattle.std.proofs.Common.{◌≡◌, ◌∙◌, refl, sym, ap, subst, Bool, true, false, ℕ, List, [], ◌∷◌, ◌++◌, append_assoc, append-nil}
-use Rattle.std.proofs.lemmas.List.{reverse-append}
 use Rattle.std.specs.List.{AllByRecursion, flat_map}
-use Rattle.std.specs.Prelude.{if◌then◌else◌, reverse}
+use Rattle.std.specs.Prelude.{reverse}
 use Rattle.pg_lemmas.proofs.Lists.{all_append, reverse_cons}
 use Rattle.pg_drawing.specs.Pieces.{Lines, cut, until}
 

@@ -4,9 +4,9 @@ use Rattle.std.proofs.Math.IntN.{+ℤ_assoc, +ℤ_idl, +ℤ_idr}
 use Rattle.std.proofs.lemmas.Int.{ints}
 use Rattle.std.proofs.lemmas.List.Folds.{find-append}
 use Rattle.std.specs.Int.{int_min}
-use Rattle.std.specs.List.{find, prefix_len, take_while}
+use Rattle.std.specs.List.{find, prefix_len}
 use Rattle.std.specs.Option.{option_map_or, option_or}
-use Rattle.std.specs.Prelude.{◌==◌, not, if◌then◌else◌, cond, Option, Some, None, ℤ, pos, ◌+ℤ◌, ◌-ℤ◌, ◌≤ℤ◌, int_lt, reverse}
+use Rattle.std.specs.Prelude.{not, if◌then◌else◌, cond, Option, Some, None, ℤ, pos, ◌+ℤ◌, ◌-ℤ◌, ◌≤ℤ◌, int_lt, reverse}
 use Rattle.pg_lemmas.proofs.Lists.{reverse_cons}
 use Rattle.pg_list.specs.declared.item.Item.{Item}
 use Rattle.pg_list.specs.declared.item.Item.TheVariants as item
@@ -17,7 +17,6 @@ use Rattle.pg_drawing.proofs.Limits.{total_adds_up}
 use Rattle.pg_drawing.specs.Totals.{adds_up, hanging, hanging_behind, natural_extent, with_items}
 use Rattle.pg_drawing.specs.declared.model.Mark.{Mark}
 use Rattle.pg_drawing.specs.declared.model.Shape.{Shape}
-use Rattle.pg_drawing.specs.declared.model.Shape.TheVariants.{Box, Rule, Glue, Kern, Penalty, Insert, Other}
 use Rattle.pg_draw_laws.specs.Marks.{AreDrawn, First, IsDrawn, IsTextDrawn, above, below, top_shape}
 
 -- ---- heights

@@ -1,15 +1,14 @@
 -- The lines of items: the first says the shape, and no other begins an item.
-use Rattle.std.proofs.Common.{◌≡◌, ◌∙◌, refl, sym, ap, subst, ◌+◌, Bool, true, false, ℕ, List, [], ◌∷◌, ◌++◌, length, map, take, drop, append_assoc, append-nil, arith}
+use Rattle.std.proofs.Common.{◌≡◌, ◌∙◌, refl, sym, ap, subst, true, false, ℕ, List, [], ◌∷◌, ◌++◌, length, map, take, drop, append_assoc, append-nil, arith}
 use Rattle.std.proofs.lemmas.List.{map-append, take_at, drop_at}
 use Rattle.std.proofs.lemmas.List.Elements.{filter-append}
 use Rattle.std.specs.List.{AllByRecursion, filter, flat_map, prefix_len}
-use Rattle.std.specs.Prelude.{◌==◌, ◌&&◌, not, codes, Option, Some, None, Ok, ℤ, pos, is_some}
-use Rattle.pg_lemmas.proofs.Bools.{both_of, not_true}
+use Rattle.std.specs.Prelude.{◌==◌, not, codes, Option, Some, None, Ok, ℤ, pos, is_some}
+use Rattle.pg_lemmas.proofs.Bools.{both_of}
 use Rattle.pg_lemmas.proofs.Lists.{all_append}
 use Rattle.pg_list.specs.Bodies.{body_of}
 use Rattle.pg_list.specs.declared.item.Item.{Item}
 use Rattle.pg_list.specs.declared.item.Item.TheVariants as item
-use Rattle.pg_list.specs.declared.item.Order.{Order}
 use Rattle.pg_pages.specs.Bodies.{body_text, plain_text, set_rest, set_text}
 use Rattle.pg_pages.specs.PageText.{set_items}
 use Rattle.pg_scaled.specs.Ranges.{IsScaled}
@@ -26,10 +25,10 @@ use Rattle.pg_word_laws.proofs.Cut.{lacks, lacks_append}
 use Rattle.pg_drawing.specs.Pieces.{begins}
 use Rattle.pg_drawing.specs.Shapes.{shape_of}
 use Rattle.pg_drawing.specs.declared.model.Shape.{Shape}
-use Rattle.pg_drawing.specs.declared.model.Shape.TheVariants.{Box, Rule, Glue, Kern, Penalty, Insert, Other}
+use Rattle.pg_drawing.specs.declared.model.Shape.TheVariants.{Glue}
 use Rattle.pg_drawing.specs.declared.pieces.Kind.TheVariants as at
 use Rattle.pg_draw_laws.proofs.Commas.{after_append, with_more}
-use Rattle.pg_draw_laws.proofs.ItemShapes.{IsPlain, deeper_said, item_begins, no_comma, node_said, own_of, plain_drawn, set_drawn}
+use Rattle.pg_draw_laws.proofs.ItemShapes.{deeper_said, item_begins, no_comma, node_said, plain_drawn, set_drawn}
 use Rattle.pg_draw_laws.proofs.Lines.{HasPoint, IsLines, dotted_more, feed_lacks, lines_as, lines_both, lines_line, lines_none}
 use Rattle.pg_draw_laws.specs.Marks.{AreDrawn, HasNoComma, IsDrawn, first_line}
 
@@ -110,7 +109,8 @@ body_shows : (first : List ℕ) (deeper : List (List ℕ)) → lacks 10 first �
     Shows (body_text (first ++ deeper_text deeper)) (shape_of (46 ∷ first) ∷ [])
 body_shows first deeper lack none each =
     shows_as (line ((46 ∷ first) ++ dotted (deeper_text deeper))) (body_text (first ++ deeper_text deeper))
-    (shape_of (46 ∷ first) ∷ []) (ap (λ (t : List ℕ). line (46 ∷ t)) (sym (dotted_more first (deeper_text deeper) lack)))
+    (shape_of (46 ∷ first) ∷ [])
+    (ap (λ (t : List ℕ). line (46 ∷ t)) (sym (dotted_more first (deeper_text deeper) lack)))
     (front_shows first deeper lack none each)
 
 feed_none : (deeper : List (List ℕ)) → prefix_len is_no_feed (deeper_text deeper) ≡ 0
@@ -152,7 +152,8 @@ set_is first deeper set lack =
 
 still_none : (first more : List ℕ) → is_some (after (codes ".") first) ≡ false →
     is_some (after (codes ".") (first ++ 44 ∷ more)) ≡ false
-still_none first more none = ap is_some (after_append (codes ".") first (44 ∷ more) refl refl) ∙ by (after (codes ".") first) none
+still_none first more none = ap is_some (after_append (codes ".") first (44 ∷ more) refl refl)
+    ∙ by (after (codes ".") first) none
   where
     by : (o : Option (List ℕ)) → is_some o ≡ false → is_some (with_more (44 ∷ more) o) ≡ false
     by None e = refl
@@ -160,7 +161,8 @@ still_none first more none = ap is_some (after_append (codes ".") first (44 ∷ 
 
 set_shows : (first : List ℕ) (deeper : List (List ℕ)) (set : ℤ) → lacks 10 first ≡ true →
     is_some (after (codes ".") first) ≡ false → AllByRecursion IsDeeper deeper →
-    Shows (set_text (first ++ deeper_text deeper) set) (shape_of (46 ∷ (first ++ (codes ", set " ++ scaled_text set))) ∷ [])
+    Shows (set_text (first ++ deeper_text deeper) set)
+    (shape_of (46 ∷ (first ++ (codes ", set " ++ scaled_text set))) ∷ [])
 set_shows first deeper set lack none each =
     let t = first ++ (codes ", set " ++ scaled_text set) in
     shows_as (line ((46 ∷ t) ++ dotted (deeper_text deeper))) (set_text (first ++ deeper_text deeper) set)
@@ -191,9 +193,6 @@ SetShows _ set = Unit {0}
 
 module _ (first : List ℕ) (deeper : List (List ℕ)) (lack : lacks 10 first ≡ true)
     (none : is_some (after (codes ".") first) ≡ false) (each : AllByRecursion IsDeeper deeper) where
-
-
-
   shows : Shows (body_text (first ++ deeper_text deeper)) (shape_of (46 ∷ first) ∷ [])
   shows = body_shows first deeper lack none each
 

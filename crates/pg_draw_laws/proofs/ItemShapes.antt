@@ -1,20 +1,18 @@
 -- The shape that the first line of an item says.
-use Rattle.std.proofs.Common.{◌≡◌, ◌∙◌, refl, sym, ap, subst, ◌≤◌, ◌<◌, ◌+◌, ◌*◌, ◌/◌, ◌%◌, ◌^◌, Bool, true, false, ℕ, suc, List, [], ◌∷◌, ◌++◌, length, drop, append-nil, arith}
+use Rattle.std.proofs.Common.{◌≡◌, ◌∙◌, refl, sym, ap, subst, ◌+◌, ◌*◌, ◌/◌, ◌%◌, Bool, true, false, ℕ, suc, List, [], ◌∷◌, ◌++◌, length, drop, append-nil, arith}
 use Rattle.std.proofs.Math.Seq.{drop-length}
 use Rattle.std.proofs.lemmas.List.{append_cancel_left}
 use Rattle.std.specs.List.{AllByRecursion}
-use Rattle.std.specs.Prelude.{◌==◌, ◌&&◌, ◌||◌, not, if◌then◌else◌, codes, decimal, Option, Some, None, Result, Ok, Err, ℤ, pos, negsuc, neg_ℤ, nat_abs, is_some}
+use Rattle.std.specs.Prelude.{◌==◌, ◌||◌, not, if◌then◌else◌, codes, decimal, Option, Some, None, Result, Ok, Err, ℤ, pos, negsuc, neg_ℤ, nat_abs, is_some}
 use Rattle.std.specs.Str.{bytes_eq}
 use Rattle.pg_lemmas.proofs.Bools.{both}
-use Rattle.pg_list.specs.declared.item.Item.{Item}
-use Rattle.pg_list.specs.declared.item.Item.TheVariants as item
 use Rattle.pg_list.specs.declared.item.Order.{Order}
 use Rattle.pg_list.specs.declared.item.Order.TheVariants.{Finite}
 use Rattle.pg_scaled.proofs.ReadsBack.{all_digits, text_reads}
 use Rattle.pg_scaled.specs.Ranges.{IsScaled}
 use Rattle.pg_scaled.specs.Scaled.{fraction_digits, scaled_text, scaled_value, size_text}
 use Rattle.pg_scan.specs.Parts.{after, differs_from, first_part, named, on, parts_of}
-use Rattle.pg_showbox.specs.Nodes.{amount_at, glue_at, glue_text_at, node_at, node_item, past_name, shrink_at, stretch_at}
+use Rattle.pg_showbox.specs.Nodes.{glue_at, glue_text_at, node_at, node_item, past_name, shrink_at, stretch_at}
 use Rattle.pg_showbox.specs.ParsedLine.{marker_at, or_shape, pointed_at, variant_at}
 use Rattle.pg_showbox.specs.Parts.{◌>>=◌, due, size_at, whole_at}
 use Rattle.pg_showbox.specs.declared.kinds.ListKind.{ListKind}
@@ -26,12 +24,12 @@ use Rattle.pg_showbox.specs.declared.parsed.ParsedLine.TheVariants as said
 use Rattle.pg_drawing.specs.Pieces.{begins}
 use Rattle.pg_drawing.specs.Shapes.{as_shape, or_other, second_part, set_at, shape_at, shape_of, sized_at}
 use Rattle.pg_drawing.specs.declared.model.Shape.{Shape}
-use Rattle.pg_drawing.specs.declared.model.Shape.TheVariants.{Box, Rule, Glue, Kern, Penalty, Insert, Other}
+use Rattle.pg_drawing.specs.declared.model.Shape.TheVariants.{Glue}
 use Rattle.pg_drawing.specs.declared.pieces.Kind.TheVariants as at
 use Rattle.pg_word_laws.proofs.Blanks.{any_digits}
 use Rattle.pg_word_laws.proofs.Cut.{digits_lack, lacks, lacks_append, part_here, part_last}
 use Rattle.pg_word_laws.proofs.Words.{behind_lacks}
-use Rattle.pg_draw_laws.proofs.Commas.{Behind, IsCut, cut_at_comma}
+use Rattle.pg_draw_laws.proofs.Commas.{cut_at_comma}
 use Rattle.pg_draw_laws.proofs.Nodes.{Draws, Yields, node_yields}
 use Rattle.pg_draw_laws.specs.Marks.{IsDrawn}
 
@@ -159,7 +157,8 @@ own_width own = refl
 
 -- ---- the shape
 
-shape_is : (t : List ℕ) → shape_of (46 ∷ t) ≡ or_other (sized_at (second_part (parts_of 44 t)) (first_part (parts_of 44 t)))
+shape_is : (t : List ℕ) →
+    shape_of (46 ∷ t) ≡ or_other (sized_at (second_part (parts_of 44 t)) (first_part (parts_of 44 t)))
 unfolding shape_of shape_at after
 shape_is t = refl
 

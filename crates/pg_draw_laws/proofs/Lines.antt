@@ -2,7 +2,7 @@
 use Rattle.std.proofs.Common.{◌≡◌, ◌∙◌, refl, sym, ap, subst, ◌+◌, Bool, true, false, ℕ, suc, List, [], ◌∷◌, ◌++◌, take, drop, append_assoc, append-nil, arith}
 use Rattle.std.proofs.lemmas.Bool.{eqb-true}
 use Rattle.std.specs.List.{AllByRecursion, flat_map, prefix_len, range_with_len}
-use Rattle.std.specs.Prelude.{◌==◌, ◌&&◌, not, if◌then◌else◌, codes, cond, IsTrue, ℤ}
+use Rattle.std.specs.Prelude.{◌==◌, not, if◌then◌else◌, codes, cond, IsTrue, ℤ}
 use Rattle.pg_lemmas.proofs.Bools.{both, both_of, not_true}
 use Rattle.pg_lemmas.proofs.Lists.{all_append}
 use Rattle.pg_rules.specs.Floats.{dealt}

@@ -1,22 +1,20 @@
 -- What a galley says of an item, and what a drawing reads of its line.
 use Rattle.std.proofs.Common.{◌≡◌, ◌∙◌, refl, sym, ap, subst, Bool, true, false, ℕ, List, [], ◌∷◌, ◌++◌, append-nil}
-use Rattle.std.specs.Option.{option_map}
-use Rattle.std.specs.Prelude.{◌==◌, ◌&&◌, ◌||◌, if◌then◌else◌, codes, Option, Some, None, Result, Ok, Err, ℤ, pos, negsuc, is_some, int_lt}
+use Rattle.std.specs.Prelude.{◌==◌, if◌then◌else◌, codes, Option, Some, None, Result, Ok, Err, ℤ, pos, negsuc, is_some}
 use Rattle.std.specs.Str.{bytes_eq}
 use Rattle.pg_list.specs.declared.item.Order.{Order}
-use Rattle.pg_list.specs.declared.item.Order.TheVariants.{Finite, Fil, Fill, Filll}
-use Rattle.pg_scan.specs.Parts.{after, begins_with_letter, named, on, past}
-use Rattle.pg_showbox.specs.Nodes.{amount_at, carry_or_unknown, ends_glue, glue_at, glue_text_at, if_finite, kern_at, later_node_at, leaders_at, natural_at, node_at, penalty_at, shrink_at, stretch_at}
+use Rattle.pg_scan.specs.Parts.{after, begins_with_letter, on, past}
+use Rattle.pg_showbox.specs.Nodes.{carry_or_unknown, ends_glue, glue_at, glue_text_at, kern_at, later_node_at, leaders_at, natural_at, node_at, penalty_at, shrink_at, stretch_at}
 use Rattle.pg_showbox.specs.Nodes.{box_at as node_box, insert_at as node_insert, past_natural as past_node_natural, rule_at as node_rule}
 use Rattle.pg_showbox.specs.Nodes.{past_name}
 use Rattle.pg_showbox.specs.Parts.{◌>>=◌, class_at, due, fixed_size, past_width, size_at, whole_at}
 use Rattle.pg_showbox.specs.declared.kinds.ListKind.{ListKind}
-use Rattle.pg_showbox.specs.declared.kinds.ListKind.TheVariants.{BadLine, BadNumber, RunningSize, UnknownNode, Truncated}
+use Rattle.pg_showbox.specs.declared.kinds.ListKind.TheVariants.{BadLine, RunningSize, UnknownNode, Truncated}
 use Rattle.pg_showbox.specs.declared.node.Node.{Node}
 use Rattle.pg_showbox.specs.declared.node.Node.TheVariants as shown
 use Rattle.pg_drawing.specs.Shapes.{as_shape, box_at, insert_at, later_at, rule_at, shared_at, sized_at}
 use Rattle.pg_drawing.specs.declared.model.Shape.{Shape}
-use Rattle.pg_drawing.specs.declared.model.Shape.TheVariants.{Box, Rule, Glue, Kern, Penalty, Insert, Other}
+use Rattle.pg_drawing.specs.declared.model.Shape.TheVariants.{Box, Rule, Kern, Penalty}
 use Rattle.pg_draw_laws.proofs.Commas.{Behind, carried, due_append, longer_by, named_append, past_append, size_append, whole_append, with_more}
 
 -- what is read of an item whose line goes on with b behind its part, where this stands behind the comma

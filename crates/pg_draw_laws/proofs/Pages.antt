@@ -3,7 +3,7 @@ use Rattle.std.proofs.Common.{◌≡◌, ◌∙◌, refl, sym, ap, subst, ◌≤
 use Rattle.std.proofs.lemmas.Grind.{flat_map-append}
 use Rattle.std.proofs.lemmas.List.{length-map, length-reverse, map-append, reverse-append, reverse-reverse}
 use Rattle.std.specs.List.{AllByRecursion, flat_map}
-use Rattle.std.specs.Prelude.{◌==◌, codes, if◌then◌else◌, reverse, Option, Some, ℤ, pos, ◌≤ℤ◌}
+use Rattle.std.specs.Prelude.{◌==◌, codes, if◌then◌else◌, reverse, Option, Some, pos, ◌≤ℤ◌}
 use Rattle.pg_column_laws.proofs.Push.{column_some}
 use Rattle.pg_lemmas.proofs.Numbers.{more_than_one}
 use Rattle.pg_lemmas.proofs.Lists.{all_append, reverse_cons}
@@ -24,18 +24,19 @@ use Rattle.pg_word_laws.proofs.Cut.{joined, joined_lacks, joined_parts}
 use Rattle.pg_word_laws.proofs.Numbers.{number_reads}
 use Rattle.pg_word_laws.proofs.Words.{side_reads}
 use Rattle.pg_output_laws.proofs.PageLines.{page_line_is, page_rest, page_words_lack}
-use Rattle.pg_output_laws.specs.PageRanges.{ArePrintedMoves, IsPrintedMove}
+use Rattle.pg_output_laws.specs.PageRanges.{ArePrintedMoves}
 use Rattle.pg_drawing.specs.Drawn.{column_of, page_head, page_of}
 use Rattle.pg_drawing.specs.Pieces.{Lines, begins}
 use Rattle.pg_drawing.specs.declared.model.DrawnColumn.{DrawnColumn}
 use Rattle.pg_drawing.specs.declared.model.DrawnPage.{DrawnPage}
 use Rattle.pg_drawing.specs.declared.model.PageHead.{PageHead}
 use Rattle.pg_drawing.specs.declared.pieces.Kind.TheVariants as at
-use Rattle.pg_draw_laws.proofs.Areas.{Areas, wide_areas}
+use Rattle.pg_draw_laws.proofs.Areas.{wide_areas}
 use Rattle.pg_draw_laws.proofs.Columns.{IsColumnLines, column_lines}
 use Rattle.pg_draw_laws.proofs.Cuts.{IsPiece, NoHead, cut_back, joined_back, lines_of}
 use Rattle.pg_draw_laws.proofs.ItemLines.{Reads}
 use Rattle.pg_draw_laws.proofs.Lines.{IsLines, floats_pointed, lines_as, lines_both, lines_line, lines_none}
+use Rattle.pg_draw_laws.specs.Marks.{AreReadable}
 use Rattle.pg_draw_laws.specs.Laws.{AreColumnsDrawn, drawn_columns, heads_from}
 
 -- a page: its line, the lines in front of its first column, and its columns from the last to the first
@@ -54,7 +55,8 @@ pub record IsPage (page : PageLines) : Type 0 where
   pub columns : AllByRecursion (IsPiece (begins at.Column)) page.columns
   pub each : AllByRecursion (λ (piece : Lines). NoHead (begins at.Page) (lines_of piece)) page.columns
 
-joined_none : (pieces : List Lines) → AllByRecursion (λ (piece : Lines). NoHead (begins at.Page) (lines_of piece)) pieces →
+joined_none : (pieces : List Lines) →
+    AllByRecursion (λ (piece : Lines). NoHead (begins at.Page) (lines_of piece)) pieces →
     NoHead (begins at.Page) (joined_back pieces)
 joined_none [] each = tt
 joined_none (piece ∷ pieces) each = all_append (λ (l : List ℕ). begins at.Page l ≡ false) (joined_back pieces)
@@ -306,7 +308,8 @@ none_one : (n : ℕ) → (1 == 1) ≡ false → IsSome []
 none_one n e = absurd cc
 
 pub pages_are : (doc : Document) → pos 0 ≤ℤ doc.style.maxdepth →
-    ((m : PageMove) (ms : List PageMove) (n : ℕ) → AllByRecursion Reads (segment (context doc m ms) n)) →
+    (AreReadable doc.blocks → (m : PageMove) (ms : List PageMove) (n : ℕ) →
+    AllByRecursion Reads (segment (context doc m ms) n)) →
     (ms : List PageMove) → ArePrintedMoves doc ms → ArePages doc ms (columns_text doc ms) (pages_from doc.style ms)
 pages_are doc low reads [] h = record {
   pages = [];
@@ -318,7 +321,8 @@ pages_are doc low reads [] h = record {
   some = none_one 0;
 }
 pages_are doc low reads (m ∷ ms) h =
-    more doc m ms (column_lines (context doc m ms) (next_column doc.style ms) h.0.column h.0.body low (reads m ms))
+    more doc m ms (column_lines (context doc m ms) (next_column doc.style ms) h.0.column h.0.body low
+    (λ readable. reads readable m ms))
     (columns_text doc ms) (pages_from doc.style ms) h.0.run (number_is doc.style ms) (pages_are doc low reads ms h.1)
     (next_column doc.style ms == 1) refl
 
@@ -405,8 +409,8 @@ heads_in_order style (page ∷ pgs) =
     ∙ ap (λ (os : List (Option PageHead)).
     os ++ Some (record { side = side_of style.first (length pgs + 1); run = page.run }) ∷ []) (heads_in_order style pgs)
     ∙ ap (λ (k : ℕ). heads_from style 1 (reverse pgs)
-    ++ Some (record { side = side_of style.first k; run = page.run }) ∷ []) (sum_turned (length pgs) (length (reverse pgs))
-    (length-reverse pgs))
+    ++ Some (record { side = side_of style.first k; run = page.run }) ∷ [])
+    (sum_turned (length pgs) (length (reverse pgs)) (length-reverse pgs))
     ∙ sym (heads_more style 1 (reverse pgs) page)
     ∙ ap (heads_from style 1) (sym (reverse_cons page pgs))
   where

@@ -1,28 +1,21 @@
 -- The text area of a column: its marks are those of the items, and add up to the total.
-use Rattle.std.proofs.Common.{◌≡◌, ◌∙◌, refl, sym, ap, subst, Bool, true, false, ℕ, List, [], ◌∷◌, ◌++◌, length, map, drop, append-nil, arith}
-use Rattle.std.proofs.lemmas.List.{map-append}
+use Rattle.std.proofs.Common.{◌≡◌, ◌∙◌, refl, sym, ap, subst, true, ℕ, List, [], ◌∷◌, ◌++◌, length, map, append-nil, arith}
 use Rattle.std.proofs.lemmas.List.Elements.{filter-append}
 use Rattle.std.specs.List.{AllByRecursion, filter, flat_map}
 use Rattle.std.specs.Prelude.{codes, ℤ, pos, ◌≤ℤ◌}
 use Rattle.pg_scan.specs.Parts.{after}
 use Rattle.pg_lemmas.proofs.Lists.{all_drop, all_take}
 use Rattle.pg_list.specs.declared.item.Item.{Item}
-use Rattle.pg_list.specs.Shapes.{is_box}
 use Rattle.pg_flat.specs.Totals.{top_glue, total}
-use Rattle.pg_rules.specs.ColumnRules.{segment, text_total}
-use Rattle.pg_rules.specs.Room.{ColumnContext}
 use Rattle.pg_pages.specs.Bodies.{plain_text}
-use Rattle.pg_pages.specs.PageText.{items_text, set_items, text_area, top_line}
-use Rattle.pg_pages.specs.SetGlue.{glue_widths}
+use Rattle.pg_pages.specs.PageText.{items_text, set_items, top_line}
 use Rattle.pg_scaled.specs.Ranges.{IsScaled}
 use Rattle.pg_scaled.specs.Scaled.{scaled_text}
-use Rattle.pg_words.specs.Written.{line}
 use Rattle.pg_word_laws.proofs.Blanks.{any_scaled_lacks}
 use Rattle.pg_word_laws.proofs.Cut.{lacks_append}
 use Rattle.pg_drawing.proofs.Filled.{its_items}
 use Rattle.pg_drawing.specs.Drawn.{area_of}
-use Rattle.pg_drawing.specs.Laws.{item_lines}
-use Rattle.pg_drawing.specs.Pieces.{Lines, begins}
+use Rattle.pg_drawing.specs.Pieces.{begins}
 use Rattle.pg_drawing.specs.Shapes.{shape_of}
 use Rattle.pg_drawing.specs.Totals.{adds_up}
 use Rattle.pg_drawing.specs.declared.model.Mark.{Mark}
@@ -31,7 +24,7 @@ use Rattle.pg_drawing.specs.declared.pieces.Kind.TheVariants as at
 use Rattle.pg_draw_laws.proofs.Heights.{text_adds_up}
 use Rattle.pg_draw_laws.proofs.ItemLines.{Reads, Shows, plain_shown, set_shown, shows_both}
 use Rattle.pg_draw_laws.proofs.ItemShapes.{top_drawn}
-use Rattle.pg_draw_laws.proofs.Lines.{HasPoint, IsLines, lines_line}
+use Rattle.pg_draw_laws.proofs.Lines.{lines_line}
 use Rattle.pg_draw_laws.specs.Marks.{IsTextDrawn, above, below, top_shape}
 
 -- ---- the lines of the items

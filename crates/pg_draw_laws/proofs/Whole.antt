@@ -2,7 +2,7 @@
 use Rattle.std.proofs.Common.{◌≡◌, ◌∙◌, refl, sym, ap, subst, ◌≤◌, ◌<◌, ◌^◌, ℕ, true, false, List, [], ◌∷◌, ◌++◌, length, map, take, arith}
 use Rattle.std.proofs.lemmas.List.{map-append}
 use Rattle.std.specs.List.{AllByRecursion}
-use Rattle.std.specs.Prelude.{codes, reverse, Option, Some, None, ℤ, pos, nat_abs}
+use Rattle.std.specs.Prelude.{codes, reverse, Some, None, ℤ, nat_abs}
 use Rattle.pg_lemmas.proofs.Lists.{all_take, reverse_cons}
 use Rattle.pg_beginning_laws.proofs.Faults.{sound_of}
 use Rattle.pg_beginning_laws.proofs.PagesLaws.{plan_back}
@@ -10,7 +10,6 @@ use Rattle.pg_beginning_laws.specs.Pages.{pages_from}
 use Rattle.pg_list.specs.GalleyValue.{GalleyValue}
 use Rattle.pg_list.specs.declared.blocks.Block.{Block}
 use Rattle.pg_list.specs.declared.blocks.Block.TheVariants.{One, Choice}
-use Rattle.pg_list.specs.declared.item.Item.{Item}
 use Rattle.pg_list.specs.declared.variants.Variant.{Variant}
 use Rattle.pg_plan.specs.Order.{columns}
 use Rattle.pg_plan.specs.declared.pages.Page.{Page}
@@ -25,9 +24,8 @@ use Rattle.pg_rules.specs.Room.{Document, items_of}
 use Rattle.pg_output_laws.proofs.Items.{AllIn, at_all, trimmed_all}
 use Rattle.pg_output_laws.proofs.Moves.{moves_printed}
 use Rattle.pg_output_laws.proofs.PageLines.{head_line_is, head_rest, head_words_lack}
-use Rattle.pg_output_laws.specs.PageRanges.{ArePrintedMoves}
 use Rattle.pg_pages.specs.PageText.{columns_text, head_line as printed_head, page_text}
-use Rattle.pg_scan.specs.Parts.{after, parts_of}
+use Rattle.pg_scan.specs.Parts.{after}
 use Rattle.pg_showbox.specs.Shown.{IsShown, IsShownBlock}
 use Rattle.pg_words.specs.InOrder.{words_of}
 use Rattle.pg_words.specs.Written.{line}
@@ -35,19 +33,16 @@ use Rattle.pg_word_laws.proofs.Cut.{joined, joined_lacks, joined_parts}
 use Rattle.pg_word_laws.proofs.Lengths.{scaled_reads}
 use Rattle.pg_word_laws.proofs.Wholes.{whole_reads}
 use Rattle.pg_word_laws.specs.Ranges.{is_wide}
-use Rattle.pg_drawing.specs.Drawn.{column_of, drawn, drawing_of, head_of, head_words, page_of, pages_of}
-use Rattle.pg_drawing.specs.Pieces.{Lines, begins, cut}
-use Rattle.pg_drawing.specs.declared.model.DrawnColumn.{DrawnColumn}
+use Rattle.pg_drawing.specs.Drawn.{drawn, drawing_of, head_of, head_words, page_of, pages_of}
+use Rattle.pg_drawing.specs.Pieces.{begins}
 use Rattle.pg_drawing.specs.declared.model.DrawnPage.{DrawnPage}
-use Rattle.pg_drawing.specs.declared.model.Drawing.{Drawing}
-use Rattle.pg_drawing.specs.declared.model.Head.{Head}
 use Rattle.pg_drawing.specs.declared.pieces.Kind.TheVariants as at
 use Rattle.pg_draw_laws.proofs.Areas.{whole_lines}
-use Rattle.pg_draw_laws.proofs.Cuts.{IsPiece, NoHead, cut_back}
+use Rattle.pg_draw_laws.proofs.Cuts.{IsPiece, cut_back}
 use Rattle.pg_draw_laws.proofs.Ends.{drawn_ended}
 use Rattle.pg_draw_laws.proofs.ItemLines.{Reads}
 use Rattle.pg_draw_laws.proofs.Lines.{IsLines, lines_as, lines_both, lines_line}
-use Rattle.pg_draw_laws.proofs.Pages.{ArePages, IsPage, PageLines, all_columns, all_drawn, counts, counts_drawn, drawn_counts, heads_drawn, heads_in_order, page_counts, page_drawn, page_is, page_piece, pages_are, pages_joined}
+use Rattle.pg_draw_laws.proofs.Pages.{ArePages, IsPage, PageLines, all_drawn, counts_drawn, drawn_counts, heads_drawn, heads_in_order, page_counts, page_drawn, page_is, page_piece, pages_are, pages_joined}
 use Rattle.pg_draw_laws.specs.Laws.{AreColumnsDrawn, IsPlanDrawn, LegalAreDrawn, drawn_columns, heads_from}
 use Rattle.pg_draw_laws.specs.Marks.{HasNoComma, HasNoCommas}
 
@@ -102,18 +97,18 @@ counts_back (page ∷ pgs) =
     ∙ ap page_counts (sym (reverse_cons page pgs))
 
 lines_drawn : (galley : GalleyValue) (style : StyleValue) (plan : Pagination) (cost : ℤ) (text : List ℕ) →
-    is_wide cost ≡ true → nat_abs galley.width ≤ 2 ^ 60 → misfilled style.columns (reverse plan.pages) ≡ None →
+    nat_abs galley.width ≤ 2 ^ 60 → misfilled style.columns (reverse plan.pages) ≡ None →
     (s : ArePages (document galley style) (columns plan) text (pages_from style (columns plan))) →
     IsPlanDrawn galley style plan cost
     (drawn (head_text (length plan.pages) cost galley.width ∷ pages_joined s.pages))
-lines_drawn galley style plan cost text wide small filled s =
+lines_drawn galley style plan cost text small filled s =
     let first = head_text (length plan.pages) cost galley.width in
     let all : pages_of (first ∷ pages_joined s.pages) ≡ reverse (map page_drawn s.pages) =
     ap (map page_of) (cut_back (begins at.Page) (first ∷ []) (map page_piece s.pages)
     (head_none (joined 32 (head_rest (length plan.pages) cost galley.width)), tt) (all_pieces s.pages s.each))
     ∙ pages_back s.pages in
     record {
-      head = head_reads (length plan.pages) cost galley.width wide small;
+      head = λ wide. head_reads (length plan.pages) cost galley.width wide small;
       pages = ap drawn_counts all ∙ counts_drawn s.pages s.each ∙ ap reverse s.counts_are
           ∙ counts_back (pages_from style (columns plan))
           ∙ ap (λ (it : Pagination). page_counts it.pages) (plan_back style plan filled);
@@ -126,13 +121,13 @@ lines_drawn galley style plan cost text wide small filled s =
 
 -- ---- the text
 
-text_is_drawn : (galley : GalleyValue) (style : StyleValue) (plan : Pagination) (cost : ℤ) → is_wide cost ≡ true →
+text_is_drawn : (galley : GalleyValue) (style : StyleValue) (plan : Pagination) (cost : ℤ) →
     nat_abs galley.width ≤ 2 ^ 60 → misfilled style.columns (reverse plan.pages) ≡ None →
     ArePages (document galley style) (columns plan) (columns_text (document galley style) (columns plan))
     (pages_from style (columns plan)) →
     IsPlanDrawn galley style plan cost (drawing_of (page_text galley style plan cost))
 unfolding page_text
-text_is_drawn galley style plan cost wide small filled s =
+text_is_drawn galley style plan cost small filled s =
     let first = head_text (length plan.pages) cost galley.width in
     let head = printed_head (length plan.pages) cost galley.width in
     let text = columns_text (document galley style) (columns plan) in
@@ -141,7 +136,7 @@ text_is_drawn galley style plan cost wide small filled s =
     subst (IsPlanDrawn galley style plan cost)
     (sym (ap drawn (whole_lines (head ++ text) (first ∷ pages_joined s.pages) are)
     ∙ drawn_ended (first ∷ pages_joined s.pages)))
-    (lines_drawn galley style plan cost text wide small filled s)
+    (lines_drawn galley style plan cost text small filled s)
 
 -- ---- the items
 
@@ -173,12 +168,12 @@ segments_read doc each m ms n = trimmed_all Reads (take n (items_of (context doc
 pub legal_are_drawn : (galley : GalleyValue) (style : StyleValue) → AreInRange galley style →
     nat_abs galley.width < 2 ^ 30 → LegalAreDrawn galley style
 unfolding breach
-legal_are_drawn galley style range width plan cost shown plain legal wide few =
+legal_are_drawn galley style range width plan cost legal =
     let doc = document galley style in
     let s = sound_of doc (reverse plan.pages) (columns plan)
     (unless (ends_spent doc (columns plan)) (length (columns plan)))
     (unless (has_dealt_all doc (placed_of doc.style (columns plan))) (length (columns plan))) legal.unbroken in
-    text_is_drawn galley style plan cost wide (omega (arith, width)) s.filled
+    text_is_drawn galley style plan cost (omega (arith, width)) s.filled
     (pages_are doc range.style_in.maxdepth_in.0
-    (segments_read doc (blocks_read galley.blocks shown plain)) (columns plan)
+    (λ readable. segments_read doc (blocks_read galley.blocks readable.shown readable.plain)) (columns plan)
     (moves_printed doc range.style_in range.blocks range.limit (columns plan) s.stand))

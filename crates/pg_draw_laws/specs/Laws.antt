@@ -1,5 +1,5 @@
 -- What the drawing of a printed pagination shows, in the words of the contracts.
-use Rattle.std.specs.Prelude.{◌≡◌, ◌<◌, ◌+◌, ◌^◌, ℕ, Bool, true, false, List, [], ◌∷◌, length, map, reverse, Option, Some, ℤ, pos}
+use Rattle.std.specs.Prelude.{◌≡◌, ◌+◌, ℕ, Bool, true, false, List, [], ◌∷◌, length, map, reverse, Option, Some, ℤ, pos}
 use Rattle.std.specs.List.{AllByRecursion, filter, flat_map}
 use Rattle.pg_flat.specs.Totals.{top_glue}
 use Rattle.pg_list.specs.GalleyValue.{GalleyValue}
@@ -16,12 +16,11 @@ use Rattle.pg_rules.specs.Room.{ColumnContext, Document, is_text, size_of}
 use Rattle.pg_pages.specs.PageText.{end_penalty, page_text}
 use Rattle.pg_pages.specs.SetGlue.{glue_widths}
 use Rattle.pg_scaled.specs.Ranges.{IsScaled}
-use Rattle.pg_showbox.specs.Shown.{IsShownBlock}
 use Rattle.pg_word_laws.specs.Ranges.{is_wide}
 use Rattle.pg_drawing.specs.Drawn.{drawing_of}
 use Rattle.pg_drawing.specs.Totals.{adds_up}
 use Rattle.pg_drawing.specs.declared.model.AreaName.{AreaName}
-use Rattle.pg_drawing.specs.declared.model.AreaName.TheVariants.{Wide, Top, Text, Bottom, Notes, Other}
+use Rattle.pg_drawing.specs.declared.model.AreaName.TheVariants.{Text}
 use Rattle.pg_drawing.specs.declared.model.DrawnArea.{DrawnArea}
 use Rattle.pg_drawing.specs.declared.model.DrawnColumn.{DrawnColumn}
 use Rattle.pg_drawing.specs.declared.model.DrawnPage.{DrawnPage}
@@ -30,7 +29,7 @@ use Rattle.pg_drawing.specs.declared.model.Mark.{Mark}
 use Rattle.pg_drawing.specs.declared.model.Numbers.{Numbers}
 use Rattle.pg_drawing.specs.declared.model.Numbers.TheVariants.{Set, Without}
 use Rattle.pg_drawing.specs.declared.model.PageHead.{PageHead}
-use Rattle.pg_draw_laws.specs.Marks.{HasNoCommas, IsTextDrawn}
+use Rattle.pg_draw_laws.specs.Marks.{AreReadable, IsTextDrawn}
 
 -- ---- text areas
 
@@ -60,14 +59,15 @@ abbrev pub text_numbers : ColumnContext → ℕ → Numbers
 text_numbers it n =
     Set (text_goal it n) (text_total it n) (pos (text_badness it n)) (end_penalty it n) (text_demerits it n)
 
--- a column with text has its numbers, and one text area
+-- a column with text has its numbers and one text area, which shows its text where the blocks can be read and the glue
+-- is in range
 pub record IsTextColumn (it : ColumnContext) (column : DrawnColumn) : Type 0 where
   pub size : ℕ
   pub is_size : size_of it ≡ Some size
   pub numbers : column.numbers ≡ Some (text_numbers it size)
   pub area : DrawnArea
   pub only : filter is_text_area column.areas ≡ area ∷ []
-  pub shown : IsGlueInRange it size → IsTextShown it size area
+  pub shown : AreReadable it.document.blocks → IsGlueInRange it size → IsTextShown it size area
 
 -- a column without text has its demerits, and no text area
 pub record IsFloatColumn (it : ColumnContext) (column : DrawnColumn) : Type 0 where
@@ -98,18 +98,17 @@ heads_from style number [] = []
 heads_from style number (page ∷ pages) =
     Some (record { side = side_of style.first number; run = page.run }) ∷ heads_from style (number + 1) pages
 
--- as many pages, each with its side, its run and as many columns, and the columns of the pagination in order
+-- the cost, if it is one of 128 bits, and the width; as many pages, each with its side, its run and as many columns; and
+-- the columns of the pagination in order
 pub record IsPlanDrawn (galley : GalleyValue) (style : StyleValue) (plan : Pagination) (cost : ℤ) (drawing : Drawing) :
     Type 0 where
-  pub head : drawing.head ≡ Some (record { cost = cost; width = galley.width })
+  pub head : is_wide cost ≡ true → drawing.head ≡ Some (record { cost = cost; width = galley.width })
   pub pages : map (λ (page : DrawnPage). length page.columns) drawing.pages
       ≡ map (λ (page : Page). length page.columns) plan.pages
   pub heads : map (λ (page : DrawnPage). page.head) drawing.pages ≡ heads_from style 1 plan.pages
   pub columns : AreColumnsDrawn (document galley style) (columns plan) (reverse (drawn_columns drawing.pages))
 
--- the drawing of what is printed of a legal pagination of a galley that shows its items, none of them glue with a comma
+-- the drawing of what is printed of each legal pagination
 abbrev pub LegalAreDrawn : GalleyValue → StyleValue → Type 0
-LegalAreDrawn galley style = (plan : Pagination) (cost : ℤ) → AllByRecursion IsShownBlock galley.blocks →
-    AllByRecursion HasNoCommas galley.blocks → Legal galley style plan → is_wide cost ≡ true →
-    length plan.pages < 2 ^ 64 →
+LegalAreDrawn galley style = (plan : Pagination) (cost : ℤ) → Legal galley style plan →
     IsPlanDrawn galley style plan cost (drawing_of (page_text galley style plan cost))

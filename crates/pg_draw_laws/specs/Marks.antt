@@ -11,6 +11,7 @@ use Rattle.pg_list.specs.Shapes.{is_box}
 use Rattle.pg_flat.specs.Totals.{top_glue}
 use Rattle.pg_scan.specs.Lines.{is_no_feed}
 use Rattle.pg_scan.specs.Parts.{differs_from}
+use Rattle.pg_showbox.specs.Shown.{IsShownBlock}
 use Rattle.pg_drawing.specs.declared.model.Shape.{Shape}
 use Rattle.pg_drawing.specs.declared.model.Shape.TheVariants.{Box, Rule, Glue, Kern, Penalty, Other}
 
@@ -64,7 +65,8 @@ above items = take_while (λ (item : Item). not (is_box item)) items
 abbrev pub below : List Item → List Item
 below items = drop (length (above items)) items
 
--- the shapes are those of what stands above the first box or rule, of the glue that puts it at its height, and of the rest
+-- the shapes are those of what stands above the first box or rule, of the glue that puts it at its height, and of the
+-- rest
 pub record IsTextDrawn (topskip : ℤ) (items : List Item) (widths : List ℤ) (shapes : List Shape) : Type 0 where
   pub front : List Shape
   pub rest : List Shape
@@ -79,3 +81,8 @@ abbrev pub HasNoCommas : Block → Type 0
 HasNoCommas (block.One item) = HasNoComma item
 HasNoCommas (block.Choice variants) =
     AllByRecursion (λ (variant : Variant). AllByRecursion HasNoComma variant.items) variants
+
+-- the blocks show their items, none of them glue with a comma in its first line
+pub record AreReadable (blocks : List Block) : Type 0 where
+  pub shown : AllByRecursion IsShownBlock blocks
+  pub plain : AllByRecursion HasNoCommas blocks

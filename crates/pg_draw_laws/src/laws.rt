@@ -6,9 +6,10 @@ use pg_column::blocks_of;
 use pg_list::Galley;
 use pg_style::Style;
 
-/// Where a galley shows its items, none of them glue with a comma in its first line, the drawing of the page text of
-/// each legal pagination has its pages and columns, the numbers of each column, and for each column with text one text
-/// area. Where its glue is in range, the marks of this area are those of the text's items, and add up to its total.
+/// The drawing of the page text of each legal pagination has its pages, their sides and runs, and its columns in order,
+/// with the places and the numbers of each, and for each column with text one text area. Where the galley shows its
+/// items, none of them glue with a comma in its first line, and the glue of the column is set within the range of a
+/// list's numbers, the marks of this area are those of the text's items, and add up to its total.
 pub fn legal_texts_add_up(galley: &Galley, style: &Style)
     ensures { LegalAreDrawn galley.now style.now }
 {
