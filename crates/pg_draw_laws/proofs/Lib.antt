@@ -12,3 +12,4 @@ pub mod Columns
 pub mod Pages
 pub mod Whole
 pub mod WorkedLines
+pub mod Mild

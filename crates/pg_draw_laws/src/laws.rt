@@ -1,6 +1,7 @@
-//! The law is the contract of a function that does nothing but ask for the ranges that the types of a galley and of a
+//! Each law is the contract of a function that does nothing but ask for the ranges that the types of a galley and of a
 //! style keep.
 ghost use Rattle.pg_draw_laws.specs.Laws.{LegalAreDrawn};
+ghost use Rattle.pg_draw_laws.specs.Ranges.{MildIsInRange};
 
 use pg_column::blocks_of;
 use pg_list::Galley;
@@ -17,3 +18,9 @@ pub fn legal_texts_add_up(galley: &Galley, style: &Style)
     let _ = blocks_of(galley);
     style.stays_in_range();
 }
+
+/// The glue of a text is in range where no box has a negative height, no glue a negative stretch or shrink, and each
+/// glue would stay in range if it were set by all that the text misses its goal.
+pub fn mild_glue_is_in_range()
+    ensures { MildIsInRange }
+{}
