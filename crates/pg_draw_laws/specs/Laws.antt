@@ -33,6 +33,7 @@ use Rattle.pg_draw_laws.specs.Marks.{AreReadable, IsTextDrawn}
 
 -- ---- text areas
 
+-- the name of an area of text
 abbrev pub is_text_name : AreaName → Bool
 is_text_name Text = true
 is_text_name _ = false

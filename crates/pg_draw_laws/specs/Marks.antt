@@ -58,10 +58,11 @@ AreDrawn (item ∷ items) widths shapes = First item (pos 0) shapes (AreDrawn it
 abbrev pub top_shape : ℤ → List Item → Shape
 top_shape topskip items = Glue (top_glue topskip items) (pos 0) Finite (pos 0) (top_glue topskip items)
 
--- the items before the first box or rule, and those from it on
+-- the items before the first box or rule
 abbrev pub above : List Item → List Item
 above items = take_while (λ (item : Item). not (is_box item)) items
 
+-- those from it on
 abbrev pub below : List Item → List Item
 below items = drop (length (above items)) items
 
