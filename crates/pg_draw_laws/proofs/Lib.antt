@@ -1,0 +1,15 @@
+pub mod Commas
+pub mod Nodes
+pub mod ItemShapes
+pub mod Lines
+pub mod ItemLines
+pub mod Heights
+pub mod Cuts
+pub mod TextArea
+pub mod Ends
+pub mod Areas
+pub mod Columns
+pub mod Pages
+pub mod Whole
+pub mod WorkedLines
+pub mod Mild

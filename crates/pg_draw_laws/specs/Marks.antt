@@ -1,0 +1,89 @@
+-- The marks of a column's text.
+use Rattle.std.specs.Prelude.{◌≡◌, ℕ, true, List, [], ◌∷◌, ◌++◌, take, drop, length, not, ℤ, pos}
+use Rattle.std.specs.List.{AllByRecursion, prefix_len, take_while}
+use Rattle.pg_list.specs.declared.blocks.Block.{Block}
+use Rattle.pg_list.specs.declared.blocks.Block.TheVariants as block
+use Rattle.pg_list.specs.declared.item.Item.{Item}
+use Rattle.pg_list.specs.declared.item.Item.TheVariants as item
+use Rattle.pg_list.specs.declared.item.Order.TheVariants.{Finite}
+use Rattle.pg_list.specs.declared.variants.Variant.{Variant}
+use Rattle.pg_list.specs.Shapes.{is_box}
+use Rattle.pg_flat.specs.Totals.{top_glue}
+use Rattle.pg_scan.specs.Lines.{is_no_feed}
+use Rattle.pg_scan.specs.Parts.{differs_from}
+use Rattle.pg_showbox.specs.Shown.{IsShownBlock}
+use Rattle.pg_drawing.specs.declared.model.Shape.{Shape}
+use Rattle.pg_drawing.specs.declared.model.Shape.TheVariants.{Box, Rule, Glue, Kern, Penalty, Other}
+
+-- ---- one item
+
+-- the first line of a body
+abbrev pub first_line : List ℕ → List ℕ
+first_line body = take (prefix_len is_no_feed body) body
+
+-- the first line of glue has no comma, which its name could hold
+abbrev pub HasNoComma : Item → Type 0
+HasNoComma (item.Glue width stretch order shrink body) =
+    AllByRecursion (λ (c : ℕ). differs_from 44 c ≡ true) (first_line body)
+HasNoComma _ = Unit {0}
+
+-- the shape has the sizes of the item, glue with the width that it is set to
+abbrev pub IsDrawn : Item → ℤ → Shape → Type 0
+IsDrawn (item.BoxItem height depth body) set shape = (width : ℤ) × (shape ≡ Box height depth width)
+IsDrawn (item.Rule height depth body) set shape = shape ≡ Rule height depth
+IsDrawn (item.Glue width stretch order shrink body) set shape = shape ≡ Glue width stretch order shrink set
+IsDrawn (item.Kern width body) set shape = shape ≡ Kern width
+IsDrawn (item.Penalty value body) set shape = shape ≡ Penalty value
+IsDrawn (item.Insert class size body) set shape = Unit {0}
+IsDrawn (item.Carry body) set shape = shape ≡ Other
+
+-- ---- items in order
+
+-- the first of the shapes is drawn of the item, and the others meet this
+abbrev pub First : Item → ℤ → List Shape → (List Shape → Type 0) → Type 0
+First item set [] P = ⊥
+First item set (shape ∷ shapes) P = IsDrawn item set shape × P shapes
+
+-- the shapes are those of the items, without inserts, which stand elsewhere; glue is set to these widths
+abbrev pub AreDrawn : List Item → List ℤ → List Shape → Type 0
+AreDrawn [] widths shapes = shapes ≡ []
+AreDrawn (item.Insert class size body ∷ items) widths shapes = AreDrawn items widths shapes
+AreDrawn (item.Glue width stretch order shrink body ∷ items) [] shapes =
+    First (item.Glue width stretch order shrink body) width shapes (AreDrawn items [])
+AreDrawn (item.Glue width stretch order shrink body ∷ items) (set ∷ widths) shapes =
+    First (item.Glue width stretch order shrink body) set shapes (AreDrawn items widths)
+AreDrawn (item ∷ items) widths shapes = First item (pos 0) shapes (AreDrawn items widths)
+
+-- the glue that puts the first box or rule at its height
+abbrev pub top_shape : ℤ → List Item → Shape
+top_shape topskip items = Glue (top_glue topskip items) (pos 0) Finite (pos 0) (top_glue topskip items)
+
+-- the items before the first box or rule
+abbrev pub above : List Item → List Item
+above items = take_while (λ (item : Item). not (is_box item)) items
+
+-- those from it on
+abbrev pub below : List Item → List Item
+below items = drop (length (above items)) items
+
+-- the shapes are those of what stands above the first box or rule, of the glue that puts it at its height, and of the
+-- rest
+pub record IsTextDrawn (topskip : ℤ) (items : List Item) (widths : List ℤ) (shapes : List Shape) : Type 0 where
+  pub front : List Shape
+  pub rest : List Shape
+  pub above : AreDrawn (above items) [] front
+  pub below : AreDrawn (below items) widths rest
+  pub all : shapes ≡ front ++ top_shape topskip items ∷ rest
+
+-- ---- galleys
+
+-- no glue of the galley shows a comma in its first line
+abbrev pub HasNoCommas : Block → Type 0
+HasNoCommas (block.One item) = HasNoComma item
+HasNoCommas (block.Choice variants) =
+    AllByRecursion (λ (variant : Variant). AllByRecursion HasNoComma variant.items) variants
+
+-- the blocks show their items, none of them glue with a comma in its first line
+pub record AreReadable (blocks : List Block) : Type 0 where
+  pub shown : AllByRecursion IsShownBlock blocks
+  pub plain : AllByRecursion HasNoCommas blocks
