@@ -64,13 +64,9 @@ set_numbers it n h =
     ∙ ap (λ (o : Option Numbers). one_of o (without_of (codes "set" ∷ set_rest it n)))
     (set_says goal total badness penalty demerits h)
 
-not_set : (words : List (List ℕ)) → set_of (codes "without" ∷ words) ≡ None
-unfolding set_parts
-not_set words = refl
-
-without_says : (demerits : ℕ) → demerits < 2 ^ 127 →
-    without_of (codes "without" ∷ without_rest demerits) ≡ Some (Without (pos demerits))
-unfolding without_of
+without_says : (demerits : ℕ) → demerits < 2 ^ 127 → let words = codes "without" ∷ without_rest demerits in
+    one_of (set_of words) (without_of words) ≡ Some (Without (pos demerits))
+unfolding set_parts without_of
 without_says demerits small = rw (decimal_reads demerits small) refl
 
 without_numbers : (demerits : ℕ) → demerits < 2 ^ 127 →
@@ -78,8 +74,6 @@ without_numbers : (demerits : ℕ) → demerits < 2 ^ 127 →
 without_numbers demerits small =
     ap (λ (ws : List (List ℕ)). one_of (set_of ws) (without_of ws))
     (joined_parts 32 (codes "without") (without_rest demerits) (without_words_lack 32 (omega arith) demerits))
-    ∙ ap (λ (o : Option Numbers). one_of o (without_of (codes "without" ∷ without_rest demerits)))
-    (not_set (without_rest demerits))
     ∙ without_says demerits small
 
 -- ---- its places
