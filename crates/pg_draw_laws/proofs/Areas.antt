@@ -1,25 +1,19 @@
 -- The areas of a printed column as pieces of its lines.
-use Rattle.std.proofs.Common.{◌≡◌, ◌∙◌, refl, sym, ap, subst, Bool, true, false, ℕ, List, [], ◌∷◌, ◌++◌, length, map, drop, append-nil, arith}
+use Rattle.std.proofs.Common.{◌≡◌, ◌∙◌, refl, sym, ap, subst, Bool, true, false, ℕ, List, [], ◌∷◌, ◌++◌, map, append-nil}
 use Rattle.std.proofs.lemmas.Grind.{flat_map-append}
 use Rattle.std.proofs.lemmas.List.{append_cancel_right, map-append}
 use Rattle.std.proofs.lemmas.List.Elements.{filter-append}
-use Rattle.std.specs.List.{AllByRecursion, filter, flat_map, take_while}
-use Rattle.std.specs.Prelude.{codes, not, ℤ, pos, ◌≤ℤ◌}
+use Rattle.std.specs.List.{AllByRecursion, filter, flat_map}
+use Rattle.std.specs.Prelude.{codes, ℤ, pos, ◌≤ℤ◌}
 use Rattle.pg_lemmas.proofs.Lists.{all_append}
 use Rattle.pg_list.specs.declared.item.Item.{Item}
-use Rattle.pg_list.specs.declared.item.Item.TheVariants as item
-use Rattle.pg_list.specs.Shapes.{is_box}
-use Rattle.pg_flat.specs.Totals.{top_glue}
 use Rattle.pg_rules.specs.ColumnRules.{segment}
 use Rattle.pg_rules.specs.Room.{ColumnContext, before_bottom}
-use Rattle.pg_pages.specs.Bodies.{body_text, plain_text, set_text}
-use Rattle.pg_pages.specs.PageText.{area, bottom_area, floats_text, items_text, notes_text, set_items, text_area, top_area, top_line}
+use Rattle.pg_pages.specs.PageText.{area, bottom_area, floats_text, items_text, notes_text, text_area, top_area}
 use Rattle.pg_pages.specs.SetGlue.{glue_widths}
-use Rattle.pg_scaled.specs.Scaled.{scaled_text}
 use Rattle.pg_scan.specs.Parts.{after, parts_of}
 use Rattle.pg_words.specs.Written.{line}
-use Rattle.pg_word_laws.proofs.Blanks.{any_scaled_lacks}
-use Rattle.pg_word_laws.proofs.Cut.{lacks, lacks_append}
+use Rattle.pg_word_laws.proofs.Cut.{lacks}
 use Rattle.pg_drawing.specs.Drawn.{area_name, area_of}
 use Rattle.pg_drawing.specs.Pieces.{Lines, begins}
 use Rattle.pg_drawing.specs.declared.model.DrawnArea.{DrawnArea}

@@ -2,7 +2,7 @@
 use Rattle.std.proofs.Common.{◌≡◌, ◌∙◌, refl, sym, ap, subst, ◌<◌, ◌^◌, Bool, true, false, ℕ, List, [], ◌∷◌, ◌++◌, map, append_assoc, arith}
 use Rattle.std.specs.List.{AllByRecursion, filter, flat_map}
 use Rattle.std.specs.Option.{option_map_or}
-use Rattle.std.specs.Prelude.{codes, if◌then◌else◌, Option, Some, None, ℤ, pos, ◌≤ℤ◌}
+use Rattle.std.specs.Prelude.{codes, if◌then◌else◌, Option, Some, ℤ, pos, ◌≤ℤ◌}
 use Rattle.pg_lemmas.proofs.Bools.{not_both}
 use Rattle.pg_lemmas.proofs.Lists.{some_is}
 use Rattle.pg_plan.specs.declared.pages.Column.{Column}

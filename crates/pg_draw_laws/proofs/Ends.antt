@@ -19,7 +19,7 @@ use Rattle.pg_drawing.specs.declared.model.Shape.TheVariants.{Box, Rule, Glue, K
 use Rattle.pg_drawing.specs.declared.pieces.Kind.{Kind}
 use Rattle.pg_drawing.specs.declared.pieces.Kind.TheVariants as at
 
--- an empty line
+-- the empty line behind the last line feed
 abbrev pub end : List (List ℕ)
 end = [] ∷ []
 

@@ -1,22 +1,13 @@
 -- Texts that are whole lines, and lines that begin with a point.
-use Rattle.std.proofs.Common.{◌≡◌, ◌∙◌, refl, sym, ap, subst, ◌+◌, Bool, true, false, ℕ, suc, List, [], ◌∷◌, ◌++◌, take, drop, append_assoc, append-nil, arith}
+use Rattle.std.proofs.Common.{◌≡◌, ◌∙◌, refl, sym, ap, subst, true, false, ℕ, List, [], ◌∷◌, ◌++◌, append_assoc}
 use Rattle.std.proofs.lemmas.Bool.{eqb-true}
-use Rattle.std.specs.List.{AllByRecursion, flat_map, prefix_len, range_with_len}
-use Rattle.std.specs.Prelude.{◌==◌, not, if◌then◌else◌, codes, cond, IsTrue, ℤ}
+use Rattle.std.specs.List.{AllByRecursion}
+use Rattle.std.specs.Prelude.{◌==◌, not, IsTrue}
 use Rattle.pg_lemmas.proofs.Bools.{both, both_of, not_true}
-use Rattle.pg_lemmas.proofs.Lists.{all_append}
-use Rattle.pg_rules.specs.Floats.{dealt}
-use Rattle.pg_rules.specs.Room.{Document}
-use Rattle.pg_style.specs.Values.{StyleValue}
-use Rattle.pg_list.specs.declared.item.Item.{Item}
-use Rattle.pg_pages.specs.Bodies.{body_text, set_text}
-use Rattle.pg_pages.specs.PageText.{float_bodies, floats_text, inserted, is_note, notes_text}
-use Rattle.pg_scaled.specs.Scaled.{scaled_text}
 use Rattle.pg_scan.specs.Lines.{dotted, has_point, is_no_feed}
 use Rattle.pg_scan.specs.Parts.{after, parts_of}
 use Rattle.pg_words.specs.Written.{line}
-use Rattle.pg_word_laws.proofs.Blanks.{any_scaled_lacks}
-use Rattle.pg_word_laws.proofs.Cut.{lacks, lacks_append, part_here}
+use Rattle.pg_word_laws.proofs.Cut.{lacks, part_here}
 use Rattle.pg_drawing.specs.Pieces.{begins}
 use Rattle.pg_drawing.specs.declared.pieces.Kind.TheVariants as at
 

@@ -1,4 +1,4 @@
--- What is read as lines of an area, whatever stands in front of it, is lines with points.
+-- A text that any draft of an output reads as lines of an area is lines with points.
 use Rattle.std.proofs.Common.{◌≡◌, ◌∙◌, refl, sym, ap, subst, ◌+◌, Bool, true, false, ℕ, List, [], ◌∷◌, ◌++◌, length, append_assoc, append-nil, arith}
 use Rattle.std.specs.List.{AllByRecursion, flat_map}
 use Rattle.std.specs.Option.{option_map, option_map_or}
@@ -27,9 +27,9 @@ use Rattle.pg_output_laws.proofs.LabelTexts.{other_number, reads_all}
 use Rattle.pg_output_laws.proofs.Pointed.{IsPointed, told}
 use Rattle.pg_draw_laws.proofs.Lines.{HasPoint, HasPoints, IsLines, lines_as, lines_both, lines_line, lines_none}
 
--- ---- two drafts, of which each counts columns and pages otherwise
+-- ---- two drafts, which wait for a column and a page of different numbers
 
--- a column with its notes was read, as the last of these pages
+-- a text was read, up to the notes of a column, with this last page
 abbrev behind_notes : Option Page → List ℕ → Draft
 behind_notes last text =
     record { stands = GoesOn 4; cost = None; done = []; last = last; page_text = text; count = []; labels = [] }
@@ -82,7 +82,7 @@ page_first words page h =
     let one = bind_some (page_words 1 words) _ page h in
     named_first (codes "page") words _ one.0 one.1
 
--- such words are those of no second column or page, and of no labels
+-- the words of no second column, of no second page and of no labels
 abbrev AreNone : List (List ℕ) → Type 0
 AreNone words = (column_of 2 words ≡ None) × (page_of 2 words ≡ None) × (count_of words ≡ None)
 
@@ -213,7 +213,8 @@ unfolding labels_line
 points_end text other n m l next rest e f point h k =
     let some : column_or_later (behind_notes one_column other) l ≡ None → ⊥ =
     λ none. no_step (behind_notes one_column other) m l next rest f k (later_step one_column other l point ∙ none) in
-    by (count_of (words_of l)) (line_by (behind_notes None text) n l next rest e (labels_line (behind_notes None text) l)
+    by (count_of (words_of l)) (line_by (behind_notes None text) n l next rest e
+    (labels_line (behind_notes None text) l)
     (later_step None text l point ∙ labels_later text l (no_column other l some) (no_page other l some)) h)
   where
     by : (o : Option (Bool × List ℕ)) → option_map_or (λ (d : Draft). run d (n + 1) (next ∷ rest))
@@ -283,7 +284,7 @@ each_line : (ls : List (List ℕ)) → AllLack 10 ls → IsLines (flat_map line 
 each_line [] h = lines_none
 each_line (l ∷ ls) h = lines_both (line l) (flat_map line ls) (l ∷ []) ls (lines_line l h.0) (each_line ls h.1)
 
--- with a text of no labels behind it, the text is read to an end in both drafts
+-- what is read as lines of an area is lines with points: in both drafts it is read to an end with no labels behind it
 pub has_points : (text : List ℕ) → IsPointed text → HasPoints text
 has_points text p =
     let d = behind_notes None [] in

@@ -76,8 +76,8 @@ items_shown topskip items widths reads small each =
         below = down.drawn;
         all = shapes_grouped up.shapes down.shapes (top_shape topskip items);
       };
-      shows = shows_both (flat_map plain_text (front_of items) ++ top_line topskip items) (set_items (box_on items) widths)
-          (up.shapes ++ top_shape topskip items ∷ []) down.shapes front down.shows;
+      shows = shows_both (flat_map plain_text (front_of items) ++ top_line topskip items)
+          (set_items (box_on items) widths) (up.shapes ++ top_shape topskip items ∷ []) down.shapes front down.shows;
     }
 
 -- ---- the area
