@@ -1,81 +1,32 @@
 -- The areas of a printed column as pieces of its lines.
-use Rattle.std.proofs.Common.{◌≡◌, ◌∙◌, refl, sym, ap, subst, Bool, true, false, ℕ, List, [], ◌∷◌, ◌++◌, length, map, drop, append-nil, arith}
+use Rattle.std.proofs.Common.{◌≡◌, ◌∙◌, refl, sym, ap, subst, Bool, true, false, ℕ, List, [], ◌∷◌, ◌++◌, map, append-nil}
 use Rattle.std.proofs.lemmas.Grind.{flat_map-append}
-use Rattle.std.proofs.lemmas.List.{map-append}
+use Rattle.std.proofs.lemmas.List.{append_cancel_right, map-append}
 use Rattle.std.proofs.lemmas.List.Elements.{filter-append}
-use Rattle.std.specs.List.{AllByRecursion, filter, flat_map, take_while}
-use Rattle.std.specs.Prelude.{codes, not, ℤ, pos, ◌≤ℤ◌}
+use Rattle.std.specs.List.{AllByRecursion, filter, flat_map}
+use Rattle.std.specs.Prelude.{codes, ℤ, pos, ◌≤ℤ◌}
 use Rattle.pg_lemmas.proofs.Lists.{all_append}
 use Rattle.pg_list.specs.declared.item.Item.{Item}
-use Rattle.pg_list.specs.declared.item.Item.TheVariants as item
-use Rattle.pg_list.specs.Shapes.{is_box}
-use Rattle.pg_flat.specs.Totals.{top_glue}
 use Rattle.pg_rules.specs.ColumnRules.{segment}
 use Rattle.pg_rules.specs.Room.{ColumnContext, before_bottom}
-use Rattle.pg_pages.specs.Bodies.{body_text, plain_text, set_text}
-use Rattle.pg_pages.specs.PageText.{area, bottom_area, floats_text, items_text, notes_text, set_items, text_area, top_area, top_line}
+use Rattle.pg_pages.specs.PageText.{area, bottom_area, floats_text, items_text, notes_text, text_area, top_area}
 use Rattle.pg_pages.specs.SetGlue.{glue_widths}
-use Rattle.pg_scaled.specs.Scaled.{scaled_text}
 use Rattle.pg_scan.specs.Parts.{after, parts_of}
 use Rattle.pg_words.specs.Written.{line}
-use Rattle.pg_word_laws.proofs.Blanks.{any_scaled_lacks}
-use Rattle.pg_word_laws.proofs.Cut.{lacks, lacks_append}
+use Rattle.pg_word_laws.proofs.Cut.{lacks}
 use Rattle.pg_drawing.specs.Drawn.{area_name, area_of}
 use Rattle.pg_drawing.specs.Pieces.{Lines, begins}
 use Rattle.pg_drawing.specs.declared.model.DrawnArea.{DrawnArea}
 use Rattle.pg_drawing.specs.declared.pieces.Kind.TheVariants as at
 use Rattle.pg_draw_laws.proofs.Cuts.{IsPiece, NoHead, lines_of}
 use Rattle.pg_draw_laws.proofs.ItemLines.{Reads}
-use Rattle.pg_draw_laws.proofs.Lines.{HasPoint, IsLines, IsPointed, all_pointed, body_pointed, floats_pointed, lines_both, lines_line, lines_none, notes_pointed, pointed_both, pointed_line, pointed_none, points_none, set_pointed}
+use Rattle.pg_draw_laws.proofs.Lines.{HasPoint, HasPoints, IsLines, lines_both, lines_line, lines_none, points_none}
+use Rattle.pg_draw_laws.proofs.PointedLines.{has_points}
+use Rattle.pg_output_laws.proofs.Pointed.{IsPointed, floats_pointed, items_pointed, notes_pointed}
 use Rattle.pg_draw_laws.proofs.TextArea.{area_adds_up, items_shown, marks_say}
 use Rattle.pg_drawing.specs.declared.model.Shape.{Shape}
 use Rattle.pg_draw_laws.specs.Marks.{IsTextDrawn}
 use Rattle.pg_draw_laws.specs.Laws.{IsGlueInRange, IsTextShown, is_text_area}
-
--- ---- items
-
-plain_pointed : (x : Item) → IsPointed (plain_text x)
-plain_pointed (item.BoxItem h d body) = body_pointed body
-plain_pointed (item.Rule h d body) = body_pointed body
-plain_pointed (item.Glue width stretch order shrink body) = body_pointed body
-plain_pointed (item.Kern width body) = body_pointed body
-plain_pointed (item.Penalty value body) = body_pointed body
-plain_pointed (item.Insert class size body) = pointed_none
-plain_pointed (item.Carry body) = body_pointed body
-
-set_items_pointed : (items : List Item) (widths : List ℤ) → IsPointed (set_items items widths)
-set_items_pointed [] widths = pointed_none
-set_items_pointed (item.Glue width stretch order shrink body ∷ items) [] =
-    pointed_both (body_text body) (set_items items []) (body_pointed body) (set_items_pointed items [])
-set_items_pointed (item.Glue width stretch order shrink body ∷ items) (set ∷ widths) =
-    pointed_both (set_text body set) (set_items items widths) (set_pointed body set) (set_items_pointed items widths)
-set_items_pointed (item.BoxItem h d body ∷ items) widths =
-    pointed_both (body_text body) (set_items items widths) (body_pointed body) (set_items_pointed items widths)
-set_items_pointed (item.Rule h d body ∷ items) widths =
-    pointed_both (body_text body) (set_items items widths) (body_pointed body) (set_items_pointed items widths)
-set_items_pointed (item.Kern width body ∷ items) widths =
-    pointed_both (body_text body) (set_items items widths) (body_pointed body) (set_items_pointed items widths)
-set_items_pointed (item.Penalty value body ∷ items) widths =
-    pointed_both (body_text body) (set_items items widths) (body_pointed body) (set_items_pointed items widths)
-set_items_pointed (item.Insert class size body ∷ items) widths =
-    pointed_both [] (set_items items widths) pointed_none (set_items_pointed items widths)
-set_items_pointed (item.Carry body ∷ items) widths =
-    pointed_both (body_text body) (set_items items widths) (body_pointed body) (set_items_pointed items widths)
-
-top_pointed : (topskip : ℤ) (items : List Item) → IsPointed (top_line topskip items)
-top_pointed topskip items = pointed_line (codes "\\glue(\\topskip) " ++ scaled_text (top_glue topskip items))
-    (lacks_append 10 (codes "\\glue(\\topskip) ") (scaled_text (top_glue topskip items)) refl
-    (any_scaled_lacks 10 (top_glue topskip items) (omega arith)))
-
-items_pointed : (topskip : ℤ) (items : List Item) (widths : List ℤ) → IsPointed (items_text topskip items widths)
-items_pointed topskip items widths =
-    let above = flat_map plain_text (take_while (λ (x : Item). not (is_box x)) items) in
-    let rest = set_items (drop (length (take_while (λ (x : Item). not (is_box x)) items)) items) widths in
-    pointed_both (above ++ top_line topskip items) rest
-    (pointed_both above (top_line topskip items)
-    (all_pointed plain_text plain_pointed (take_while (λ (x : Item). not (is_box x)) items))
-    (top_pointed topskip items))
-    (set_items_pointed (drop (length (take_while (λ (x : Item). not (is_box x)) items)) items) widths)
 
 -- ---- pieces
 
@@ -133,7 +84,7 @@ pointed_areas : (lines : List (List ℕ)) → AllByRecursion HasPoint lines → 
 pointed_areas [] each = tt
 pointed_areas (l ∷ ls) each = ((points_none l each.0).2, pointed_areas ls each.1)
 
-pub one_area : (head text : List ℕ) (texts : List DrawnArea) → IsAreaLine head → (p : IsPointed text) →
+pub one_area : (head text : List ℕ) (texts : List DrawnArea) → IsAreaLine head → (p : HasPoints text) →
     filter is_text_area (area_of (record { head = head; rest = p.lines }) ∷ []) ≡ texts →
     Areas (line head ++ text) texts
 one_area head text texts is p drawn =
@@ -150,7 +101,7 @@ one_area head text texts is p drawn =
     }
 
 -- an area that is there or not
-named_area : (name text : List ℕ) → IsAreaLine (codes "area " ++ name) → (p : IsPointed text) →
+named_area : (name text : List ℕ) → IsAreaLine (codes "area " ++ name) → (p : HasPoints text) →
     filter is_text_area (area_of (record { head = codes "area " ++ name; rest = p.lines }) ∷ []) ≡ [] →
     Areas (area name text) []
 named_area name [] is p none = areas_none
@@ -203,35 +154,27 @@ text_named rest = refl
 
 pub top_areas : (it : ColumnContext) → Areas (top_area it) []
 top_areas it =
-    let p = floats_pointed it.document it.before it.column.top in
-    named_area (codes "top") (floats_text it.document it.before it.column.top) top_line_is p (top_named p.lines)
+    let text = floats_text it.document it.before it.column.top in
+    let p = has_points text (floats_pointed it.document it.before it.column.top) in
+    named_area (codes "top") text top_line_is p (top_named p.lines)
 
 pub bottom_areas : (it : ColumnContext) → Areas (bottom_area it) []
 bottom_areas it =
-    let p = floats_pointed it.document (before_bottom it) it.column.bottom in
-    named_area (codes "bottom") (floats_text it.document (before_bottom it) it.column.bottom) bottom_line_is p
-    (bottom_named p.lines)
+    let text = floats_text it.document (before_bottom it) it.column.bottom in
+    let p = has_points text (floats_pointed it.document (before_bottom it) it.column.bottom) in
+    named_area (codes "bottom") text bottom_line_is p (bottom_named p.lines)
 
 pub notes_areas : (it : ColumnContext) (n : ℕ) →
     Areas (area (codes "notes") (notes_text it.document.style (segment it n))) []
 notes_areas it n =
-    let p = notes_pointed it.document.style (segment it n) in
-    named_area (codes "notes") (notes_text it.document.style (segment it n)) notes_line_is p (notes_named p.lines)
+    let text = notes_text it.document.style (segment it n) in
+    let p = has_points text (notes_pointed it.document.style (segment it n)) in
+    named_area (codes "notes") text notes_line_is p (notes_named p.lines)
 
 pub wide_areas : (text : List ℕ) → IsPointed text → Areas (area (codes "wide") text) []
-wide_areas text p = named_area (codes "wide") text wide_line_is p (wide_named p.lines)
+wide_areas text h = let p = has_points text h in named_area (codes "wide") text wide_line_is p (wide_named p.lines)
 
 -- ---- the area of text
-
-abbrev front_of : List (List ℕ) → List (List ℕ)
-front_of [] = []
-front_of (l ∷ []) = []
-front_of (l ∷ m ∷ ms) = l ∷ front_of (m ∷ ms)
-
-front_is : (ls : List (List ℕ)) (l : List ℕ) → front_of (ls ++ l ∷ []) ≡ ls
-front_is [] l = refl
-front_is (m ∷ []) l = refl
-front_is (m ∷ k ∷ ls) l = ap (λ (xs : List (List ℕ)). m ∷ xs) (front_is (k ∷ ls) l)
 
 empty_part : parts_of 10 [] ≡ [] ∷ []
 unfolding parts_of
@@ -244,19 +187,23 @@ whole_lines text ls h = ap (parts_of 10) (sym (append-nil text)) ∙ h []
 -- a text is lines in one way
 same_lines : (text : List ℕ) (ls ms : List (List ℕ)) → IsLines text ls → IsLines text ms → ls ≡ ms
 same_lines text ls ms h k =
-    sym (front_is ls []) ∙ ap front_of (sym (whole_lines text ls h) ∙ whole_lines text ms k) ∙ front_is ms []
+    append_cancel_right ls ms ([] ∷ []) (sym (whole_lines text ls h) ∙ whole_lines text ms k)
+
+text_points : (topskip : ℤ) (items : List Item) (widths : List ℤ) → HasPoints (items_text topskip items widths)
+text_points topskip items widths =
+    has_points (items_text topskip items widths) (items_pointed topskip items widths)
 
 -- the area of a column's text
 pub text_drawn : ColumnContext → ℕ → DrawnArea
 text_drawn it n = area_of (record {
   head = codes "area text";
-  rest = (items_pointed it.document.style.topskip (segment it n) (glue_widths it n)).lines;
+  rest = (text_points it.document.style.topskip (segment it n) (glue_widths it n)).lines;
 })
 
 pub text_areas : (it : ColumnContext) (n : ℕ) → Areas (text_area it n) (text_drawn it n ∷ [])
 unfolding text_area text_drawn
 text_areas it n =
-    let p = items_pointed it.document.style.topskip (segment it n) (glue_widths it n) in
+    let p = text_points it.document.style.topskip (segment it n) (glue_widths it n) in
     one_area (codes "area text") (items_text it.document.style.topskip (segment it n) (glue_widths it n))
     (text_drawn it n ∷ []) text_line_is p (text_named p.lines)
 
@@ -268,7 +215,7 @@ text_shown it n reads low range =
     let items = segment it n in
     let widths = glue_widths it n in
     let text = items_text topskip items widths in
-    let p = items_pointed topskip items widths in
+    let p = text_points topskip items widths in
     let s = items_shown topskip items widths reads range.top range.widths in
     let same : s.shows.lines ++ [] ≡ p.lines =
     append-nil s.shows.lines ∙ same_lines text s.shows.lines p.lines s.shows.are p.are in

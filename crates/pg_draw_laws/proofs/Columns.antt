@@ -2,7 +2,7 @@
 use Rattle.std.proofs.Common.{◌≡◌, ◌∙◌, refl, sym, ap, subst, ◌<◌, ◌^◌, Bool, true, false, ℕ, List, [], ◌∷◌, ◌++◌, map, append_assoc, arith}
 use Rattle.std.specs.List.{AllByRecursion, filter, flat_map}
 use Rattle.std.specs.Option.{option_map_or}
-use Rattle.std.specs.Prelude.{codes, if◌then◌else◌, Option, Some, None, ℤ, pos, ◌≤ℤ◌}
+use Rattle.std.specs.Prelude.{codes, if◌then◌else◌, Option, Some, ℤ, pos, ◌≤ℤ◌}
 use Rattle.pg_lemmas.proofs.Bools.{not_both}
 use Rattle.pg_lemmas.proofs.Lists.{some_is}
 use Rattle.pg_plan.specs.declared.pages.Column.{Column}
@@ -64,13 +64,9 @@ set_numbers it n h =
     ∙ ap (λ (o : Option Numbers). one_of o (without_of (codes "set" ∷ set_rest it n)))
     (set_says goal total badness penalty demerits h)
 
-not_set : (words : List (List ℕ)) → set_of (codes "without" ∷ words) ≡ None
-unfolding set_parts
-not_set words = refl
-
-without_says : (demerits : ℕ) → demerits < 2 ^ 127 →
-    without_of (codes "without" ∷ without_rest demerits) ≡ Some (Without (pos demerits))
-unfolding without_of
+without_says : (demerits : ℕ) → demerits < 2 ^ 127 → let words = codes "without" ∷ without_rest demerits in
+    one_of (set_of words) (without_of words) ≡ Some (Without (pos demerits))
+unfolding set_parts without_of
 without_says demerits small = rw (decimal_reads demerits small) refl
 
 without_numbers : (demerits : ℕ) → demerits < 2 ^ 127 →
@@ -78,8 +74,6 @@ without_numbers : (demerits : ℕ) → demerits < 2 ^ 127 →
 without_numbers demerits small =
     ap (λ (ws : List (List ℕ)). one_of (set_of ws) (without_of ws))
     (joined_parts 32 (codes "without") (without_rest demerits) (without_words_lack 32 (omega arith) demerits))
-    ∙ ap (λ (o : Option Numbers). one_of o (without_of (codes "without" ∷ without_rest demerits)))
-    (not_set (without_rest demerits))
     ∙ without_says demerits small
 
 -- ---- its places

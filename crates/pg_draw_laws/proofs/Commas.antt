@@ -1,7 +1,6 @@
 -- What is read at the front of a text is the same where a comma, and whatever follows it, stands behind the text.
 use Rattle.std.proofs.Common.{◌≡◌, ◌∙◌, refl, sym, ap, subst, ◌≤◌, ◌+◌, ◌-◌, ℕ, suc, Bool, true, false, List, [], ◌∷◌, ◌++◌, length, take, drop, arith}
 use Rattle.std.proofs.lemmas.List.{take-append-le, drop-append-le, length-drop}
-use Rattle.std.proofs.lemmas.List.Sums.{prefix_len-le-length}
 use Rattle.std.proofs.lemmas.List.Folds.{length-prefix_len}
 use Rattle.std.proofs.lemmas.Bool.{eqb-true}
 use Rattle.std.proofs.lemmas.Bool.Decides.{nat_tests}
@@ -11,6 +10,7 @@ use Rattle.std.specs.Prelude.{◌==◌, ◌&&◌, not, if◌then◌else◌, code
 use Rattle.std.specs.Str.{bytes_eq}
 use Rattle.std.specs.Str.Parse.{digits_value}
 use Rattle.pg_lemmas.proofs.Bools.{both_of, not_true}
+use Rattle.pg_scaled.proofs.DigitLemmas.{count_le}
 use Rattle.pg_scaled.specs.Digits.{digit_count, size_of}
 use Rattle.pg_scaled.specs.Scaled.{Within, after_point, behind_point, bounded, scaled_value, signed, unsigned_front}
 use Rattle.pg_scaled.specs.declared.read.Front.{Front}
@@ -127,9 +127,6 @@ pub count_append : (t b : List ℕ) → Behind b → digit_count (t ++ b) ≡ di
 count_append [] b k = no_digit b k
 count_append (c ∷ cs) b k = rw (count_append cs b k) refl
 
-count_few : (t : List ℕ) → digit_count t ≤ length t
-count_few t = prefix_len-le-length is_ascii_digit t
-
 no_point : (b : List ℕ) → Behind b → after_point b ≡ None
 no_point [] k = refl
 no_point (c ∷ cs) k = subst (λ (d : ℕ). after_point (d ∷ cs) ≡ None) (sym k) refl
@@ -141,15 +138,15 @@ point_append minus whole (c ∷ rest) b k = by (c == 46)
   where
     by : (test : Bool) → behind_point minus whole (if test then Some (rest ++ b) else None)
         ≡ behind_point minus whole (if test then Some rest else None)
-    by true = rw (count_append rest b k, take-append-le (digit_count rest) rest b (count_few rest)) refl
+    by true = rw (count_append rest b k, take-append-le (digit_count rest) rest b (count_le rest)) refl
     by false = refl
 
 unsigned_append : (minus : Bool) (t b : List ℕ) → Behind b → unsigned_front minus (t ++ b) ≡ unsigned_front minus t
 unsigned_append minus t b k =
     rw (
       count_append t b k,
-      take-append-le (digit_count t) t b (count_few t),
-      drop-append-le (digit_count t) t b (count_few t),
+      take-append-le (digit_count t) t b (count_le t),
+      drop-append-le (digit_count t) t b (count_le t),
     ) (point_append minus (take (digit_count t) t) (drop (digit_count t) t) b k)
 
 no_value : (b : List ℕ) → Behind b → scaled_value b ≡ NotNumber
@@ -187,8 +184,8 @@ parts_few : (t rest : List ℕ) (c s : ℕ) → c ∷ rest ≡ drop (digit_count
 parts_few t rest c s e =
     let l : suc (length rest) ≡ length t - digit_count t = ap length e ∙ length-drop (digit_count t) t in
     let k = length-prefix_len is_ascii_digit t in
-    let f = count_few t in
-    let g = count_few rest in
+    let f = count_le t in
+    let g = count_le rest in
     omega (arith, l, k, f, g)
 
 unsigned_within : (minus : Bool) (t : List ℕ) → Within (unsigned_front minus t) ((if minus then 1 else 0) + length t)
@@ -239,8 +236,8 @@ unfolding digits_at
 digits_append low high minus t b k =
     rw (
       count_append t b k,
-      take-append-le (digit_count t) t b (count_few t),
-      drop-append-le (digit_count t) t b (count_few t),
+      take-append-le (digit_count t) t b (count_le t),
+      drop-append-le (digit_count t) t b (count_le t),
     ) (by (digit_count t == 0) (signed minus (digits_value 10 (take (digit_count t) t))) (drop (digit_count t) t))
   where
     by : (test : Bool) (value : ℤ) (rest : List ℕ) →

@@ -33,15 +33,11 @@ until_head P [] head more h k = rw k refl
 until_head P (line ∷ lines) head more h k = rw (h.0, until_head P lines head more h.1 k) refl
 
 -- lines up to the next piece, or to the end
-until_pieces : (P : List ℕ → Bool) (lines : List (List ℕ)) (pieces : List Lines) → NoHead P lines →
+pub until_pieces : (P : List ℕ → Bool) (lines : List (List ℕ)) (pieces : List Lines) → NoHead P lines →
     AllByRecursion (IsPiece P) pieces → until P (lines ++ flat_map lines_of pieces) ≡ lines
 until_pieces P lines [] h each = ap (until P) (append-nil lines) ∙ until_none P lines h
 until_pieces P lines (piece ∷ pieces) h each =
     until_head P lines piece.head (piece.rest ++ flat_map lines_of pieces) h each.0.head
-
-pub until_first : (P : List ℕ → Bool) (front : List (List ℕ)) (pieces : List Lines) → NoHead P front →
-    AllByRecursion (IsPiece P) pieces → until P (front ++ flat_map lines_of pieces) ≡ front
-until_first P front pieces h each = until_pieces P front pieces h each
 
 -- pieces joined, and cut again
 pub cut_pieces : (P : List ℕ → Bool) (pieces : List Lines) → AllByRecursion (IsPiece P) pieces →
@@ -92,4 +88,4 @@ cut_back P front pieces h each = ap (λ (ls : List (List ℕ)). cut P (front ++ 
 pub until_back : (P : List ℕ → Bool) (front : List (List ℕ)) (pieces : List Lines) → NoHead P front →
     AllByRecursion (IsPiece P) pieces → until P (front ++ joined_back pieces) ≡ front
 until_back P front pieces h each = ap (λ (ls : List (List ℕ)). until P (front ++ ls)) (back_is pieces)
-    ∙ until_first P front (reverse pieces) h (all_back P pieces each)
+    ∙ until_pieces P front (reverse pieces) h (all_back P pieces each)

@@ -19,12 +19,12 @@ use Rattle.pg_drawing.specs.declared.model.Shape.TheVariants.{Box, Rule, Glue, K
 use Rattle.pg_drawing.specs.declared.pieces.Kind.{Kind}
 use Rattle.pg_drawing.specs.declared.pieces.Kind.TheVariants as at
 
--- lines with an empty line behind them
-abbrev pub ended : List (List ℕ) → List (List ℕ)
-ended lines = lines ++ [] ∷ []
+-- the empty line behind the last line feed
+abbrev pub end : List (List ℕ)
+end = [] ∷ []
 
 abbrev ended_piece : Lines → Lines
-ended_piece piece = record { head = piece.head; rest = ended piece.rest }
+ended_piece piece = record { head = piece.head; rest = piece.rest ++ end }
 
 -- the last piece has an empty line more
 abbrev ended_last : List Lines → List Lines
@@ -36,13 +36,13 @@ ended_last (piece ∷ next ∷ pieces) = piece ∷ ended_last (next ∷ pieces)
 
 -- lines before a head, with an empty line behind them where no head follows
 abbrev ended_if : List Lines → List (List ℕ) → List (List ℕ)
-ended_if [] lines = ended lines
+ended_if [] lines = lines ++ end
 ended_if (piece ∷ pieces) lines = lines
 
 module _ (P : List ℕ → Bool) (blank : P [] ≡ false) where
   until_by : (b : Bool) (line : List ℕ) (lines : List (List ℕ)) →
-      until P (ended lines) ≡ ended_if (cut P lines) (until P lines) →
-      (if b then [] else line ∷ until P (ended lines))
+      until P (lines ++ end) ≡ ended_if (cut P lines) (until P lines) →
+      (if b then [] else line ∷ until P (lines ++ end))
       ≡ ended_if (if b then record { head = line; rest = until P lines } ∷ cut P lines else cut P lines)
       (if b then [] else line ∷ until P lines)
   until_by true line lines e = refl
@@ -52,7 +52,7 @@ module _ (P : List ℕ → Bool) (blank : P [] ≡ false) where
       by [] = refl
       by (piece ∷ pieces) = refl
 
-  until_ended : (lines : List (List ℕ)) → until P (ended lines) ≡ ended_if (cut P lines) (until P lines)
+  until_ended : (lines : List (List ℕ)) → until P (lines ++ end) ≡ ended_if (cut P lines) (until P lines)
   until_ended [] = rw blank refl
   until_ended (line ∷ lines) = until_by (P line) line lines (until_ended lines)
 
@@ -62,13 +62,13 @@ module _ (P : List ℕ → Bool) (blank : P [] ≡ false) where
   last_by line rest [] = refl
   last_by line rest (piece ∷ pieces) = refl
 
-  cut_by : (b : Bool) (line : List ℕ) (lines : List (List ℕ)) → cut P (ended lines) ≡ ended_last (cut P lines) →
-      (if b then record { head = line; rest = until P (ended lines) } ∷ cut P (ended lines) else cut P (ended lines))
+  cut_by : (b : Bool) (line : List ℕ) (lines : List (List ℕ)) → cut P (lines ++ end) ≡ ended_last (cut P lines) →
+      (if b then record { head = line; rest = until P (lines ++ end) } ∷ cut P (lines ++ end) else cut P (lines ++ end))
       ≡ ended_last (if b then record { head = line; rest = until P lines } ∷ cut P lines else cut P lines)
   cut_by true line lines e = rw (until_ended lines, e) (last_by line (until P lines) (cut P lines))
   cut_by false line lines e = e
 
-  cut_ended : (lines : List (List ℕ)) → cut P (ended lines) ≡ ended_last (cut P lines)
+  cut_ended : (lines : List (List ℕ)) → cut P (lines ++ end) ≡ ended_last (cut P lines)
   cut_ended [] = rw blank refl
   cut_ended (line ∷ lines) = cut_by (P line) line lines (cut_ended lines)
 
@@ -98,7 +98,7 @@ no_letters (Penalty value) = refl
 no_letters (Insert class size) = refl
 no_letters Other = refl
 
-letters_ended : (shape : Shape) (lines : List (List ℕ)) → letters shape (ended lines) ≡ letters shape lines
+letters_ended : (shape : Shape) (lines : List (List ℕ)) → letters shape (lines ++ end) ≡ letters shape lines
 letters_ended shape lines =
     ap (take 60) (flat_map-append (letters_of (points_of shape)) lines ([] ∷ [])
     ∙ ap (λ (t : List ℕ). flat_map (letters_of (points_of shape)) lines ++ (t ++ [])) (no_letters shape)
@@ -132,11 +132,11 @@ area_ended piece =
     area_with : List Mark → ℤ → DrawnArea
     area_with marks height = record { name = area_name piece.head; marks = marks; height = height }
 
-areas_ended : (lines : List (List ℕ)) → areas_of (ended lines) ≡ areas_of lines
+areas_ended : (lines : List (List ℕ)) → areas_of (lines ++ end) ≡ areas_of lines
 areas_ended lines = ap (map area_of) (cut_ended (begins at.Area) (blank_line at.Area) lines)
     ∙ last_same area_of area_ended (cut (begins at.Area) lines)
 
-first_ended : (lines : List (List ℕ)) → first_part (ended lines) ≡ first_part lines
+first_ended : (lines : List (List ℕ)) → first_part (lines ++ end) ≡ first_part lines
 first_ended [] = refl
 first_ended (line ∷ lines) = refl
 
@@ -147,15 +147,15 @@ column_with piece first areas =
 column_ended : (piece : Lines) → column_of (ended_piece piece) ≡ column_of piece
 unfolding column_with
 column_ended piece =
-    ap (λ (first : List ℕ). column_with piece first (areas_of (ended piece.rest))) (first_ended piece.rest)
+    ap (λ (first : List ℕ). column_with piece first (areas_of (piece.rest ++ end))) (first_ended piece.rest)
     ∙ ap (column_with piece (first_part piece.rest)) (areas_ended piece.rest)
 
-columns_ended : (lines : List (List ℕ)) → columns_of (ended lines) ≡ columns_of lines
+columns_ended : (lines : List (List ℕ)) → columns_of (lines ++ end) ≡ columns_of lines
 columns_ended lines = ap (map column_of) (cut_ended (begins at.Column) (blank_line at.Column) lines)
     ∙ last_same column_of column_ended (cut (begins at.Column) lines)
 
 wide_ended : (lines : List (List ℕ)) →
-    areas_of (until (begins at.Column) (ended lines)) ≡ areas_of (until (begins at.Column) lines)
+    areas_of (until (begins at.Column) (lines ++ end)) ≡ areas_of (until (begins at.Column) lines)
 wide_ended lines = ap areas_of (until_ended (begins at.Column) (blank_line at.Column) lines)
     ∙ by (cut (begins at.Column) lines) (until (begins at.Column) lines)
   where
@@ -165,19 +165,19 @@ wide_ended lines = ap areas_of (until_ended (begins at.Column) (blank_line at.Co
 
 page_ended : (piece : Lines) → page_of (ended_piece piece) ≡ page_of piece
 page_ended piece =
-    ap (λ (wide : List DrawnArea). page_with wide (columns_of (ended piece.rest))) (wide_ended piece.rest)
+    ap (λ (wide : List DrawnArea). page_with wide (columns_of (piece.rest ++ end))) (wide_ended piece.rest)
     ∙ ap (page_with (areas_of (until (begins at.Column) piece.rest))) (columns_ended piece.rest)
   where
     page_with : List DrawnArea → List DrawnColumn → DrawnPage
     page_with wide columns = record { head = page_head (words_of piece.head); wide = wide; columns = columns }
 
-pages_ended : (lines : List (List ℕ)) → pages_of (ended lines) ≡ pages_of lines
+pages_ended : (lines : List (List ℕ)) → pages_of (lines ++ end) ≡ pages_of lines
 pages_ended lines = ap (map page_of) (cut_ended (begins at.Page) (blank_line at.Page) lines)
     ∙ last_same page_of page_ended (cut (begins at.Page) lines)
 
-pub drawn_ended : (lines : List (List ℕ)) → drawn (ended lines) ≡ drawn lines
+pub drawn_ended : (lines : List (List ℕ)) → drawn (lines ++ end) ≡ drawn lines
 drawn_ended lines =
-    ap (λ (first : List ℕ). record { head = head_of (words_of first); pages = pages_of (ended lines) })
+    ap (λ (first : List ℕ). record { head = head_of (words_of first); pages = pages_of (lines ++ end) })
     (first_ended lines)
     ∙ ap (λ (pages : List DrawnPage). record { head = head_of (words_of (first_part lines)); pages = pages })
     (pages_ended lines)

@@ -13,11 +13,12 @@ use Rattle.pg_list.specs.declared.item.Item.TheVariants as item
 use Rattle.pg_list.specs.Shapes.{is_box}
 use Rattle.pg_flat.specs.Totals.{depth, depth_of, full_size, has_size, top_glue, total}
 use Rattle.pg_flat.specs.Whole.{whole_sum_by}
+use Rattle.pg_pages.specs.Printed.{box_on, front_of}
 use Rattle.pg_drawing.proofs.Limits.{total_adds_up}
 use Rattle.pg_drawing.specs.Totals.{adds_up, hanging, hanging_behind, natural_extent, with_items}
 use Rattle.pg_drawing.specs.declared.model.Mark.{Mark}
 use Rattle.pg_drawing.specs.declared.model.Shape.{Shape}
-use Rattle.pg_draw_laws.specs.Marks.{AreDrawn, First, IsDrawn, IsTextDrawn, above, below, top_shape}
+use Rattle.pg_draw_laws.specs.Marks.{AreDrawn, First, IsDrawn, IsTextDrawn, top_shape}
 
 -- ---- heights
 
@@ -197,8 +198,8 @@ not_deep (item.Carry body) plain = refl
 
 -- items of which those above the first box or rule come first
 pub record IsSplit (items : List Item) : Type 0 where
-  pub whole : items ≡ above items ++ below items
-  pub shallow : last_depth (pos 0) (above items) ≡ pos 0
+  pub whole : items ≡ front_of items ++ box_on items
+  pub shallow : last_depth (pos 0) (front_of items) ≡ pos 0
 
 split_by : (x : Item) (items up down : List Item) (b : Bool) → b ≡ is_box x → items ≡ up ++ down →
     last_depth (pos 0) up ≡ pos 0 → let here = if not b then x ∷ up else [] in
@@ -214,23 +215,23 @@ dropped : (x : Item) (items up : List Item) (b : Bool) →
 dropped x items up true = refl
 dropped x items up false = refl
 
-above_by : (x : Item) (items : List Item) (n : ℕ) (b : Bool) →
+front_by : (x : Item) (items : List Item) (n : ℕ) (b : Bool) →
     take (cond (not b) (1 + n) 0) (x ∷ items) ≡ (if not b then x ∷ take n items else [])
-above_by x items n true = refl
-above_by x items n false = let next : 1 + n ≡ suc n = omega arith in rw next refl
+front_by x items n true = refl
+front_by x items n false = let next : 1 + n ≡ suc n = omega arith in rw next refl
 
-above_cons : (x : Item) (items : List Item) → above (x ∷ items) ≡ (if not (is_box x) then x ∷ above items else [])
-above_cons x items = above_by x items (prefix_len (λ (y : Item). not (is_box y)) items) (is_box x)
+front_cons : (x : Item) (items : List Item) → front_of (x ∷ items) ≡ (if not (is_box x) then x ∷ front_of items else [])
+front_cons x items = front_by x items (prefix_len (λ (y : Item). not (is_box y)) items) (is_box x)
 
 pub split : (items : List Item) → IsSplit items
 split [] = record { whole = refl; shallow = refl }
 split (x ∷ items) =
     let more = split items in
-    let here = split_by x items (above items) (below items) (is_box x) refl more.whole more.shallow in
-    let same = above_cons x items in
+    let here = split_by x items (front_of items) (box_on items) (is_box x) refl more.whole more.shallow in
+    let same = front_cons x items in
     record {
-      whole = here.0 ∙ ap (λ (xs : List Item). (if not (is_box x) then x ∷ above items else []) ++ xs)
-          (dropped x items (above items) (is_box x))
+      whole = here.0 ∙ ap (λ (xs : List Item). (if not (is_box x) then x ∷ front_of items else []) ++ xs)
+          (dropped x items (front_of items) (is_box x))
           ∙ ap (λ (xs : List Item). xs ++ drop (length xs) (x ∷ items)) (sym same);
       shallow = ap (last_depth (pos 0)) same ∙ here.1;
     }
@@ -262,22 +263,22 @@ module _ (topskip : ℤ) (items : List Item) (widths : List ℤ) (shapes : List 
     (d : IsTextDrawn topskip items widths shapes) where
   height : with_shapes (pos 0) shapes ≡ top_glue topskip items +ℤ whole_sum_by full_size items
   height =
-      let a = whole_sum_by full_size (above items) in
-      let b = whole_sum_by full_size (below items) in
+      let a = whole_sum_by full_size (front_of items) in
+      let b = whole_sum_by full_size (box_on items) in
       let g = top_glue topskip items in
       ap (with_shapes (pos 0)) d.all ∙ with_append (pos 0) d.front (top_shape topskip items ∷ d.rest)
-      ∙ ap (λ (z : ℤ). with_shapes (z +ℤ g) d.rest) (drawn_high (above items) [] d.front d.above (pos 0))
-      ∙ drawn_high (below items) widths d.rest d.below ((pos 0 +ℤ a) +ℤ g)
+      ∙ ap (λ (z : ℤ). with_shapes (z +ℤ g) d.rest) (drawn_high (front_of items) [] d.front d.above (pos 0))
+      ∙ drawn_high (box_on items) widths d.rest d.below ((pos 0 +ℤ a) +ℤ g)
       ∙ height_sum a g b
-      ∙ ap (λ (z : ℤ). g +ℤ z) (sym (sum_append (above items) (below items)))
+      ∙ ap (λ (z : ℤ). g +ℤ z) (sym (sum_append (front_of items) (box_on items)))
       ∙ ap (λ (xs : List Item). g +ℤ whole_sum_by full_size xs) (sym (split items).whole)
 
   hang : hanging_shapes (pos 0) shapes ≡ last_depth (pos 0) items
   hang =
       ap (hanging_shapes (pos 0)) d.all ∙ hanging_append (pos 0) d.front (top_shape topskip items ∷ d.rest)
-      ∙ drawn_hang (below items) widths d.rest d.below (pos 0)
-      ∙ ap (λ (z : ℤ). last_depth z (below items)) (sym (split items).shallow)
-      ∙ sym (depth_append (pos 0) (above items) (below items))
+      ∙ drawn_hang (box_on items) widths d.rest d.below (pos 0)
+      ∙ ap (λ (z : ℤ). last_depth z (box_on items)) (sym (split items).shallow)
+      ∙ sym (depth_append (pos 0) (front_of items) (box_on items))
       ∙ ap (last_depth (pos 0)) (sym (split items).whole)
 
 -- marks of the shapes of a text add up to its total

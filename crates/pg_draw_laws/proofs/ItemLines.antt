@@ -2,7 +2,7 @@
 use Rattle.std.proofs.Common.{◌≡◌, ◌∙◌, refl, sym, ap, subst, true, false, ℕ, List, [], ◌∷◌, ◌++◌, length, map, take, drop, append_assoc, append-nil, arith}
 use Rattle.std.proofs.lemmas.List.{map-append, take_at, drop_at}
 use Rattle.std.proofs.lemmas.List.Elements.{filter-append}
-use Rattle.std.specs.List.{AllByRecursion, filter, flat_map, prefix_len}
+use Rattle.std.specs.List.{AllByRecursion, filter, flat_map, prefix_len, take_while}
 use Rattle.std.specs.Prelude.{◌==◌, not, codes, Option, Some, None, Ok, ℤ, pos, is_some}
 use Rattle.pg_lemmas.proofs.Bools.{both_of}
 use Rattle.pg_lemmas.proofs.Lists.{all_append}
@@ -30,7 +30,7 @@ use Rattle.pg_drawing.specs.declared.pieces.Kind.TheVariants as at
 use Rattle.pg_draw_laws.proofs.Commas.{after_append, with_more}
 use Rattle.pg_draw_laws.proofs.ItemShapes.{deeper_said, item_begins, no_comma, node_said, plain_drawn, set_drawn}
 use Rattle.pg_draw_laws.proofs.Lines.{HasPoint, IsLines, dotted_more, feed_lacks, lines_as, lines_both, lines_line, lines_none}
-use Rattle.pg_draw_laws.specs.Marks.{AreDrawn, HasNoComma, IsDrawn, first_line}
+use Rattle.pg_draw_laws.specs.Marks.{AreDrawn, HasNoComma, IsDrawn}
 
 -- the text is lines with points, and those that begin items say these shapes
 pub record Shows (text : List ℕ) (shapes : List Shape) : Type 0 where
@@ -58,16 +58,17 @@ shows_as a b ss e p = subst (λ (t : List ℕ). Shows t ss) e p
 
 -- ---- deeper lines
 
-abbrev dots : List (List ℕ) → List (List ℕ)
-dots deeper = map (λ (l : List ℕ). 46 ∷ l) deeper
+-- with a point in front
+abbrev dot : List ℕ → List ℕ
+dot l = 46 ∷ l
 
-deeper_none : (deeper : List (List ℕ)) → AllByRecursion IsDeeper deeper → filter (begins at.Item) (dots deeper) ≡ []
+deeper_none : (deeper : List (List ℕ)) → AllByRecursion IsDeeper deeper → filter (begins at.Item) (map dot deeper) ≡ []
 deeper_none [] each = refl
 deeper_none (l ∷ ls) each =
     let e : begins at.Item (46 ∷ l) ≡ false = item_begins l ∙ ap not (deeper_said l each.0.says) in
     rw e (deeper_none ls each.1)
 
-deeper_points : (deeper : List (List ℕ)) → AllByRecursion HasPoint (dots deeper)
+deeper_points : (deeper : List (List ℕ)) → AllByRecursion HasPoint (map dot deeper)
 deeper_points [] = tt
 deeper_points (l ∷ ls) = (refl, deeper_points ls)
 
@@ -75,18 +76,18 @@ regrouped : (a b d : List ℕ) → line (a ++ (10 ∷ 46 ∷ (b ++ d))) ≡ line
 regrouped a b d = append_assoc a (10 ∷ 46 ∷ (b ++ d)) (10 ∷ []) ∙ sym (append_assoc a (10 ∷ []) (line ((46 ∷ b) ++ d)))
 
 deeper_lines : (front : List ℕ) (deeper : List (List ℕ)) → lacks 10 front ≡ true → AllByRecursion IsDeeper deeper →
-    IsLines (line (front ++ dotted (deeper_text deeper))) (front ∷ dots deeper)
+    IsLines (line (front ++ dotted (deeper_text deeper))) (front ∷ map dot deeper)
 deeper_lines front [] lack each = lines_as (line front) (line (front ++ [])) (front ∷ [])
     (ap line (sym (append-nil front))) (lines_line front lack)
 deeper_lines front (l ∷ ls) lack each =
     let clean : lacks 10 (46 ∷ l) ≡ true = feed_lacks (46 ∷ l) each.0.clean.no_feed in
     let more = deeper_lines (46 ∷ l) ls clean each.1 in
     lines_as (line front ++ line ((46 ∷ l) ++ dotted (deeper_text ls))) (line (front ++ dotted (deeper_text (l ∷ ls))))
-    (front ∷ dots (l ∷ ls))
+    (front ∷ map dot (l ∷ ls))
     (sym (regrouped front l (dotted (deeper_text ls)))
     ∙ ap (λ (t : List ℕ). line (front ++ (10 ∷ 46 ∷ t)))
     (sym (dotted_more l (deeper_text ls) (feed_lacks l each.0.clean.no_feed.1))))
-    (lines_both (line front) (line ((46 ∷ l) ++ dotted (deeper_text ls))) (front ∷ []) ((46 ∷ l) ∷ dots ls)
+    (lines_both (line front) (line ((46 ∷ l) ++ dotted (deeper_text ls))) (front ∷ []) ((46 ∷ l) ∷ map dot ls)
     (lines_line front lack) more)
 
 -- a line that begins an item, and deeper lines
@@ -96,7 +97,7 @@ front_shows : (t : List ℕ) (deeper : List (List ℕ)) → lacks 10 t ≡ true 
 front_shows t deeper lack none each =
     let e : begins at.Item (46 ∷ t) ≡ true = item_begins t ∙ ap not none in
     record {
-      lines = (46 ∷ t) ∷ dots deeper;
+      lines = (46 ∷ t) ∷ map dot deeper;
       are = deeper_lines (46 ∷ t) deeper lack each;
       each = (refl, deeper_points deeper);
       say = rw (e, deeper_none deeper each) refl;
@@ -125,7 +126,7 @@ first_long (c ∷ cs) deeper lack =
     rw (t.0, first_long cs deeper t.1) (omega arith)
 
 first_is : (first : List ℕ) (deeper : List (List ℕ)) → lacks 10 first ≡ true →
-    first_line (first ++ deeper_text deeper) ≡ first
+    take_while is_no_feed (first ++ deeper_text deeper) ≡ first
 first_is first deeper lack =
     ap (λ (n : ℕ). take n (first ++ deeper_text deeper)) (first_long first deeper lack)
     ∙ take_at first (deeper_text deeper) (length first) refl
@@ -205,7 +206,7 @@ module _ (first : List ℕ) (deeper : List (List ℕ)) (lack : lacks 10 first �
     shape_of (46 ∷ first),
     plain_drawn first (first ++ deeper_text deeper) (shown.Glue own stretch order shrink) e
         (subst (λ (t : List ℕ). lacks 44 t ≡ true) (first_is first deeper lack)
-        (no_comma (first_line (first ++ deeper_text deeper)) is)),
+        (no_comma (take_while is_no_feed (first ++ deeper_text deeper)) is)),
     shows,
   )
   node_plain (shown.Kern width) e is =
@@ -224,7 +225,7 @@ module _ (first : List ℕ) (deeper : List (List ℕ)) (lack : lacks 10 first �
       subst (λ (shape : Shape). Shows (set_text (first ++ deeper_text deeper) set) (shape ∷ []))
       (set_drawn first (first ++ deeper_text deeper) own stretch order shrink set e
       (subst (λ (t : List ℕ). lacks 44 t ≡ true) (first_is first deeper lack)
-      (no_comma (first_line (first ++ deeper_text deeper)) is)) small)
+      (no_comma (take_while is_no_feed (first ++ deeper_text deeper)) is)) small)
       (set_shows first deeper set lack none each)
   node_set set small (shown.Kern width) e = tt
   node_set set small (shown.Penalty value) e = tt

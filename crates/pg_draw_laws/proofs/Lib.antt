@@ -2,6 +2,7 @@ pub mod Commas
 pub mod Nodes
 pub mod ItemShapes
 pub mod Lines
+pub mod PointedLines
 pub mod ItemLines
 pub mod Heights
 pub mod Cuts

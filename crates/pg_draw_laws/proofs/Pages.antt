@@ -23,6 +23,7 @@ use Rattle.pg_words.specs.Written.{line}
 use Rattle.pg_word_laws.proofs.Cut.{joined, joined_lacks, joined_parts}
 use Rattle.pg_word_laws.proofs.Numbers.{number_reads}
 use Rattle.pg_word_laws.proofs.Words.{side_reads}
+use Rattle.pg_output_laws.proofs.Pointed.{floats_pointed}
 use Rattle.pg_output_laws.proofs.PageLines.{page_line_is, page_rest, page_words_lack}
 use Rattle.pg_output_laws.specs.PageRanges.{ArePrintedMoves}
 use Rattle.pg_drawing.specs.Drawn.{column_of, page_head, page_of}
@@ -35,7 +36,7 @@ use Rattle.pg_draw_laws.proofs.Areas.{wide_areas}
 use Rattle.pg_draw_laws.proofs.Columns.{IsColumnLines, column_lines}
 use Rattle.pg_draw_laws.proofs.Cuts.{IsPiece, NoHead, cut_back, joined_back, lines_of}
 use Rattle.pg_draw_laws.proofs.ItemLines.{Reads}
-use Rattle.pg_draw_laws.proofs.Lines.{IsLines, floats_pointed, lines_as, lines_both, lines_line, lines_none}
+use Rattle.pg_draw_laws.proofs.Lines.{IsLines, lines_as, lines_both, lines_line, lines_none}
 use Rattle.pg_draw_laws.specs.Marks.{AreReadable}
 use Rattle.pg_draw_laws.specs.Laws.{AreColumnsDrawn, drawn_columns, heads_from}
 
@@ -184,10 +185,6 @@ begun_behind full n some = by (n == full)
     by true = refl
     by false = rw (more_than_one n some) refl
 
-same_length : (column : Column) (pgs : List Page) → length (add_column column pgs) ≡ length pgs
-same_length column [] = refl
-same_length column (page ∷ pgs) = refl
-
 -- pages are numbered from 1 on
 numbered : (style : StyleValue) (ms : List PageMove) →
     length (pages_from style ms) + begun (next_column style ms) ≡ next_page style ms
@@ -203,8 +200,10 @@ numbered style (m ∷ ms) =
         + (if last then 1 else 0) ≡ (if last then page + 1 else page)
     by true true pgs page h = omega (arith, h)
     by true false pgs page h = omega (arith, h)
-    by false true pgs page h = omega (arith, h, same_length m.column pgs)
-    by false false pgs page h = omega (arith, h, same_length m.column pgs)
+    by false true [] page h = omega (arith, h)
+    by false true (last ∷ pgs) page h = omega (arith, h)
+    by false false [] page h = omega (arith, h)
+    by false false (last ∷ pgs) page h = omega (arith, h)
 
 number_is : (style : StyleValue) (ms : List PageMove) → true ≡ (next_column style ms == 1) →
     next_page style ms ≡ length (pages_from style ms) + 1

@@ -9,6 +9,7 @@ use Rattle.pg_list.specs.declared.item.Item.{Item}
 use Rattle.pg_flat.specs.Totals.{top_glue, total}
 use Rattle.pg_pages.specs.Bodies.{plain_text}
 use Rattle.pg_pages.specs.PageText.{items_text, set_items, top_line}
+use Rattle.pg_pages.specs.Printed.{box_on, front_of}
 use Rattle.pg_scaled.specs.Ranges.{IsScaled}
 use Rattle.pg_scaled.specs.Scaled.{scaled_text}
 use Rattle.pg_word_laws.proofs.Blanks.{any_scaled_lacks}
@@ -25,7 +26,7 @@ use Rattle.pg_draw_laws.proofs.Heights.{text_adds_up}
 use Rattle.pg_draw_laws.proofs.ItemLines.{Reads, Shows, plain_shown, set_shown, shows_both}
 use Rattle.pg_draw_laws.proofs.ItemShapes.{top_drawn}
 use Rattle.pg_draw_laws.proofs.Lines.{lines_line}
-use Rattle.pg_draw_laws.specs.Marks.{IsTextDrawn, above, below, top_shape}
+use Rattle.pg_draw_laws.specs.Marks.{IsTextDrawn, top_shape}
 
 -- ---- the lines of the items
 
@@ -60,11 +61,11 @@ pub items_shown : (topskip : ℤ) (items : List Item) (widths : List ℤ) → Al
     IsScaled (top_glue topskip items) → AllByRecursion IsScaled widths →
     ShowsText topskip items widths (items_text topskip items widths)
 items_shown topskip items widths reads small each =
-    let n = length (above items) in
-    let up = plain_shown (above items) (all_take Reads _ items reads) in
-    let down = set_shown (below items) widths (all_drop Reads n items reads) each in
+    let n = length (front_of items) in
+    let up = plain_shown (front_of items) (all_take Reads _ items reads) in
+    let down = set_shown (box_on items) widths (all_drop Reads n items reads) each in
     let top = top_shows topskip items small in
-    let front = shows_both (flat_map plain_text (above items)) (top_line topskip items) up.shapes
+    let front = shows_both (flat_map plain_text (front_of items)) (top_line topskip items) up.shapes
     (top_shape topskip items ∷ []) up.shows top in
     record {
       shapes = (up.shapes ++ top_shape topskip items ∷ []) ++ down.shapes;
@@ -75,8 +76,8 @@ items_shown topskip items widths reads small each =
         below = down.drawn;
         all = shapes_grouped up.shapes down.shapes (top_shape topskip items);
       };
-      shows = shows_both (flat_map plain_text (above items) ++ top_line topskip items) (set_items (below items) widths)
-          (up.shapes ++ top_shape topskip items ∷ []) down.shapes front down.shows;
+      shows = shows_both (flat_map plain_text (front_of items) ++ top_line topskip items)
+          (set_items (box_on items) widths) (up.shapes ++ top_shape topskip items ∷ []) down.shapes front down.shows;
     }
 
 -- ---- the area

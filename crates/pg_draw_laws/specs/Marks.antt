@@ -1,14 +1,14 @@
 -- The marks of a column's text.
-use Rattle.std.specs.Prelude.{◌≡◌, ℕ, true, List, [], ◌∷◌, ◌++◌, take, drop, length, not, ℤ, pos}
-use Rattle.std.specs.List.{AllByRecursion, prefix_len, take_while}
+use Rattle.std.specs.Prelude.{◌≡◌, ℕ, true, List, [], ◌∷◌, ◌++◌, ℤ, pos}
+use Rattle.std.specs.List.{AllByRecursion, take_while}
 use Rattle.pg_list.specs.declared.blocks.Block.{Block}
 use Rattle.pg_list.specs.declared.blocks.Block.TheVariants as block
 use Rattle.pg_list.specs.declared.item.Item.{Item}
 use Rattle.pg_list.specs.declared.item.Item.TheVariants as item
 use Rattle.pg_list.specs.declared.item.Order.TheVariants.{Finite}
 use Rattle.pg_list.specs.declared.variants.Variant.{Variant}
-use Rattle.pg_list.specs.Shapes.{is_box}
 use Rattle.pg_flat.specs.Totals.{top_glue}
+use Rattle.pg_pages.specs.Printed.{box_on, front_of}
 use Rattle.pg_scan.specs.Lines.{is_no_feed}
 use Rattle.pg_scan.specs.Parts.{differs_from}
 use Rattle.pg_showbox.specs.Shown.{IsShownBlock}
@@ -17,14 +17,10 @@ use Rattle.pg_drawing.specs.declared.model.Shape.TheVariants.{Box, Rule, Glue, K
 
 -- ---- one item
 
--- the first line of a body
-abbrev pub first_line : List ℕ → List ℕ
-first_line body = take (prefix_len is_no_feed body) body
-
 -- the first line of glue has no comma, which its name could hold
 abbrev pub HasNoComma : Item → Type 0
 HasNoComma (item.Glue width stretch order shrink body) =
-    AllByRecursion (λ (c : ℕ). differs_from 44 c ≡ true) (first_line body)
+    AllByRecursion (λ (c : ℕ). differs_from 44 c ≡ true) (take_while is_no_feed body)
 HasNoComma _ = Unit {0}
 
 -- the shape has the sizes of the item, glue with the width that it is set to
@@ -58,21 +54,13 @@ AreDrawn (item ∷ items) widths shapes = First item (pos 0) shapes (AreDrawn it
 abbrev pub top_shape : ℤ → List Item → Shape
 top_shape topskip items = Glue (top_glue topskip items) (pos 0) Finite (pos 0) (top_glue topskip items)
 
--- the items before the first box or rule
-abbrev pub above : List Item → List Item
-above items = take_while (λ (item : Item). not (is_box item)) items
-
--- those from it on
-abbrev pub below : List Item → List Item
-below items = drop (length (above items)) items
-
 -- the shapes are those of what stands above the first box or rule, of the glue that puts it at its height, and of the
 -- rest
 pub record IsTextDrawn (topskip : ℤ) (items : List Item) (widths : List ℤ) (shapes : List Shape) : Type 0 where
   pub front : List Shape
   pub rest : List Shape
-  pub above : AreDrawn (above items) [] front
-  pub below : AreDrawn (below items) widths rest
+  pub above : AreDrawn (front_of items) [] front
+  pub below : AreDrawn (box_on items) widths rest
   pub all : shapes ≡ front ++ top_shape topskip items ∷ rest
 
 -- ---- galleys
