@@ -155,16 +155,16 @@ fn print_box(
 }
 
 // The part of what glue can give that it gives, in a hundred.
-fn part(change: i64, most: i32) -> i64 {
+fn part(change: i128, most: i32) -> i128 {
     if most <= 0 {
         0
     } else {
-        change.saturating_mul(100) / i64::from(most)
+        change.saturating_mul(100) / i128::from(most)
     }
 }
 
 // How far glue is stretched.
-fn stretched(part: i64) -> &'static str {
+fn stretched(part: i128) -> &'static str {
     if part > 100 {
         "g s3"
     } else if part > 50 {
@@ -175,7 +175,7 @@ fn stretched(part: i64) -> &'static str {
 }
 
 // How far glue is shrunk.
-fn shrunk(part: i64) -> &'static str {
+fn shrunk(part: i128) -> &'static str {
     if part > 100 {
         "g k3"
     } else if part > 50 {
@@ -186,13 +186,13 @@ fn shrunk(part: i64) -> &'static str {
 }
 
 // The class of glue: as it is, stretched or shrunk, and how far.
-fn glue_class(own: i32, stretch: i32, order: Order, shrink: i32, set: i32) -> &'static str {
-    let change = i64::from(set) - i64::from(own);
+fn glue_class(own: i64, stretch: i32, order: Order, shrink: i32, set: i128) -> &'static str {
+    let change = set.saturating_sub(i128::from(own));
     if change > 0 {
         let most = if order == Order::Finite { stretch } else { 0 };
         stretched(part(change, most))
     } else if change < 0 {
-        shrunk(part(-change, shrink))
+        shrunk(part(change.saturating_abs(), shrink))
     } else {
         "g"
     }
@@ -204,7 +204,7 @@ fn print_space(
     mark: &Mark,
     class: &'static str,
     name: &'static str,
-    own: i32,
+    own: i64,
     out: &mut Vec<u8>,
 ) -> Result<(), AllocError> {
     let size = extent(mark.shape);
@@ -216,7 +216,7 @@ fn print_space(
         &[
             Piece::Markup("<title>"),
             Piece::Markup(name),
-            Piece::Length(i64::from(own)),
+            Piece::Length(own),
             Piece::Markup(", here "),
             Piece::Length(size),
             Piece::Markup("</title></rect>"),
@@ -282,7 +282,7 @@ fn print_mark(spot: &Spot, mark: &Mark, out: &mut Vec<u8>) -> Result<(), AllocEr
             depth,
             width,
         } => print_box(spot, mark, height, depth, width, out),
-        Shape::Rule { height, .. } => print_space(spot, mark, "r", "rule ", height, out),
+        Shape::Rule { height, .. } => print_space(spot, mark, "r", "rule ", i64::from(height), out),
         Shape::Glue {
             own,
             stretch,
@@ -297,7 +297,7 @@ fn print_mark(spot: &Spot, mark: &Mark, out: &mut Vec<u8>) -> Result<(), AllocEr
             own,
             out,
         ),
-        Shape::Kern { width } => print_space(spot, mark, "k", "kern ", width, out),
+        Shape::Kern { width } => print_space(spot, mark, "k", "kern ", i64::from(width), out),
         Shape::Penalty { value } => print_penalty(spot, mark, value, out),
         Shape::Insert { class, size } => print_insert(spot, mark, class, size, out),
         Shape::Other => Ok(()),

@@ -12,6 +12,7 @@ use Rattle.pg_rules.specs.Room.{ColumnContext, before_bottom}
 use Rattle.pg_pages.specs.PageText.{area, bottom_area, floats_text, items_text, notes_text, text_area, top_area}
 use Rattle.pg_pages.specs.SetGlue.{glue_widths}
 use Rattle.pg_scan.specs.Parts.{after, parts_of}
+use Rattle.pg_showbox.specs.Shown.{IsShown}
 use Rattle.pg_words.specs.Written.{line}
 use Rattle.pg_word_laws.proofs.Cut.{lacks}
 use Rattle.pg_drawing.specs.Drawn.{area_name, area_of}
@@ -19,14 +20,14 @@ use Rattle.pg_drawing.specs.Pieces.{Lines, begins}
 use Rattle.pg_drawing.specs.declared.model.DrawnArea.{DrawnArea}
 use Rattle.pg_drawing.specs.declared.pieces.Kind.TheVariants as at
 use Rattle.pg_draw_laws.proofs.Cuts.{IsPiece, NoHead, lines_of}
-use Rattle.pg_draw_laws.proofs.ItemLines.{Reads}
 use Rattle.pg_draw_laws.proofs.Lines.{HasPoint, HasPoints, IsLines, lines_both, lines_line, lines_none, points_none}
 use Rattle.pg_draw_laws.proofs.PointedLines.{has_points}
 use Rattle.pg_output_laws.proofs.Pointed.{IsPointed, floats_pointed, items_pointed, notes_pointed}
 use Rattle.pg_draw_laws.proofs.TextArea.{area_adds_up, items_shown, marks_say}
+use Rattle.pg_draw_laws.proofs.TextRanges.{IsTextInRange}
 use Rattle.pg_drawing.specs.declared.model.Shape.{Shape}
 use Rattle.pg_draw_laws.specs.Marks.{IsTextDrawn}
-use Rattle.pg_draw_laws.specs.Laws.{IsGlueInRange, IsTextShown, is_text_area}
+use Rattle.pg_draw_laws.specs.Laws.{IsTextShown, is_text_area}
 
 -- ---- pieces
 
@@ -207,8 +208,8 @@ text_areas it n =
     one_area (codes "area text") (items_text it.document.style.topskip (segment it n) (glue_widths it n))
     (text_drawn it n ∷ []) text_line_is p (text_named p.lines)
 
-pub text_shown : (it : ColumnContext) (n : ℕ) → AllByRecursion Reads (segment it n) →
-    pos 0 ≤ℤ it.document.style.maxdepth → IsGlueInRange it n → IsTextShown it n (text_drawn it n)
+pub text_shown : (it : ColumnContext) (n : ℕ) → AllByRecursion IsShown (segment it n) →
+    pos 0 ≤ℤ it.document.style.maxdepth → IsTextInRange it n → IsTextShown it n (text_drawn it n)
 unfolding text_drawn
 text_shown it n reads low range =
     let topskip = it.document.style.topskip in

@@ -11,6 +11,7 @@ use Rattle.pg_rules.specs.Cost.{text_demerits}
 use Rattle.pg_rules.specs.Room.{ColumnContext, is_text, size_of}
 use Rattle.pg_pages.specs.PageText.{area, bottom_area, column_body, column_line as printed_column, end_penalty, float_column, notes_text, set_line, text_area, text_column, top_area}
 use Rattle.pg_scan.specs.Parts.{after, first_part}
+use Rattle.pg_showbox.specs.Shown.{IsShown, IsShownBlock}
 use Rattle.pg_words.specs.InOrder.{words_of}
 use Rattle.pg_words.specs.Written.{line}
 use Rattle.pg_word_laws.proofs.Cut.{joined, joined_lacks, joined_parts, lacks}
@@ -28,9 +29,8 @@ use Rattle.pg_drawing.specs.declared.model.Numbers.TheVariants.{Set, Without}
 use Rattle.pg_drawing.specs.declared.pieces.Kind.TheVariants as at
 use Rattle.pg_draw_laws.proofs.Areas.{Areas, areas_both, bottom_areas, notes_areas, text_areas, text_drawn, text_shown, top_areas}
 use Rattle.pg_draw_laws.proofs.Cuts.{IsPiece, NoHead, cut_front, lines_of}
-use Rattle.pg_draw_laws.proofs.ItemLines.{Reads}
 use Rattle.pg_draw_laws.proofs.Lines.{IsLines, lines_as, lines_both, lines_line}
-use Rattle.pg_draw_laws.specs.Marks.{AreReadable}
+use Rattle.pg_draw_laws.proofs.TextRanges.{HasSizes, IsTextInRange}
 use Rattle.pg_draw_laws.specs.Laws.{IsColumnDrawn, is_text_area, text_numbers}
 
 -- ---- the numbers of a column
@@ -234,8 +234,9 @@ column_with it number h numbers texts body drawn =
 
 pub column_lines : (it : ColumnContext) (number : ℕ) → IsPrintedColumn it.column → IsPrintedBody it →
     pos 0 ≤ℤ it.document.style.maxdepth →
-    (AreReadable it.document.blocks → (n : ℕ) → AllByRecursion Reads (segment it n)) → IsColumnLines it number
-column_lines it number column h low reads = by (is_text it) refl
+    (AllByRecursion IsShownBlock it.document.blocks → (n : ℕ) → AllByRecursion IsShown (segment it n)) →
+    ((n : ℕ) → HasSizes it n → IsTextInRange it n) → IsColumnLines it number
+column_lines it number column h low reads range = by (is_text it) refl
   where
     body_is : (b : Bool) → is_text it ≡ b →
         (if b then option_map_or (text_column it) (size_of it) [] else float_column it) ≡ column_body it
@@ -258,7 +259,10 @@ column_lines it number column h low reads = by (is_text it) refl
             numbers = numbers;
             area = text;
             only = areas;
-            shown = λ readable. text_shown it n.0 (reads readable n.0) low;
+            shown = λ shown. text_shown it n.0 (reads shown n.0) low (range n.0 (record {
+              goal = (h.numbers n.0 n.1).goal_in;
+              total = (h.numbers n.0 n.1).total_in;
+            }));
           };
           floats = λ f. absurd (not_both (is_text it) e f);
         })

@@ -34,11 +34,11 @@ after_by : (b : Bool) (rest : Bool) (t : List ℕ) →
 after_by true rest t = refl
 after_by false rest t = refl
 
-after_cons : (c d : ℕ) (cs ds : List ℕ) → after (c ∷ cs) (d ∷ ds) ≡ (if d == c then after cs ds else None)
+pub after_cons : (c d : ℕ) (cs ds : List ℕ) → after (c ∷ cs) (d ∷ ds) ≡ (if d == c then after cs ds else None)
 unfolding after
 after_cons c d cs ds = after_by (d == c) (bytes_eq (take (length cs) ds) cs) (drop (length cs) ds)
 
-after_nothing : (c : ℕ) (cs : List ℕ) → after (c ∷ cs) [] ≡ None
+pub after_nothing : (c : ℕ) (cs : List ℕ) → after (c ∷ cs) [] ≡ None
 unfolding after
 after_nothing c cs = refl
 
@@ -54,7 +54,7 @@ after_none c cs (d ∷ ds) h k =
 abbrev pub with_more : List ℕ → Option (List ℕ) → Option (List ℕ)
 with_more b o = option_map (λ (t : List ℕ). t ++ b) o
 
-after_empty : (t : List ℕ) → after [] t ≡ Some t
+pub after_empty : (t : List ℕ) → after [] t ≡ Some t
 unfolding after
 after_empty t = refl
 
@@ -207,7 +207,7 @@ value_within (c ∷ cs) = by (c == 45)
     by false = subst (λ (n : ℕ). Within (unsigned_front false (c ∷ cs)) n) (omega arith)
         (unsigned_within false (c ∷ cs))
 
-abbrev pub carried : List ℕ → Result (ℤ × List ℕ) ListKind → Result (ℤ × List ℕ) ListKind
+abbrev pub carried : {A : Type 0} → List ℕ → Result (A × List ℕ) ListKind → Result (A × List ℕ) ListKind
 carried b (Ok x) = Ok (x.0, x.1 ++ b)
 carried b (Err e) = Err e
 
@@ -266,7 +266,7 @@ pub record IsCut (text : List ℕ) : Type 0 where
   pub is : Behind behind
   pub whole : text ≡ first_part (parts_of 44 text) ++ behind
 
-onto_part : (c : ℕ) (parts : List (List ℕ)) → first_part (onto_first c parts) ≡ c ∷ first_part parts
+pub onto_part : (c : ℕ) (parts : List (List ℕ)) → first_part (onto_first c parts) ≡ c ∷ first_part parts
 onto_part c [] = refl
 onto_part c (part ∷ parts) = refl
 

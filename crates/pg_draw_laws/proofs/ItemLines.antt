@@ -11,7 +11,6 @@ use Rattle.pg_list.specs.declared.item.Item.{Item}
 use Rattle.pg_list.specs.declared.item.Item.TheVariants as item
 use Rattle.pg_pages.specs.Bodies.{body_text, plain_text, set_rest, set_text}
 use Rattle.pg_pages.specs.PageText.{set_items}
-use Rattle.pg_scaled.specs.Ranges.{IsScaled}
 use Rattle.pg_scaled.specs.Scaled.{scaled_text}
 use Rattle.pg_scan.specs.Lines.{dotted, is_no_feed}
 use Rattle.pg_scan.specs.Parts.{after}
@@ -28,9 +27,10 @@ use Rattle.pg_drawing.specs.declared.model.Shape.{Shape}
 use Rattle.pg_drawing.specs.declared.model.Shape.TheVariants.{Glue}
 use Rattle.pg_drawing.specs.declared.pieces.Kind.TheVariants as at
 use Rattle.pg_draw_laws.proofs.Commas.{after_append, with_more}
-use Rattle.pg_draw_laws.proofs.ItemShapes.{deeper_said, item_begins, no_comma, node_said, plain_drawn, set_drawn}
+use Rattle.pg_draw_laws.proofs.ItemShapes.{deeper_said, item_begins, node_said, plain_drawn, set_drawn}
 use Rattle.pg_draw_laws.proofs.Lines.{HasPoint, IsLines, dotted_more, feed_lacks, lines_as, lines_both, lines_line, lines_none}
-use Rattle.pg_draw_laws.specs.Marks.{AreDrawn, HasNoComma, IsDrawn}
+use Rattle.pg_draw_laws.proofs.TextRanges.{IsWidth}
+use Rattle.pg_draw_laws.specs.Marks.{AreDrawn, IsDrawn}
 
 -- the text is lines with points, and those that begin items say these shapes
 pub record Shows (text : List ℕ) (shapes : List Shape) : Type 0 where
@@ -184,11 +184,11 @@ abbrev pub ShowsItem : Item → ℤ → List ℕ → Type 0
 ShowsItem x set text = (shape : Shape) × IsDrawn x set shape × Shows text (shape ∷ [])
 
 abbrev pub PlainShows : Item → Type 0
-PlainShows x = HasNoComma x → ShowsItem x (own_item x) (body_text (body_of x))
+PlainShows x = ShowsItem x (own_item x) (body_text (body_of x))
 
 -- glue that is set
 abbrev pub SetShows : Item → ℤ → Type 0
-SetShows (item.Glue width stretch order shrink body) set = HasNoComma (item.Glue width stretch order shrink body) →
+SetShows (item.Glue width stretch order shrink body) set =
     Shows (set_text body set) (Glue width stretch order shrink set ∷ [])
 SetShows _ set = Unit {0}
 
@@ -198,35 +198,30 @@ module _ (first : List ℕ) (deeper : List (List ℕ)) (lack : lacks 10 first �
   shows = body_shows first deeper lack none each
 
   node_plain : (node : Node) → node_at first ≡ Ok node → PlainShows (node_item node (first ++ deeper_text deeper))
-  node_plain (shown.Box height depth) e is =
-      (shape_of (46 ∷ first), plain_drawn first (first ++ deeper_text deeper) (shown.Box height depth) e tt, shows)
-  node_plain (shown.Rule height depth) e is =
-      (shape_of (46 ∷ first), plain_drawn first (first ++ deeper_text deeper) (shown.Rule height depth) e tt, shows)
-  node_plain (shown.Glue own stretch order shrink) e is = (
+  node_plain (shown.Box height depth) e =
+      (shape_of (46 ∷ first), plain_drawn first (first ++ deeper_text deeper) (shown.Box height depth) e, shows)
+  node_plain (shown.Rule height depth) e =
+      (shape_of (46 ∷ first), plain_drawn first (first ++ deeper_text deeper) (shown.Rule height depth) e, shows)
+  node_plain (shown.Glue own stretch order shrink) e = (
     shape_of (46 ∷ first),
-    plain_drawn first (first ++ deeper_text deeper) (shown.Glue own stretch order shrink) e
-        (subst (λ (t : List ℕ). lacks 44 t ≡ true) (first_is first deeper lack)
-        (no_comma (take_while is_no_feed (first ++ deeper_text deeper)) is)),
+    plain_drawn first (first ++ deeper_text deeper) (shown.Glue own stretch order shrink) e,
     shows,
   )
-  node_plain (shown.Kern width) e is =
-      (shape_of (46 ∷ first), plain_drawn first (first ++ deeper_text deeper) (shown.Kern width) e tt, shows)
-  node_plain (shown.Penalty value) e is =
-      (shape_of (46 ∷ first), plain_drawn first (first ++ deeper_text deeper) (shown.Penalty value) e tt, shows)
-  node_plain (shown.Insert class size) e is = (shape_of (46 ∷ first), tt, shows)
-  node_plain shown.Carry e is =
-      (shape_of (46 ∷ first), plain_drawn first (first ++ deeper_text deeper) shown.Carry e tt, shows)
+  node_plain (shown.Kern width) e =
+      (shape_of (46 ∷ first), plain_drawn first (first ++ deeper_text deeper) (shown.Kern width) e, shows)
+  node_plain (shown.Penalty value) e =
+      (shape_of (46 ∷ first), plain_drawn first (first ++ deeper_text deeper) (shown.Penalty value) e, shows)
+  node_plain (shown.Insert class size) e = (shape_of (46 ∷ first), tt, shows)
+  node_plain shown.Carry e =
+      (shape_of (46 ∷ first), plain_drawn first (first ++ deeper_text deeper) shown.Carry e, shows)
 
-  node_set : (set : ℤ) → IsScaled set → (node : Node) → node_at first ≡ Ok node →
+  node_set : (set : ℤ) → IsWidth set → (node : Node) → node_at first ≡ Ok node →
       SetShows (node_item node (first ++ deeper_text deeper)) set
   node_set set small (shown.Box height depth) e = tt
   node_set set small (shown.Rule height depth) e = tt
-  node_set set small (shown.Glue own stretch order shrink) e = λ is.
+  node_set set small (shown.Glue own stretch order shrink) e =
       subst (λ (shape : Shape). Shows (set_text (first ++ deeper_text deeper) set) (shape ∷ []))
-      (set_drawn first (first ++ deeper_text deeper) own stretch order shrink set e
-      (subst (λ (t : List ℕ). lacks 44 t ≡ true) (first_is first deeper lack)
-      (no_comma (take_while is_no_feed (first ++ deeper_text deeper)) is)) small)
-      (set_shows first deeper set lack none each)
+      (set_drawn first own stretch order shrink set e small) (set_shows first deeper set lack none each)
   node_set set small (shown.Kern width) e = tt
   node_set set small (shown.Penalty value) e = tt
   node_set set small (shown.Insert class size) e = tt
@@ -238,7 +233,7 @@ plain_shows x h =
     subst PlainShows (sym h.is)
     (node_plain h.first h.deeper (feed_lacks h.first h.clean.no_feed.1) n.1 h.each h.node n.0)
 
-pub glue_shows : (x : Item) (set : ℤ) → IsScaled set → IsShown x → SetShows x set
+pub glue_shows : (x : Item) (set : ℤ) → IsWidth set → IsShown x → SetShows x set
 glue_shows x set small h =
     let n = node_said h.first h.node h.says in
     subst (λ (y : Item). SetShows y set) (sym h.is)
@@ -252,16 +247,12 @@ pub record ShowsItems (items : List Item) (widths : List ℤ) (text : List ℕ) 
   pub drawn : AreDrawn items widths shapes
   pub shows : Shows text shapes
 
--- the items are shown, and their glue has no comma
-abbrev pub Reads : Item → Type 0
-Reads x = IsShown x × HasNoComma x
-
-pub set_shown : (items : List Item) (widths : List ℤ) → AllByRecursion Reads items → AllByRecursion IsScaled widths →
+pub set_shown : (items : List Item) (widths : List ℤ) → AllByRecursion IsShown items → AllByRecursion IsWidth widths →
     ShowsItems items widths (set_items items widths)
 set_shown [] widths h w = record { shapes = []; drawn = refl; shows = shows_none }
 set_shown (item.Glue width stretch order shrink body ∷ items) [] h w =
     let x = item.Glue width stretch order shrink body in
-    let one = plain_shows x h.0.0 h.0.1 in
+    let one = plain_shows x h.0 in
     let more = set_shown items [] h.1 w in
     record {
       shapes = one.0 ∷ more.shapes;
@@ -270,7 +261,7 @@ set_shown (item.Glue width stretch order shrink body ∷ items) [] h w =
     }
 set_shown (item.Glue width stretch order shrink body ∷ items) (set ∷ widths) h w =
     let x = item.Glue width stretch order shrink body in
-    let one = glue_shows x set w.0 h.0.0 h.0.1 in
+    let one = glue_shows x set w.0 h.0 in
     let more = set_shown items widths h.1 w.1 in
     record {
       shapes = Glue width stretch order shrink set ∷ more.shapes;
@@ -279,7 +270,7 @@ set_shown (item.Glue width stretch order shrink body ∷ items) (set ∷ widths)
           more.shapes one more.shows;
     }
 set_shown (item.BoxItem height depth body ∷ items) widths h w =
-    let one = plain_shows (item.BoxItem height depth body) h.0.0 h.0.1 in
+    let one = plain_shows (item.BoxItem height depth body) h.0 in
     let more = set_shown items widths h.1 w in
     record {
       shapes = one.0 ∷ more.shapes;
@@ -287,7 +278,7 @@ set_shown (item.BoxItem height depth body ∷ items) widths h w =
       shows = shows_both (body_text body) (set_items items widths) (one.0 ∷ []) more.shapes one.2 more.shows;
     }
 set_shown (item.Rule height depth body ∷ items) widths h w =
-    let one = plain_shows (item.Rule height depth body) h.0.0 h.0.1 in
+    let one = plain_shows (item.Rule height depth body) h.0 in
     let more = set_shown items widths h.1 w in
     record {
       shapes = one.0 ∷ more.shapes;
@@ -295,7 +286,7 @@ set_shown (item.Rule height depth body ∷ items) widths h w =
       shows = shows_both (body_text body) (set_items items widths) (one.0 ∷ []) more.shapes one.2 more.shows;
     }
 set_shown (item.Kern width body ∷ items) widths h w =
-    let one = plain_shows (item.Kern width body) h.0.0 h.0.1 in
+    let one = plain_shows (item.Kern width body) h.0 in
     let more = set_shown items widths h.1 w in
     record {
       shapes = one.0 ∷ more.shapes;
@@ -303,7 +294,7 @@ set_shown (item.Kern width body ∷ items) widths h w =
       shows = shows_both (body_text body) (set_items items widths) (one.0 ∷ []) more.shapes one.2 more.shows;
     }
 set_shown (item.Penalty value body ∷ items) widths h w =
-    let one = plain_shows (item.Penalty value body) h.0.0 h.0.1 in
+    let one = plain_shows (item.Penalty value body) h.0 in
     let more = set_shown items widths h.1 w in
     record {
       shapes = one.0 ∷ more.shapes;
@@ -314,7 +305,7 @@ set_shown (item.Insert class size body ∷ items) widths h w =
     let more = set_shown items widths h.1 w in
     record { shapes = more.shapes; drawn = more.drawn; shows = more.shows }
 set_shown (item.Carry body ∷ items) widths h w =
-    let one = plain_shows (item.Carry body) h.0.0 h.0.1 in
+    let one = plain_shows (item.Carry body) h.0 in
     let more = set_shown items widths h.1 w in
     record {
       shapes = one.0 ∷ more.shapes;
@@ -333,5 +324,5 @@ plain_is (item.Penalty value body ∷ items) = ap (λ (t : List ℕ). body_text 
 plain_is (item.Insert class size body ∷ items) = plain_is items
 plain_is (item.Carry body ∷ items) = ap (λ (t : List ℕ). body_text body ++ t) (plain_is items)
 
-pub plain_shown : (items : List Item) → AllByRecursion Reads items → ShowsItems items [] (flat_map plain_text items)
+pub plain_shown : (items : List Item) → AllByRecursion IsShown items → ShowsItems items [] (flat_map plain_text items)
 plain_shown items h = subst (ShowsItems items []) (plain_is items) (set_shown items [] h tt)

@@ -1,17 +1,15 @@
 -- The shape that the first line of an item says.
-use Rattle.std.proofs.Common.{◌≡◌, ◌∙◌, refl, sym, ap, subst, ◌+◌, ◌*◌, ◌/◌, ◌%◌, Bool, true, false, ℕ, suc, List, [], ◌∷◌, ◌++◌, length, drop, append-nil, arith}
+use Rattle.std.proofs.Common.{◌≡◌, ◌∙◌, refl, sym, ap, subst, ◌≤◌, ◌<◌, ◌+◌, ◌*◌, ◌/◌, ◌%◌, ◌^◌, ◌⊎◌, inl, inr, Bool, true, false, ℕ, suc, List, [], ◌∷◌, ◌++◌, length, drop, append-nil, arith}
 use Rattle.std.proofs.Math.Seq.{drop-length}
-use Rattle.std.proofs.lemmas.List.{append_cancel_left}
-use Rattle.std.specs.List.{AllByRecursion}
-use Rattle.std.specs.Prelude.{◌==◌, ◌||◌, not, if◌then◌else◌, codes, decimal, Option, Some, None, Result, Ok, Err, ℤ, pos, negsuc, neg_ℤ, nat_abs, is_some}
+use Rattle.std.proofs.lemmas.Bool.{cases_lt}
+use Rattle.std.specs.Prelude.{◌||◌, not, if◌then◌else◌, codes, decimal, Option, Some, None, Result, Ok, Err, ℤ, pos, negsuc, neg_ℤ, nat_abs, is_some}
 use Rattle.std.specs.Str.{bytes_eq}
-use Rattle.pg_lemmas.proofs.Bools.{both}
 use Rattle.pg_list.specs.declared.item.Order.{Order}
 use Rattle.pg_list.specs.declared.item.Order.TheVariants.{Finite}
 use Rattle.pg_scaled.proofs.ReadsBack.{all_digits, text_reads}
 use Rattle.pg_scaled.specs.Ranges.{IsScaled}
 use Rattle.pg_scaled.specs.Scaled.{fraction_digits, scaled_text, scaled_value, size_text}
-use Rattle.pg_scan.specs.Parts.{after, differs_from, first_part, named, on, parts_of}
+use Rattle.pg_scan.specs.Parts.{after, first_part, named, on, parts_of, past}
 use Rattle.pg_showbox.specs.Nodes.{glue_at, glue_text_at, node_at, node_item, past_name, shrink_at, stretch_at}
 use Rattle.pg_showbox.specs.ParsedLine.{marker_at, or_shape, pointed_at, variant_at}
 use Rattle.pg_showbox.specs.Parts.{◌>>=◌, due, size_at, whole_at}
@@ -22,15 +20,18 @@ use Rattle.pg_showbox.specs.declared.node.Node.TheVariants as shown
 use Rattle.pg_showbox.specs.declared.parsed.ParsedLine.{ParsedLine}
 use Rattle.pg_showbox.specs.declared.parsed.ParsedLine.TheVariants as said
 use Rattle.pg_drawing.specs.Pieces.{begins}
-use Rattle.pg_drawing.specs.Shapes.{as_shape, or_other, second_part, set_at, shape_at, shape_of, sized_at}
+use Rattle.pg_drawing.specs.Shapes.{as_shape, bare, bare_at, behind_name, named_glue_at, or_bad_width, or_else, or_other, second_part, set_at, shape_of, sized_at}
+use Rattle.pg_drawing.specs.Widths.{length_word, width_word}
 use Rattle.pg_drawing.specs.declared.model.Shape.{Shape}
 use Rattle.pg_drawing.specs.declared.model.Shape.TheVariants.{Glue}
 use Rattle.pg_drawing.specs.declared.pieces.Kind.TheVariants as at
 use Rattle.pg_word_laws.proofs.Blanks.{any_digits}
 use Rattle.pg_word_laws.proofs.Cut.{digits_lack, lacks, lacks_append, part_here, part_last}
 use Rattle.pg_word_laws.proofs.Words.{behind_lacks}
-use Rattle.pg_draw_laws.proofs.Commas.{cut_at_comma}
+use Rattle.pg_draw_laws.proofs.GlueTexts.{IsTail, blank_read}
 use Rattle.pg_draw_laws.proofs.Nodes.{Draws, Yields, node_yields}
+use Rattle.pg_draw_laws.proofs.TextRanges.{IsWidth}
+use Rattle.pg_draw_laws.proofs.WidthWords.{large_refused, length_reads, width_reads}
 use Rattle.pg_draw_laws.specs.Marks.{IsDrawn}
 
 -- ---- what a line says
@@ -114,10 +115,6 @@ item_begins t = refl
 
 -- ---- commas
 
-pub no_comma : (text : List ℕ) → AllByRecursion (λ (c : ℕ). differs_from 44 c ≡ true) text → lacks 44 text ≡ true
-no_comma [] each = refl
-no_comma (c ∷ cs) each = both (not (c == 44)) (lacks 44 cs) each.0 (no_comma cs each.1)
-
 size_lacks : (n : ℕ) → lacks 44 (size_text n) ≡ true
 size_lacks n =
     let fraction = fraction_digits 5 (10 * (n % 65536) + 5) 10 in
@@ -130,150 +127,151 @@ pub scaled_lacks : (z : ℤ) → lacks 44 (scaled_text z) ≡ true
 scaled_lacks (pos n) = size_lacks n
 scaled_lacks (negsuc n) = behind_lacks 44 45 (size_text (suc n)) (omega arith) (size_lacks (suc n))
 
--- ---- sizes
-
-pub only_size : (z : ℤ) → IsScaled z → size_at (scaled_text z) ≡ Ok (z, drop (length (scaled_text z)) (scaled_text z))
-unfolding size_at
-only_size z small =
-    let read = ap scaled_value (sym (append-nil (scaled_text z))) ∙ text_reads z [] small refl in
-    rw read refl
-
-set_by : (own z : ℤ) (r : Result (ℤ × List ℕ) ListKind) (t : List ℕ) → r ≡ Ok (z, t) →
-    (r >>= (λ (size : ℤ × List ℕ). Ok size.0)) ≡ Ok z
-set_by own z r t e = ap (λ (x : Result (ℤ × List ℕ) ListKind). x >>= (λ (size : ℤ × List ℕ). Ok size.0)) e
-
-set_behind : (own : ℤ) (t : List ℕ) →
-    set_at own (codes " set " ++ t) ≡ (size_at t >>= (λ (size : ℤ × List ℕ). Ok size.0))
-unfolding set_at after
-set_behind own t = refl
-
-pub set_reads : (own z : ℤ) → IsScaled z → set_at own (codes " set " ++ scaled_text z) ≡ Ok z
-set_reads own z small = set_behind own (scaled_text z)
-    ∙ set_by own z (size_at (scaled_text z)) (drop (length (scaled_text z)) (scaled_text z)) (only_size z small)
+-- ---- the width that is set
 
 own_width : (own : ℤ) → set_at own [] ≡ Ok own
 unfolding set_at after
 own_width own = refl
 
+set_behind : (own : ℤ) (t : List ℕ) → set_at own (codes " set " ++ t) ≡ or_bad_width (width_word t)
+unfolding set_at after
+set_behind own t = refl
+
+set_reads : (own z : ℤ) → IsWidth z → set_at own (codes " set " ++ scaled_text z) ≡ Ok z
+set_reads own z small = set_behind own (scaled_text z) ∙ ap or_bad_width (width_reads z small)
+
+-- nothing is behind the line
+abbrev as_it_is : ℤ → ℤ
+as_it_is own = own
+
+plain_parts : (x : List ℕ) → lacks 44 x ≡ true → parts_of 44 (x ++ []) ≡ x ∷ []
+plain_parts x lack = ap (parts_of 44) (append-nil x) ∙ part_last 44 x lack
+
+plain_tail : IsTail [] as_it_is
+plain_tail = record {
+  is = tt;
+  first = λ (x : List ℕ) lack. ap first_part (plain_parts x lack);
+  says = λ (x : List ℕ) (own : ℤ) lack.
+      ap (λ (ps : List (List ℕ)). set_at own (second_part ps)) (plain_parts x lack) ∙ own_width own;
+}
+
+-- a set width is behind it
+abbrev set_text_of : ℤ → List ℕ
+set_text_of set = codes ", set " ++ scaled_text set
+
+set_parts : (x : List ℕ) (set : ℤ) → lacks 44 x ≡ true →
+    parts_of 44 (x ++ set_text_of set) ≡ x ∷ (codes " set " ++ scaled_text set) ∷ []
+set_parts x set lack = part_here 44 x (codes " set " ++ scaled_text set) lack
+    ∙ ap (λ (ps : List (List ℕ)). x ∷ ps) (part_last 44 (codes " set " ++ scaled_text set)
+    (lacks_append 44 (codes " set ") (scaled_text set) refl (scaled_lacks set)))
+
+set_tail : (set : ℤ) → IsWidth set → IsTail (set_text_of set) (λ (own : ℤ). set)
+set_tail set small = record {
+  is = refl;
+  first = λ (x : List ℕ) lack. ap first_part (set_parts x set lack);
+  says = λ (x : List ℕ) (own : ℤ) lack.
+      ap (λ (ps : List (List ℕ)). set_at own (second_part ps)) (set_parts x set lack) ∙ set_reads own set small;
+}
+
 -- ---- the shape
 
-shape_is : (t : List ℕ) →
-    shape_of (46 ∷ t) ≡ or_other (sized_at (second_part (parts_of 44 t)) (first_part (parts_of 44 t)))
-unfolding shape_of shape_at after
+shape_is : (t : List ℕ) → shape_of (46 ∷ t) ≡ or_other (sized_at t)
+unfolding shape_of after
 shape_is t = refl
-
-glue_set : (rest : List ℕ) (own stretch : ℤ) (order : Order) (shrink set : ℤ) → set_at own rest ≡ Ok set →
-    as_shape rest (shown.Glue own stretch order shrink) ≡ Ok (Glue own stretch order shrink set)
-glue_set rest own stretch order shrink set e =
-    ap (λ (r : Result ℤ ListKind). r >>= (λ (z : ℤ). Ok (Glue own stretch order shrink z))) e
-
--- glue, behind which no comma and then this stands, is set to this
-abbrev IsSet : Node → List ℕ → List ℕ → ℤ → Type 0
-IsSet (shown.Glue own stretch order shrink) b rest set = (b ≡ []) × (set_at own rest ≡ Ok set)
-IsSet _ b rest set = Unit {0}
-
-drawn_by : (b rest body : List ℕ) (set : ℤ) (node : Node) (r : Result Shape ListKind) → Draws b rest node r →
-    IsSet node b rest set → IsDrawn (node_item node body) set (or_other r)
-drawn_by b rest body set (shown.Box height depth) r d is = (d.0, ap or_other d.1)
-drawn_by b rest body set (shown.Rule height depth) r d is = ap or_other d
-drawn_by b rest body set (shown.Glue own stretch order shrink) r d is =
-    ap or_other (d is.0 ∙ glue_set rest own stretch order shrink set is.1)
-drawn_by b rest body set (shown.Kern width) r d is = ap or_other d
-drawn_by b rest body set (shown.Penalty value) r d is = ap or_other d
-drawn_by b rest body set (shown.Insert class size) r d is = tt
-drawn_by b rest body set shown.Carry r d is = ap or_other d
-
--- the line of glue has no comma
-abbrev pub IsPlain : Node → List ℕ → Type 0
-IsPlain (shown.Glue own stretch order shrink) first = lacks 44 first ≡ true
-IsPlain _ first = Unit {0}
 
 -- the width that glue has of its own
 abbrev pub own_of : Node → ℤ
 own_of (shown.Glue own stretch order shrink) = own
 own_of _ = pos 0
 
-none_behind : (t b : List ℕ) → lacks 44 t ≡ true → t ≡ first_part (parts_of 44 t) ++ b → b ≡ []
-none_behind t b h e = sym (append_cancel_left t [] b (append-nil t ∙ e
-    ∙ ap (λ (ps : List (List ℕ)). first_part ps ++ b) (part_last 44 t h)))
-
-plain_set : (node : Node) (first b : List ℕ) → IsPlain node first → first ≡ first_part (parts_of 44 first) ++ b →
-    IsSet node b (second_part (parts_of 44 first)) (own_of node)
-plain_set (shown.Box height depth) first b is e = tt
-plain_set (shown.Rule height depth) first b is e = tt
-plain_set (shown.Glue own stretch order shrink) first b is e = (
-  none_behind first b is e,
-  ap (λ (ps : List (List ℕ)). set_at own (second_part ps)) (part_last 44 first is) ∙ own_width own,
-)
-plain_set (shown.Kern width) first b is e = tt
-plain_set (shown.Penalty value) first b is e = tt
-plain_set (shown.Insert class size) first b is e = tt
-plain_set shown.Carry first b is e = tt
+drawn_by : (body : List ℕ) (node : Node) (r : Result Shape ListKind) → Draws as_it_is node r →
+    IsDrawn (node_item node body) (own_of node) (or_other r)
+drawn_by body (shown.Box height depth) r d = (d.0, ap or_other d.1)
+drawn_by body (shown.Rule height depth) r d = ap or_other d
+drawn_by body (shown.Glue own stretch order shrink) r d = ap or_other d
+drawn_by body (shown.Kern width) r d = ap or_other d
+drawn_by body (shown.Penalty value) r d = ap or_other d
+drawn_by body (shown.Insert class size) r d = tt
+drawn_by body shown.Carry r d = ap or_other d
 
 -- the first line of an item as it stands
-pub plain_drawn : (first body : List ℕ) (node : Node) → node_at first ≡ Ok node → IsPlain node first →
+pub plain_drawn : (first body : List ℕ) (node : Node) → node_at first ≡ Ok node →
     IsDrawn (node_item node body) (own_of node) (shape_of (46 ∷ first))
-plain_drawn first body node e is =
-    let cut = cut_at_comma first in
-    let part = first_part (parts_of 44 first) in
-    let rest = second_part (parts_of 44 first) in
-    let d : Draws cut.behind rest node (sized_at rest part) =
-    subst (λ (r : Result Node ListKind). Yields cut.behind rest r (sized_at rest part))
-    (ap node_at (sym cut.whole) ∙ e) (node_yields cut.behind rest part cut.is) in
+plain_drawn first body node e =
+    let y = subst (λ (r : Result Node ListKind). Yields as_it_is r (sized_at (first ++ []))) e
+    (node_yields [] as_it_is plain_tail first) in
+    let d = subst (λ (t : List ℕ). Draws as_it_is node (sized_at t)) (append-nil first) y in
     subst (λ (shape : Shape). IsDrawn (node_item node body) (own_of node) shape) (sym (shape_is first))
-    (drawn_by cut.behind rest body (own_of node) node (sized_at rest part) d
-    (plain_set node first cut.behind is cut.whole))
-
-set_parts : (first : List ℕ) (set : ℤ) → lacks 44 first ≡ true →
-    parts_of 44 (first ++ (codes ", set " ++ scaled_text set)) ≡ first ∷ (codes " set " ++ scaled_text set) ∷ []
-set_parts first set lack = part_here 44 first (codes " set " ++ scaled_text set) lack
-    ∙ ap (λ (ps : List (List ℕ)). first ∷ ps) (part_last 44 (codes " set " ++ scaled_text set)
-    (lacks_append 44 (codes " set ") (scaled_text set) refl (scaled_lacks set)))
+    (drawn_by body node (sized_at first) d)
 
 -- the first line of glue that goes on with a set width
-pub set_drawn : (first body : List ℕ) (own stretch : ℤ) (order : Order) (shrink set : ℤ) →
-    node_at first ≡ Ok (shown.Glue own stretch order shrink) → lacks 44 first ≡ true → IsScaled set →
+pub set_drawn : (first : List ℕ) (own stretch : ℤ) (order : Order) (shrink set : ℤ) →
+    node_at first ≡ Ok (shown.Glue own stretch order shrink) → IsWidth set →
     shape_of (46 ∷ (first ++ (codes ", set " ++ scaled_text set))) ≡ Glue own stretch order shrink set
-set_drawn first body own stretch order shrink set e lack small =
-    let rest = codes " set " ++ scaled_text set in
-    let node = shown.Glue own stretch order shrink in
-    let d : Draws [] rest node (sized_at rest first) =
-    subst (λ (r : Result Node ListKind). Yields [] rest r (sized_at rest first))
-    (ap node_at (append-nil first) ∙ e) (node_yields [] rest first tt) in
-    shape_is (first ++ (codes ", set " ++ scaled_text set))
-    ∙ ap (λ (ps : List (List ℕ)). or_other (sized_at (second_part ps) (first_part ps))) (set_parts first set lack)
-    ∙ ap or_other (d refl ∙ glue_set rest own stretch order shrink set (set_reads own set small))
+set_drawn first own stretch order shrink set e small =
+    let t = first ++ set_text_of set in
+    let y = subst (λ (r : Result Node ListKind). Yields (λ (own : ℤ). set) r (sized_at t)) e
+    (node_yields (set_text_of set) (λ (own : ℤ). set) (set_tail set small) first) in
+    shape_is t ∙ ap or_other y
 
 -- ---- the glue above the first box
 
-top_says : (r : Result (ℤ × List ℕ) ListKind) (t : List ℕ) (g : ℤ) → r ≡ Ok (g, drop (length t) t) →
-    (r >>= (λ (width : ℤ × List ℕ). stretch_at width.1 >>= (λ (stretch : (ℤ × Order) × List ℕ).
+only_size : (z : ℤ) → IsScaled z → size_at (scaled_text z) ≡ Ok (z, drop (length (scaled_text z)) (scaled_text z))
+unfolding size_at
+only_size z small =
+    let read = ap scaled_value (sym (append-nil (scaled_text z))) ∙ text_reads z [] small refl in
+    rw read refl
+
+abbrev glue_from : Result (ℤ × List ℕ) ListKind → Result Node ListKind
+glue_from r = r >>= (λ (width : ℤ × List ℕ). stretch_at width.1 >>= (λ (stretch : (ℤ × Order) × List ℕ).
     shrink_at stretch.1 >>= (λ (shrink : ℤ × List ℕ).
     if bytes_eq shrink.1 [] || false then Ok (shown.Glue width.0 stretch.0.0 stretch.0.1 shrink.0)
-    else Err BadLine)))) ≡ Ok (shown.Glue g (pos 0) Finite (pos 0))
+    else Err BadLine)))
+
+top_says : (r : Result (ℤ × List ℕ) ListKind) (t : List ℕ) (g : ℤ) → r ≡ Ok (g, drop (length t) t) →
+    glue_from r ≡ Ok (shown.Glue g (pos 0) Finite (pos 0))
 unfolding stretch_at shrink_at after
 top_says r t g e = rw (e, drop-length t) refl
 
-glue_text_says : (z : ℤ) → IsScaled z → glue_text_at false (scaled_text z) ≡ Ok (shown.Glue z (pos 0) Finite (pos 0))
+text_is_from : (t : List ℕ) → glue_text_at false t ≡ glue_from (size_at t)
 unfolding glue_text_at
-glue_text_says z small = top_says (size_at (scaled_text z)) (scaled_text z) z (only_size z small)
+text_is_from t = refl
 
-top_glue_at : (t : List ℕ) → glue_at (codes "(\\topskip) " ++ t) ≡ glue_text_at false t
-unfolding glue_at after due past_name
-top_glue_at t = refl
+bare_behind : (t : List ℕ) → bare_at (32 ∷ t) ≡ bare (length_word t)
+unfolding bare_at after
+bare_behind t = refl
 
-top_sized : (t : List ℕ) → sized_at [] (codes "\\glue(\\topskip) " ++ t)
-    ≡ (glue_at (codes "(\\topskip) " ++ t) >>= as_shape [])
-unfolding sized_at named after
+-- glue of one number alone is what a galley reads, or else that number
+alone_is : (t : List ℕ) → lacks 44 t ≡ true →
+    named_glue_at (32 ∷ t) ≡ or_else (glue_from (size_at t) >>= as_shape []) (bare (length_word t))
+unfolding named_glue_at
+alone_is t lack =
+    ap (λ (ps : List (List ℕ)). or_else (glue_at (first_part ps) >>= as_shape (second_part ps)) (bare_at (32 ∷ t)))
+    (part_last 44 (32 ∷ t) lack)
+    ∙ ap (λ (r : Result Node ListKind). or_else (r >>= as_shape []) (bare_at (32 ∷ t)))
+    (blank_read t ∙ text_is_from t)
+    ∙ ap (or_else (glue_from (size_at t) >>= as_shape [])) (bare_behind t)
+
+alone_by : (z : ℤ) → nat_abs z ≤ 2 ^ 60 → (nat_abs z < 2 ^ 30) ⊎ (2 ^ 30 ≤ nat_abs z) →
+    named_glue_at (32 ∷ scaled_text z) ≡ Ok (Glue z (pos 0) Finite (pos 0) z)
+alone_by z small (inl less) =
+    alone_is (scaled_text z) (scaled_lacks z)
+    ∙ ap (λ (r : Result Node ListKind). or_else (r >>= as_shape []) (bare (length_word (scaled_text z))))
+    (top_says (size_at (scaled_text z)) (scaled_text z) z (only_size z less))
+    ∙ ap (λ (r : Result ℤ ListKind). or_else (r >>= (λ (set : ℤ). Ok (Glue z (pos 0) Finite (pos 0) set)))
+    (bare (length_word (scaled_text z)))) (own_width z)
+alone_by z small (inr large) =
+    alone_is (scaled_text z) (scaled_lacks z)
+    ∙ ap (λ (r : Result (ℤ × List ℕ) ListKind). or_else (glue_from r >>= as_shape [])
+    (bare (length_word (scaled_text z)))) (large_refused z (omega (arith, small)) large)
+    ∙ ap bare (length_reads z small)
+
+top_sized : (t : List ℕ) → sized_at (codes "\\glue(\\topskip) " ++ t) ≡ named_glue_at (32 ∷ t)
+unfolding sized_at named after behind_name past past_name
 top_sized t = refl
 
-pub top_drawn : (z : ℤ) → IsScaled z →
+pub top_drawn : (z : ℤ) → nat_abs z ≤ 2 ^ 60 →
     shape_of (codes ".\\glue(\\topskip) " ++ scaled_text z) ≡ Glue z (pos 0) Finite (pos 0) z
 top_drawn z small =
-    let t = codes "\\glue(\\topskip) " ++ scaled_text z in
-    shape_is t
-    ∙ ap (λ (ps : List (List ℕ)). or_other (sized_at (second_part ps) (first_part ps))) (part_last 44 t
-    (lacks_append 44 (codes "\\glue(\\topskip) ") (scaled_text z) refl (scaled_lacks z)))
-    ∙ ap or_other (top_sized (scaled_text z)
-    ∙ ap (λ (r : Result Node ListKind). r >>= as_shape []) (top_glue_at (scaled_text z) ∙ glue_text_says z small)
-    ∙ glue_set [] z (pos 0) Finite (pos 0) z (own_width z))
+    shape_is (codes "\\glue(\\topskip) " ++ scaled_text z)
+    ∙ ap or_other (top_sized (scaled_text z) ∙ alone_by z small (cases_lt (nat_abs z) (2 ^ 30)))

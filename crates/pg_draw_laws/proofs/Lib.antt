@@ -1,5 +1,8 @@
 pub mod Commas
+pub mod GlueTexts
 pub mod Nodes
+pub mod TextRanges
+pub mod WidthWords
 pub mod ItemShapes
 pub mod Lines
 pub mod PointedLines
@@ -13,4 +16,3 @@ pub mod Columns
 pub mod Pages
 pub mod Whole
 pub mod WorkedLines
-pub mod Mild

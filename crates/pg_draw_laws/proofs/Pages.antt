@@ -18,6 +18,7 @@ use Rattle.pg_rules.specs.Room.{Document}
 use Rattle.pg_pages.specs.PageText.{area, column_body, column_line as printed_column, columns_text, floats_text, page_head as printed_head, page_line as printed_page}
 use Rattle.pg_scan.specs.Parts.{after}
 use Rattle.pg_style.specs.Values.{StyleValue}
+use Rattle.pg_showbox.specs.Shown.{IsShown, IsShownBlock}
 use Rattle.pg_words.specs.InOrder.{words_of}
 use Rattle.pg_words.specs.Written.{line}
 use Rattle.pg_word_laws.proofs.Cut.{joined, joined_lacks, joined_parts}
@@ -35,9 +36,8 @@ use Rattle.pg_drawing.specs.declared.pieces.Kind.TheVariants as at
 use Rattle.pg_draw_laws.proofs.Areas.{wide_areas}
 use Rattle.pg_draw_laws.proofs.Columns.{IsColumnLines, column_lines}
 use Rattle.pg_draw_laws.proofs.Cuts.{IsPiece, NoHead, cut_back, joined_back, lines_of}
-use Rattle.pg_draw_laws.proofs.ItemLines.{Reads}
 use Rattle.pg_draw_laws.proofs.Lines.{IsLines, lines_as, lines_both, lines_line, lines_none}
-use Rattle.pg_draw_laws.specs.Marks.{AreReadable}
+use Rattle.pg_draw_laws.proofs.TextRanges.{HasSizes, IsTextInRange}
 use Rattle.pg_draw_laws.specs.Laws.{AreColumnsDrawn, drawn_columns, heads_from}
 
 -- a page: its line, the lines in front of its first column, and its columns from the last to the first
@@ -307,10 +307,11 @@ none_one : (n : ℕ) → (1 == 1) ≡ false → IsSome []
 none_one n e = absurd cc
 
 pub pages_are : (doc : Document) → pos 0 ≤ℤ doc.style.maxdepth →
-    (AreReadable doc.blocks → (m : PageMove) (ms : List PageMove) (n : ℕ) →
-    AllByRecursion Reads (segment (context doc m ms) n)) →
+    (AllByRecursion IsShownBlock doc.blocks → (m : PageMove) (ms : List PageMove) (n : ℕ) →
+    AllByRecursion IsShown (segment (context doc m ms) n)) →
+    ((m : PageMove) (ms : List PageMove) (n : ℕ) → HasSizes (context doc m ms) n → IsTextInRange (context doc m ms) n) →
     (ms : List PageMove) → ArePrintedMoves doc ms → ArePages doc ms (columns_text doc ms) (pages_from doc.style ms)
-pages_are doc low reads [] h = record {
+pages_are doc low reads range [] h = record {
   pages = [];
   are = lines_none;
   each = tt;
@@ -319,10 +320,10 @@ pages_are doc low reads [] h = record {
   drawn = refl;
   some = none_one 0;
 }
-pages_are doc low reads (m ∷ ms) h =
+pages_are doc low reads range (m ∷ ms) h =
     more doc m ms (column_lines (context doc m ms) (next_column doc.style ms) h.0.column h.0.body low
-    (λ readable. reads readable m ms))
-    (columns_text doc ms) (pages_from doc.style ms) h.0.run (number_is doc.style ms) (pages_are doc low reads ms h.1)
+    (λ shown. reads shown m ms) (range m ms))
+    (columns_text doc ms) (pages_from doc.style ms) h.0.run (number_is doc.style ms) (pages_are doc low reads range ms h.1)
     (next_column doc.style ms == 1) refl
 
 -- ---- what is drawn of pages

@@ -1,8 +1,8 @@
 -- The text area of a column: its marks are those of the items, and add up to the total.
-use Rattle.std.proofs.Common.{◌≡◌, ◌∙◌, refl, sym, ap, subst, true, ℕ, List, [], ◌∷◌, ◌++◌, length, map, append-nil, arith}
+use Rattle.std.proofs.Common.{◌≡◌, ◌∙◌, refl, sym, ap, subst, ◌≤◌, ◌^◌, true, ℕ, List, [], ◌∷◌, ◌++◌, length, map, append-nil, arith}
 use Rattle.std.proofs.lemmas.List.Elements.{filter-append}
 use Rattle.std.specs.List.{AllByRecursion, filter, flat_map}
-use Rattle.std.specs.Prelude.{codes, ℤ, pos, ◌≤ℤ◌}
+use Rattle.std.specs.Prelude.{codes, ℤ, pos, ◌≤ℤ◌, nat_abs}
 use Rattle.pg_scan.specs.Parts.{after}
 use Rattle.pg_lemmas.proofs.Lists.{all_drop, all_take}
 use Rattle.pg_list.specs.declared.item.Item.{Item}
@@ -10,8 +10,8 @@ use Rattle.pg_flat.specs.Totals.{top_glue, total}
 use Rattle.pg_pages.specs.Bodies.{plain_text}
 use Rattle.pg_pages.specs.PageText.{items_text, set_items, top_line}
 use Rattle.pg_pages.specs.Printed.{box_on, front_of}
-use Rattle.pg_scaled.specs.Ranges.{IsScaled}
 use Rattle.pg_scaled.specs.Scaled.{scaled_text}
+use Rattle.pg_showbox.specs.Shown.{IsShown}
 use Rattle.pg_word_laws.proofs.Blanks.{any_scaled_lacks}
 use Rattle.pg_word_laws.proofs.Cut.{lacks_append}
 use Rattle.pg_drawing.proofs.Filled.{its_items}
@@ -23,9 +23,10 @@ use Rattle.pg_drawing.specs.declared.model.Mark.{Mark}
 use Rattle.pg_drawing.specs.declared.model.Shape.{Shape}
 use Rattle.pg_drawing.specs.declared.pieces.Kind.TheVariants as at
 use Rattle.pg_draw_laws.proofs.Heights.{text_adds_up}
-use Rattle.pg_draw_laws.proofs.ItemLines.{Reads, Shows, plain_shown, set_shown, shows_both}
+use Rattle.pg_draw_laws.proofs.ItemLines.{Shows, plain_shown, set_shown, shows_both}
 use Rattle.pg_draw_laws.proofs.ItemShapes.{top_drawn}
 use Rattle.pg_draw_laws.proofs.Lines.{lines_line}
+use Rattle.pg_draw_laws.proofs.TextRanges.{IsWidth}
 use Rattle.pg_draw_laws.specs.Marks.{IsTextDrawn, top_shape}
 
 -- ---- the lines of the items
@@ -34,7 +35,7 @@ first_begins : (t : List ℕ) → begins at.Item (codes ".\\glue(\\topskip) " ++
 unfolding after
 first_begins t = refl
 
-top_shows : (topskip : ℤ) (items : List Item) → IsScaled (top_glue topskip items) →
+top_shows : (topskip : ℤ) (items : List Item) → nat_abs (top_glue topskip items) ≤ 2 ^ 60 →
     Shows (top_line topskip items) (top_shape topskip items ∷ [])
 top_shows topskip items small =
     let t = codes ".\\glue(\\topskip) " ++ scaled_text (top_glue topskip items) in
@@ -57,13 +58,13 @@ shapes_grouped : (a b : List Shape) (s : Shape) → (a ++ s ∷ []) ++ b ≡ a +
 shapes_grouped [] b s = refl
 shapes_grouped (x ∷ a) b s = ap (λ (ss : List Shape). x ∷ ss) (shapes_grouped a b s)
 
-pub items_shown : (topskip : ℤ) (items : List Item) (widths : List ℤ) → AllByRecursion Reads items →
-    IsScaled (top_glue topskip items) → AllByRecursion IsScaled widths →
+pub items_shown : (topskip : ℤ) (items : List Item) (widths : List ℤ) → AllByRecursion IsShown items →
+    nat_abs (top_glue topskip items) ≤ 2 ^ 60 → AllByRecursion IsWidth widths →
     ShowsText topskip items widths (items_text topskip items widths)
 items_shown topskip items widths reads small each =
     let n = length (front_of items) in
-    let up = plain_shown (front_of items) (all_take Reads _ items reads) in
-    let down = set_shown (box_on items) widths (all_drop Reads n items reads) each in
+    let up = plain_shown (front_of items) (all_take IsShown _ items reads) in
+    let down = set_shown (box_on items) widths (all_drop IsShown n items reads) each in
     let top = top_shows topskip items small in
     let front = shows_both (flat_map plain_text (front_of items)) (top_line topskip items) up.shapes
     (top_shape topskip items ∷ []) up.shows top in

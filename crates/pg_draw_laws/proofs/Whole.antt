@@ -8,9 +8,10 @@ use Rattle.pg_beginning_laws.proofs.Faults.{sound_of}
 use Rattle.pg_beginning_laws.proofs.PagesLaws.{plan_back}
 use Rattle.pg_beginning_laws.specs.Pages.{pages_from}
 use Rattle.pg_list.specs.GalleyValue.{GalleyValue}
+use Rattle.pg_list.specs.Ranges.{IsItemInRange}
 use Rattle.pg_list.specs.declared.blocks.Block.{Block}
 use Rattle.pg_list.specs.declared.blocks.Block.TheVariants.{One, Choice}
-use Rattle.pg_list.specs.declared.variants.Variant.{Variant}
+use Rattle.pg_list.specs.declared.item.Item.{Item}
 use Rattle.pg_plan.specs.Order.{columns}
 use Rattle.pg_plan.specs.declared.pages.Page.{Page}
 use Rattle.pg_plan.specs.declared.pages.PageMove.{PageMove}
@@ -21,7 +22,7 @@ use Rattle.pg_rules.specs.History.{context, placed_of}
 use Rattle.pg_rules.specs.Legal.{breach, document, ends_spent, has_dealt_all, misfilled, unless}
 use Rattle.pg_rules.specs.Ranges.{AreInRange}
 use Rattle.pg_rules.specs.Room.{Document, items_of}
-use Rattle.pg_output_laws.proofs.Items.{AllIn, at_all, trimmed_all}
+use Rattle.pg_output_laws.proofs.Items.{AllIn, at_all, blocks_items, trimmed_all}
 use Rattle.pg_output_laws.proofs.Moves.{moves_printed}
 use Rattle.pg_output_laws.proofs.PageLines.{head_line_is, head_rest, head_words_lack}
 use Rattle.pg_pages.specs.PageText.{columns_text, head_line as printed_head, page_text}
@@ -40,11 +41,10 @@ use Rattle.pg_drawing.specs.declared.pieces.Kind.TheVariants as at
 use Rattle.pg_draw_laws.proofs.Areas.{whole_lines}
 use Rattle.pg_draw_laws.proofs.Cuts.{IsPiece, cut_back}
 use Rattle.pg_draw_laws.proofs.Ends.{drawn_ended}
-use Rattle.pg_draw_laws.proofs.ItemLines.{Reads}
 use Rattle.pg_draw_laws.proofs.Lines.{IsLines, lines_as, lines_both, lines_line}
 use Rattle.pg_draw_laws.proofs.Pages.{ArePages, IsPage, PageLines, all_drawn, counts_drawn, drawn_counts, heads_drawn, heads_in_order, page_counts, page_drawn, page_is, page_piece, pages_are, pages_joined}
+use Rattle.pg_draw_laws.proofs.TextRanges.{text_in_range}
 use Rattle.pg_draw_laws.specs.Laws.{AreColumnsDrawn, IsPlanDrawn, LegalAreDrawn, drawn_columns, heads_from}
-use Rattle.pg_draw_laws.specs.Marks.{HasNoComma, HasNoCommas}
 
 -- ---- the head
 
@@ -140,28 +140,15 @@ text_is_drawn galley style plan cost small filled s =
 
 -- ---- the items
 
-all_both : {X : Type 0} (P Q : X → Type 0) (xs : List X) → AllByRecursion P xs → AllByRecursion Q xs →
-    AllByRecursion (λ (x : X). P x × Q x) xs
-all_both P Q [] a b = tt
-all_both P Q (x ∷ xs) a b = ((a.0, b.0), all_both P Q xs a.1 b.1)
+blocks_in : (blocks : List Block) → AllByRecursion IsShownBlock blocks → AllByRecursion (AllIn IsShown) blocks
+blocks_in [] a = tt
+blocks_in (One item ∷ blocks) a = (a.0, blocks_in blocks a.1)
+blocks_in (Choice variants ∷ blocks) a = (a.0, blocks_in blocks a.1)
 
-variants_read : (variants : List Variant) →
-    AllByRecursion (λ (variant : Variant). AllByRecursion IsShown variant.items) variants →
-    AllByRecursion (λ (variant : Variant). AllByRecursion HasNoComma variant.items) variants →
-    AllByRecursion (λ (variant : Variant). AllByRecursion Reads variant.items) variants
-variants_read [] a b = tt
-variants_read (v ∷ vs) a b = (all_both IsShown HasNoComma v.items a.0 b.0, variants_read vs a.1 b.1)
-
-blocks_read : (blocks : List Block) → AllByRecursion IsShownBlock blocks → AllByRecursion HasNoCommas blocks →
-    AllByRecursion (AllIn Reads) blocks
-blocks_read [] a b = tt
-blocks_read (One item ∷ blocks) a b = ((a.0, b.0), blocks_read blocks a.1 b.1)
-blocks_read (Choice variants ∷ blocks) a b = (variants_read variants a.0 b.0, blocks_read blocks a.1 b.1)
-
-segments_read : (doc : Document) → AllByRecursion (AllIn Reads) doc.blocks → (m : PageMove) (ms : List PageMove)
-    (n : ℕ) → AllByRecursion Reads (segment (context doc m ms) n)
-segments_read doc each m ms n = trimmed_all Reads (take n (items_of (context doc m ms)))
-    (all_take Reads n (items_of (context doc m ms)) (at_all Reads doc.blocks m.column.from m.column.picks each))
+segments_in : (P : Item → Type 0) (doc : Document) → AllByRecursion (AllIn P) doc.blocks → (m : PageMove)
+    (ms : List PageMove) (n : ℕ) → AllByRecursion P (segment (context doc m ms) n)
+segments_in P doc each m ms n = trimmed_all P (take n (items_of (context doc m ms)))
+    (all_take P n (items_of (context doc m ms)) (at_all P doc.blocks m.column.from m.column.picks each))
 
 -- ---- the law
 
@@ -175,5 +162,8 @@ legal_are_drawn galley style range width plan cost legal =
     (unless (has_dealt_all doc (placed_of doc.style (columns plan))) (length (columns plan))) legal.unbroken in
     text_is_drawn galley style plan cost (omega (arith, width)) s.filled
     (pages_are doc range.style_in.maxdepth_in.0
-    (λ readable. segments_read doc (blocks_read galley.blocks readable.shown readable.plain)) (columns plan)
+    (λ shown. segments_in IsShown doc (blocks_in galley.blocks shown))
+    (λ (m : PageMove) (ms : List PageMove) (n : ℕ) sizes. text_in_range (context doc m ms) n range.limit
+    range.style_in.topskip_in.1
+    (segments_in IsItemInRange doc (blocks_items galley.blocks range.blocks) m ms n) sizes) (columns plan)
     (moves_printed doc range.style_in range.blocks range.limit (columns plan) s.stand))

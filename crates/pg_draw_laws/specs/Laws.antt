@@ -1,7 +1,6 @@
 -- What the drawing of a printed pagination shows, in the words of the contracts.
 use Rattle.std.specs.Prelude.{◌≡◌, ◌+◌, ℕ, Bool, true, false, List, [], ◌∷◌, length, map, reverse, Option, Some, ℤ, pos}
 use Rattle.std.specs.List.{AllByRecursion, filter, flat_map}
-use Rattle.pg_flat.specs.Totals.{top_glue}
 use Rattle.pg_list.specs.GalleyValue.{GalleyValue}
 use Rattle.pg_plan.specs.Order.{columns}
 use Rattle.pg_plan.specs.declared.pages.Page.{Page}
@@ -15,7 +14,7 @@ use Rattle.pg_rules.specs.Legal.{Legal, document}
 use Rattle.pg_rules.specs.Room.{ColumnContext, Document, is_text, size_of}
 use Rattle.pg_pages.specs.PageText.{end_penalty, page_text}
 use Rattle.pg_pages.specs.SetGlue.{glue_widths}
-use Rattle.pg_scaled.specs.Ranges.{IsScaled}
+use Rattle.pg_showbox.specs.Shown.{IsShownBlock}
 use Rattle.pg_word_laws.specs.Ranges.{is_wide}
 use Rattle.pg_drawing.specs.Drawn.{drawing_of}
 use Rattle.pg_drawing.specs.Totals.{adds_up}
@@ -29,7 +28,7 @@ use Rattle.pg_drawing.specs.declared.model.Mark.{Mark}
 use Rattle.pg_drawing.specs.declared.model.Numbers.{Numbers}
 use Rattle.pg_drawing.specs.declared.model.Numbers.TheVariants.{Set, Without}
 use Rattle.pg_drawing.specs.declared.model.PageHead.{PageHead}
-use Rattle.pg_draw_laws.specs.Marks.{AreReadable, IsTextDrawn}
+use Rattle.pg_draw_laws.specs.Marks.{IsTextDrawn}
 
 -- ---- text areas
 
@@ -41,11 +40,6 @@ is_text_name _ = false
 -- an area of text
 abbrev pub is_text_area : DrawnArea → Bool
 is_text_area area = is_text_name area.name
-
--- the glue that puts the first box at its height, and all set widths, are below 16384 points, as widths of a list are
-pub record IsGlueInRange (it : ColumnContext) (n : ℕ) : Type 0 where
-  pub top : IsScaled (top_glue it.document.style.topskip (segment it n))
-  pub widths : AllByRecursion IsScaled (glue_widths it n)
 
 -- the area shows the items of the column's text, and these add up to its total
 pub record IsTextShown (it : ColumnContext) (n : ℕ) (area : DrawnArea) : Type 0 where
@@ -60,15 +54,14 @@ abbrev pub text_numbers : ColumnContext → ℕ → Numbers
 text_numbers it n =
     Set (text_goal it n) (text_total it n) (pos (text_badness it n)) (end_penalty it n) (text_demerits it n)
 
--- a column with text has its numbers and one text area, which shows its text where the blocks can be read and the glue
--- is in range
+-- a column with text has its numbers and one text area, which shows its text where the blocks show their items
 pub record IsTextColumn (it : ColumnContext) (column : DrawnColumn) : Type 0 where
   pub size : ℕ
   pub is_size : size_of it ≡ Some size
   pub numbers : column.numbers ≡ Some (text_numbers it size)
   pub area : DrawnArea
   pub only : filter is_text_area column.areas ≡ area ∷ []
-  pub shown : AreReadable it.document.blocks → IsGlueInRange it size → IsTextShown it size area
+  pub shown : AllByRecursion IsShownBlock it.document.blocks → IsTextShown it size area
 
 -- a column without text has its demerits, and no text area
 pub record IsFloatColumn (it : ColumnContext) (column : DrawnColumn) : Type 0 where

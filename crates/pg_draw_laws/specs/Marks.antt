@@ -1,27 +1,14 @@
 -- The marks of a column's text.
-use Rattle.std.specs.Prelude.{◌≡◌, ℕ, true, List, [], ◌∷◌, ◌++◌, ℤ, pos}
-use Rattle.std.specs.List.{AllByRecursion, take_while}
-use Rattle.pg_list.specs.declared.blocks.Block.{Block}
-use Rattle.pg_list.specs.declared.blocks.Block.TheVariants as block
+use Rattle.std.specs.Prelude.{◌≡◌, List, [], ◌∷◌, ◌++◌, ℤ, pos}
 use Rattle.pg_list.specs.declared.item.Item.{Item}
 use Rattle.pg_list.specs.declared.item.Item.TheVariants as item
 use Rattle.pg_list.specs.declared.item.Order.TheVariants.{Finite}
-use Rattle.pg_list.specs.declared.variants.Variant.{Variant}
 use Rattle.pg_flat.specs.Totals.{top_glue}
 use Rattle.pg_pages.specs.Printed.{box_on, front_of}
-use Rattle.pg_scan.specs.Lines.{is_no_feed}
-use Rattle.pg_scan.specs.Parts.{differs_from}
-use Rattle.pg_showbox.specs.Shown.{IsShownBlock}
 use Rattle.pg_drawing.specs.declared.model.Shape.{Shape}
 use Rattle.pg_drawing.specs.declared.model.Shape.TheVariants.{Box, Rule, Glue, Kern, Penalty, Other}
 
 -- ---- one item
-
--- the first line of glue has no comma, which its name could hold
-abbrev pub HasNoComma : Item → Type 0
-HasNoComma (item.Glue width stretch order shrink body) =
-    AllByRecursion (λ (c : ℕ). differs_from 44 c ≡ true) (take_while is_no_feed body)
-HasNoComma _ = Unit {0}
 
 -- the shape has the sizes of the item, glue with the width that it is set to
 abbrev pub IsDrawn : Item → ℤ → Shape → Type 0
@@ -62,16 +49,3 @@ pub record IsTextDrawn (topskip : ℤ) (items : List Item) (widths : List ℤ) (
   pub above : AreDrawn (front_of items) [] front
   pub below : AreDrawn (box_on items) widths rest
   pub all : shapes ≡ front ++ top_shape topskip items ∷ rest
-
--- ---- galleys
-
--- no glue of the galley shows a comma in its first line
-abbrev pub HasNoCommas : Block → Type 0
-HasNoCommas (block.One item) = HasNoComma item
-HasNoCommas (block.Choice variants) =
-    AllByRecursion (λ (variant : Variant). AllByRecursion HasNoComma variant.items) variants
-
--- the blocks show their items, none of them glue with a comma in its first line
-pub record AreReadable (blocks : List Block) : Type 0 where
-  pub shown : AllByRecursion IsShownBlock blocks
-  pub plain : AllByRecursion HasNoCommas blocks

@@ -1,7 +1,6 @@
 //! Each law is the contract of a function that does nothing but ask for the ranges that the types of a galley and of a
 //! style keep.
 ghost use Rattle.pg_draw_laws.specs.Laws.{LegalAreDrawn};
-ghost use Rattle.pg_draw_laws.specs.Ranges.{MildIsInRange};
 
 use pg_column::blocks_of;
 use pg_list::Galley;
@@ -9,8 +8,7 @@ use pg_style::Style;
 
 /// The drawing of the page text of each legal pagination has its pages, their sides and runs, and its columns in order,
 /// with the places and the numbers of each, and for each column with text one text area. Where the galley shows its
-/// items, none of them glue with a comma in its first line, and the glue of the column is set within the range of a
-/// list's numbers, the marks of this area are those of the text's items, and add up to its total.
+/// items, the marks of this area are those of the text's items, and add up to its total.
 pub fn legal_texts_add_up(galley: &Galley, style: &Style)
     ensures { LegalAreDrawn galley.now style.now }
 {
@@ -18,9 +16,3 @@ pub fn legal_texts_add_up(galley: &Galley, style: &Style)
     let _ = blocks_of(galley);
     style.stays_in_range();
 }
-
-/// The glue of a text is in range where no box has a negative height, no glue a negative stretch or shrink, and each
-/// glue would stay in range if it were set by all that the text misses its goal.
-pub fn mild_glue_is_in_range()
-    ensures { MildIsInRange }
-{}

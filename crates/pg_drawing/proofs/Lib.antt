@@ -4,3 +4,4 @@ pub mod Filled
 pub mod WorkedDrawings
 pub mod Summed
 pub mod Limits
+mod WidthLemmas

@@ -47,10 +47,10 @@ fewer None n less = omega arith
 fewer (Some it) n less = omega (arith, less)
 
 pub room_more : (next : Option Found) (n : ℕ) (top below : ℤ) → IfSome next (λ (it : Found). length it.2.now < n) →
-    nat_abs below ≤ nat_abs top + 2 ^ 32 → nat_abs top + 2 ^ 32 * (1 + n) ≤ 2 ^ 96 →
-    nat_abs below + 2 ^ 32 * lines_on next ≤ 2 ^ 96
+    nat_abs below ≤ nat_abs top + 2 ^ 60 → nat_abs top + 2 ^ 60 * (1 + n) ≤ 2 ^ 126 →
+    nat_abs below + 2 ^ 60 * lines_on next ≤ 2 ^ 126
 room_more next n top below less size room =
     let few = fewer next n less in by (nat_abs below) (nat_abs top) (lines_on next) few size room
   where
-    by : (b t l : ℕ) → l ≤ n → b ≤ t + 2 ^ 32 → t + 2 ^ 32 * (1 + n) ≤ 2 ^ 96 → b + 2 ^ 32 * l ≤ 2 ^ 96
+    by : (b t l : ℕ) → l ≤ n → b ≤ t + 2 ^ 60 → t + 2 ^ 60 * (1 + n) ≤ 2 ^ 126 → b + 2 ^ 60 * l ≤ 2 ^ 126
     by b t l few size room = omega (arith, few, size, room)

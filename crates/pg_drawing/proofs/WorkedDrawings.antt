@@ -1,5 +1,5 @@
 -- Drawings that are computed.
-use Rattle.std.proofs.Common.{◌≡◌, refl, true, false, pos, [], ◌∷◌, map}
+use Rattle.std.proofs.Common.{◌≡◌, ◌^◌, refl, true, false, pos, [], ◌∷◌, map}
 use Rattle.std.specs.Prelude.{codes}
 use Rattle.pg_list.specs.declared.item.Order.TheVariants.{Finite, Fil}
 use Rattle.pg_scan.specs.Parts.{after, named, parts_of, past, word_number}
@@ -8,8 +8,9 @@ use Rattle.pg_showbox.specs.Parts.{digits_at, due, order_at, size_at, whole_at}
 use Rattle.pg_drawing.specs.Drawn.{area_name, area_of}
 use Rattle.pg_drawing.specs.Letters.{letter, letters, letters_at, letters_of, ligature}
 use Rattle.pg_drawing.specs.Pieces.{Lines}
-use Rattle.pg_drawing.specs.Shapes.{box_at, later_at, natural_at, past_natural, rule_at, set_at, shape_at, shape_of, sized_at}
+use Rattle.pg_drawing.specs.Shapes.{behind_name, box_at, extent, later_at, named_glue_at, natural_at, past_natural, rule_at, set_at, shape_of, sized_at}
 use Rattle.pg_drawing.specs.Totals.{adds_up}
+use Rattle.pg_drawing.specs.Widths.{printed_behind, printed_size, width_word}
 use Rattle.pg_drawing.specs.declared.model.AreaName.TheVariants.{Text}
 use Rattle.pg_drawing.specs.declared.model.Mark.{Mark}
 use Rattle.pg_drawing.specs.declared.model.Shape.TheVariants.{Box, Glue, Insert, Other, Rule}
@@ -17,30 +18,34 @@ use Rattle.pg_drawing.specs.declared.model.Shape.TheVariants.{Box, Glue, Insert,
 -- ---- item lines
 
 box_is : shape_of (codes ".\\hbox(7.0+2.0)x345.0, glue set 0.2") ≡ Box (pos 458752) (pos 131072) (pos 22609920)
-unfolding shape_of shape_at sized_at box_at after named parts_of due size_at
+unfolding shape_of sized_at box_at after named parts_of due size_at
 box_is = refl
 
 rule_is : shape_of (codes ".\\rule(0.5+0.0)x*") ≡ Rule (pos 32768) (pos 0)
-unfolding shape_of shape_at sized_at rule_at after named parts_of due size_at
+unfolding shape_of sized_at rule_at after named parts_of due size_at
 rule_is = refl
 
 glue_is : shape_of (codes ".\\glue(\\parskip) 1.0 plus 2.0fil, set 1.5")
     ≡ Glue (pos 65536) (pos 131072) Fil (pos 0) (pos 98304)
-unfolding shape_of shape_at sized_at glue_at glue_text_at past_name stretch_at shrink_at amount_at order_at
-    set_at after named parts_of due size_at
+unfolding shape_of sized_at named_glue_at behind_name glue_at glue_text_at past_name stretch_at shrink_at amount_at order_at
+    set_at width_word printed_size printed_behind after past named parts_of due size_at
 glue_is = refl
 
+-- more than any drawing shows is drawn as 2^44 points
+far_is : extent (Glue (pos 0) (pos 65536) Fil (pos 0) (pos (2 ^ 70))) ≡ pos (2 ^ 60)
+far_is = refl
+
 topskip_is : shape_of (codes ".\\glue(\\topskip) 3.0") ≡ Glue (pos 196608) (pos 0) Finite (pos 0) (pos 196608)
-unfolding shape_of shape_at sized_at glue_at glue_text_at past_name stretch_at shrink_at set_at after named
-    parts_of due size_at
+unfolding shape_of sized_at named_glue_at behind_name glue_at glue_text_at past_name stretch_at shrink_at set_at after past
+    named parts_of due size_at
 topskip_is = refl
 
 insert_is : shape_of (codes ".\\insert254, natural size 9.0; split(10.0,2.0)") ≡ Insert 254 (pos 589824)
-unfolding shape_of shape_at sized_at later_at natural_at past_natural word_number after named parts_of due size_at
+unfolding shape_of sized_at later_at natural_at past_natural word_number after named parts_of due size_at
 insert_is = refl
 
 mark_is : shape_of (codes ".\\mark{one}") ≡ Other
-unfolding shape_of shape_at sized_at later_at after named parts_of
+unfolding shape_of sized_at later_at after named parts_of
 mark_is = refl
 
 -- ---- letters
@@ -62,12 +67,12 @@ two_lines = record {
 
 tops_are : map (λ (mark : Mark). mark.top) (area_of two_lines).marks
     ≡ pos 0 ∷ pos 196608 ∷ pos 786432 ∷ pos 786432 ∷ pos 851968 ∷ []
-unfolding shape_of shape_at sized_at later_at box_at glue_at glue_text_at past_name stretch_at shrink_at set_at
+unfolding shape_of sized_at later_at box_at named_glue_at behind_name glue_at glue_text_at past_name stretch_at shrink_at set_at
     kern_at penalty_at past whole_at digits_at after named parts_of due size_at
 tops_are = refl
 
 height_is : (area_of two_lines).height ≡ pos 1441792
-unfolding shape_of shape_at sized_at later_at box_at glue_at glue_text_at past_name stretch_at shrink_at set_at
+unfolding shape_of sized_at later_at box_at named_glue_at behind_name glue_at glue_text_at past_name stretch_at shrink_at set_at
     kern_at penalty_at past whole_at digits_at after named parts_of due size_at
 height_is = refl
 
@@ -79,6 +84,6 @@ name_is = refl
 
 totals_are : map (adds_up (area_of two_lines).marks) (pos 1310719 ∷ pos 1310720 ∷ pos 1441792 ∷ pos 1441793 ∷ [])
     ≡ false ∷ true ∷ true ∷ false ∷ []
-unfolding shape_of shape_at sized_at later_at box_at glue_at glue_text_at past_name stretch_at shrink_at set_at
+unfolding shape_of sized_at later_at box_at named_glue_at behind_name glue_at glue_text_at past_name stretch_at shrink_at set_at
     kern_at penalty_at past whole_at digits_at after named parts_of due size_at
 totals_are = refl

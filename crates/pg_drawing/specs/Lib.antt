@@ -1,4 +1,5 @@
 pub mod Pieces
+pub mod Widths
 pub mod Shapes
 pub mod Letters
 pub mod Drawn

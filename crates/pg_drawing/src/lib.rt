@@ -16,6 +16,7 @@ mod read;
 mod series;
 mod shapes;
 mod totals;
+mod widths;
 
 pub use laws::{marks_are_items, marks_fill_areas, totals_add_up};
 pub use model::{

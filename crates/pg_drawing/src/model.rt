@@ -16,11 +16,11 @@ pub enum Shape {
         depth: i32,
     },
     Glue {
-        own: i32,
+        own: i64,
         stretch: i32,
         order: Order,
         shrink: i32,
-        set: i32,
+        set: i128,
     },
     Kern {
         width: i32,

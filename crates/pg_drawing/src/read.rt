@@ -24,11 +24,11 @@ struct Placing {
 impl Placing {
     // One item more.
     fn add(&mut self, alloc: Global, head: &[u8], rest: &[&[u8]]) -> Result<(), AllocError>
-        requires { nat_abs self.old.top < 2 ^ 120 }
+        requires { nat_abs self.old.top ≤ 2 ^ 126 }
         ensures marks { OnOk result (self.new.marks
             ≡ self.old.marks ++ mark_at self.old.top (told head.now rest.now) ∷ []) }
         ensures top { OnOk result (self.new.top ≡ self.old.top +ℤ item_extent (told head.now rest.now)) }
-        ensures size { OnOk result (nat_abs self.new.top ≤ nat_abs self.old.top + 2 ^ 32) }
+        ensures size { OnOk result (nat_abs self.new.top ≤ nat_abs self.old.top + 2 ^ 60) }
     {
         let shape = shape(head);
         let words = first_letters(alloc, shape, rest)?;

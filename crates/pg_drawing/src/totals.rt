@@ -1,5 +1,5 @@
 //! Whether item lines add up to the total that is printed for them.
-ghost use Rattle.std.specs.Prelude.{◌≡◌, ◌≤◌, ◌<◌, ◌^◌, ◌+◌, ◌+ℤ◌, nat_abs, pos};
+ghost use Rattle.std.specs.Prelude.{◌≡◌, ◌≤◌, ◌^◌, ◌+◌, ◌+ℤ◌, nat_abs, pos};
 ghost use Rattle.pg_drawing.specs.Totals.{adds_up as adds_up_so, hanging, hanging_behind as hanging_so, is_total as is_total_so, natural_extent as natural_so, with_items};
 
 use crate::model::{Mark, Shape};
@@ -8,10 +8,10 @@ use crate::shapes::{extent, lower};
 // How much an item takes before glue is set.
 fn natural_extent(shape: Shape) -> i64
     ensures value { result ≡ natural_so shape }
-    ensures size { nat_abs result ≤ 2 ^ 32 }
+    ensures size { nat_abs result ≤ 2 ^ 63 }
 {
     match shape {
-        Shape::Glue { own, .. } => i64::from(own),
+        Shape::Glue { own, .. } => own,
         _ => extent(shape),
     }
 }
@@ -41,9 +41,9 @@ struct Sum {
 impl Sum {
     // One item more.
     fn add(&mut self, shape: Shape)
-        requires { nat_abs self.old.height < 2 ^ 120 }
+        requires { nat_abs self.old.height ≤ 2 ^ 126 }
         ensures height { self.new.height ≡ self.old.height +ℤ natural_so shape }
-        ensures size { nat_abs self.new.height ≤ nat_abs self.old.height + 2 ^ 32 }
+        ensures size { nat_abs self.new.height ≤ nat_abs self.old.height + 2 ^ 63 }
         ensures depth { self.new.depth ≡ hanging_so self.old.depth shape }
     {
         self.height = lower(&self.height, &natural_extent(shape));
@@ -55,7 +55,7 @@ impl Sum {
 fn sum_of(marks: &[Mark]) -> Sum
     ensures height { result.height ≡ with_items (pos 0) marks.now }
     ensures depth { result.depth ≡ hanging (pos 0) marks.now }
-    ensures size { nat_abs result.height ≤ 2 ^ 96 }
+    ensures size { nat_abs result.height ≤ 2 ^ 126 }
 {
     let mut sum = Sum {
         height: 0,
@@ -71,7 +71,7 @@ fn sum_of(marks: &[Mark]) -> Sum
 
 // Whether a total is this height less the depth, or less what is allowed of it.
 fn is_total(sum: &Sum, total: &i64) -> bool
-    requires { nat_abs sum.now.height ≤ 2 ^ 96 }
+    requires { nat_abs sum.now.height ≤ 2 ^ 126 }
     ensures { result ≡ is_total_so sum.now.height sum.now.depth total.now }
 {
     let least = sum.height - i128::from(sum.depth);

@@ -22,5 +22,5 @@ items-preserved c =
           c.next_piece-next-in-Some.ensures.piece
           (ap (λ n. old.top +ℤ whole_sum_by item_extent (items_on n)) (sym c.in-Some.is) ∙ c.items.invariant.top);
       room = room_more next _ old.top new.top c.next_piece-next-in-Some.ensures.shorter c.in_ok-add.ensures.size
-          (subst (λ n. nat_abs old.top + 2 ^ 32 * lines_on n ≤ 2 ^ 96) c.in-Some.is c.items.invariant.room);
+          (subst (λ n. nat_abs old.top + 2 ^ 60 * lines_on n ≤ 2 ^ 126) c.in-Some.is c.items.invariant.room);
     }

@@ -13,7 +13,7 @@ invariant-items l = record {
       ∷ cut (begins at.Item) (texts it.2.now)) l.next []) ≡ marks_from (pos 0) (items_of (texts l.lines));
   top : l.placing.top +ℤ whole_sum_by item_extent (option_map_or (λ it. told it.0.now it.1.now
       ∷ cut (begins at.Item) (texts it.2.now)) l.next []) ≡ whole_sum_by item_extent (items_of (texts l.lines));
-  room : nat_abs l.placing.top + 2 ^ 32 * option_map_or (λ it. 1 + length it.2.now) l.next 0 ≤ 2 ^ 96;
+  room : nat_abs l.placing.top + 2 ^ 60 * option_map_or (λ it. 1 + length it.2.now) l.next 0 ≤ 2 ^ 126;
 }
 
 abbrev pub decreases-items : goal.decreases-items

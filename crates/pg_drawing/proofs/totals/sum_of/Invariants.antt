@@ -6,7 +6,7 @@ abbrev pub invariant-marks : goal.invariant-marks
 invariant-marks l = record {
   height : with_items l.sum.height l.rest ≡ with_items (pos 0) l.marks;
   depth : hanging l.sum.depth l.rest ≡ hanging (pos 0) l.marks;
-  room : nat_abs l.sum.height + 2 ^ 32 * length l.rest ≤ 2 ^ 96;
+  room : nat_abs l.sum.height + 2 ^ 63 * length l.rest ≤ 2 ^ 126;
 }
 
 abbrev pub decreases-marks : goal.decreases-marks
