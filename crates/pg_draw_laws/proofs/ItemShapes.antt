@@ -12,7 +12,7 @@ use Rattle.pg_scaled.specs.Scaled.{fraction_digits, scaled_text, scaled_value, s
 use Rattle.pg_scan.specs.Parts.{after, first_part, named, on, parts_of, past}
 use Rattle.pg_showbox.specs.Nodes.{glue_at, glue_text_at, node_at, node_item, past_name, shrink_at, stretch_at}
 use Rattle.pg_showbox.specs.ParsedLine.{marker_at, or_shape, pointed_at, variant_at}
-use Rattle.pg_showbox.specs.Parts.{◌>>=◌, due, size_at, whole_at}
+use Rattle.pg_showbox.specs.Parts.{◌>>=◌, size_at, whole_at}
 use Rattle.pg_showbox.specs.declared.kinds.ListKind.{ListKind}
 use Rattle.pg_showbox.specs.declared.kinds.ListKind.TheVariants.{BadLine, ChoiceShape}
 use Rattle.pg_showbox.specs.declared.node.Node.{Node}
