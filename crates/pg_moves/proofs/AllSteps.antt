@@ -29,6 +29,7 @@ use Rattle.pg_move_laws.specs.Laws.{ListedAreMoves, ReachIsCeiling}
 use Rattle.pg_move_laws.specs.Listed.{beyond, listed_floats, listed_stay, listed_text, stays_on}
 use Rattle.pg_move_laws.specs.Steps.{IsCeiling, text_room}
 use Rattle.pg_laid.specs.Laid.{laid_of}
+use Rattle.pg_rooms.specs.Calls.{AreCalls}
 use Rattle.pg_rooms.specs.PlaceEnds.{ArePlaceEnds, AreRoomEnds, ends_in, has_room}
 use Rattle.pg_rooms.specs.declared.place_ends.PlaceEnds.{PlaceEnds}
 use Rattle.pg_rooms.proofs.Kept.{room_right}
@@ -107,10 +108,12 @@ opened galley style u ceiling spared mid new listed reach own e text is =
 
 -- a walk with no room asked for is kept of its place
 pub begun : (doc : Document) (from : Place) (it : PlaceEnds) (walk : PlaceWalk) → it.walk ≡ walk →
-    it.rooms.items ≡ [] → AreCandidates doc from (tallest doc.style) walk.found → ArePlaceEnds doc from it
-begun doc from it walk w r found = record {
+    it.rooms.items ≡ [] → it.calls.items.items ≡ [] → AreCandidates doc from (tallest doc.style) walk.found →
+    ArePlaceEnds doc from it
+begun doc from it walk w r k found = record {
   found = subst (λ (x : PlaceWalk). AreCandidates doc from (tallest doc.style) x.found) (sym w) found;
   rooms = subst (AllByRecursion (AreRoomEnds doc from)) (sym r) tt;
+  calls = subst (AreCalls doc) (sym k) tt;
 }
 
 -- where every move is wanted, all are made

@@ -1,6 +1,6 @@
 -- What is kept of a place.
-use Rattle.std.proofs.Common.{◌≡◌, refl, sym, ap, subst, ◌∙◌, ℕ, zero, suc, ◌+◌, ◌<◌, true, false, Bool, ℤ, arith, get_or}
-use Rattle.std.specs.Prelude.{List, [], ◌∷◌, ◌++◌, ◌≤ℤ◌, length, take, if◌then◌else◌, Contains}
+use Rattle.std.proofs.Common.{Ok, Err, Result, ◌≡◌, refl, sym, ap, subst, ◌∙◌, ℕ, zero, suc, ◌+◌, ◌<◌, true, false, Bool, ℤ, arith, get_or}
+use Rattle.std.specs.Prelude.{List, [], ◌∷◌, ◌++◌, ◌≤ℤ◌, length, take, if◌then◌else◌, Contains, OnOk}
 use Rattle.std.specs.List.{AllByRecursion}
 use Rattle.std.specs.Ordering.{int_eq}
 use Rattle.std.proofs.Math.Seq.{take-length}
@@ -149,3 +149,8 @@ groups_right doc from it room are = by it.rooms.items are.rooms
     by [] all = refl
     by (first ∷ rooms) all = either (int_eq first.room room) first.groups.items (groups_in rooms room) first.ends
         (ends_in rooms room) all.0.groups (by rooms all.1)
+
+-- two clauses of an answer as one
+pub on_both : {T E P Q R : Type 0} (r : Result T E) → (P → Q → R) → OnOk r P → OnOk r Q → OnOk r R
+on_both (Ok x) f p q = f p q
+on_both (Err e) f p q = tt

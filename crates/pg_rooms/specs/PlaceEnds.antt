@@ -11,6 +11,7 @@ use Rattle.pg_style.specs.Values.{StyleValue}
 use Rattle.pg_walk_laws.specs.Candidates.{AreCandidates, Candidate}
 use Rattle.pg_walk_laws.specs.Reached.{tallest}
 use Rattle.pg_candidates.specs.Nears.{AreNear, NearValue}
+use Rattle.pg_rooms.specs.Calls.{AreCalls}
 use Rattle.pg_rooms.specs.declared.grouping.Group.{Group}
 use Rattle.pg_rooms.specs.declared.place_ends.PlaceEnds.{PlaceEnds}
 use Rattle.pg_rooms.specs.declared.place_ends.RoomEnds.{RoomEnds}
@@ -27,10 +28,11 @@ pub record AreRoomEnds (doc : Document) (from : Place) (it : RoomEnds) : Type 0 
   pub ends : AreEnds doc from it.room it.ends
   pub groups : AreGroups doc it.groups.items it.ends
 
--- what a place keeps: its candidates, and the ends in some rooms
+-- what a place keeps: its candidates, the ends in some rooms, and what is called before them
 pub record ArePlaceEnds (doc : Document) (from : Place) (it : PlaceEnds) : Type 0 where
   pub found : AreCandidates doc from (tallest doc.style) it.walk.found
   pub rooms : AllByRecursion (AreRoomEnds doc from) it.rooms.items
+  pub calls : AreCalls doc it.calls.items.items
 
 -- a room is neither below the least one nor above that of the tallest run
 abbrev pub IsWithin : StyleValue → ℤ → ℤ → Type 0

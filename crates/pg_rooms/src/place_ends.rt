@@ -6,8 +6,10 @@ ghost use Rattle.pg_list.specs.declared.galley.Place.{Place as APlace};
 ghost use Rattle.pg_walk_laws.specs.Reached.{tallest};
 ghost use Rattle.pg_laid.specs.declared.laid.Laid.{Laid as ALaid};
 ghost use Rattle.pg_sources.specs.Document.{doc_of};
+ghost use Rattle.pg_rooms.specs.Calls.{AreCalls};
 ghost use Rattle.pg_rooms.specs.PlaceEnds.{AreNearFrom, ArePlaceEnds, AreRoomEnds, IsWithin, ends_in, groups_in, has_room};
 
+use crate::calls::Calls;
 use crate::grouping::{Group, group_ends};
 use pg_ends::{End, EndList};
 use pg_laid::Laid;
@@ -32,11 +34,12 @@ impl RoomEnds {
     }
 }
 
-/// What is kept of a place: its walk, and the ends in the rooms that were asked for.
+/// What is kept of a place: its walk, the ends in the rooms that were asked for, and what is called before them.
 #[derive(Drop)]
 pub struct PlaceEnds {
     pub walk: PlaceWalk,
     pub rooms: Vec<RoomEnds>,
+    pub calls: Calls,
 }
 
 // What is kept of a room.
@@ -104,14 +107,22 @@ fn least_room(laid: &[Laid]) -> i64
 }
 
 // The ends in a room, in groups.
-fn room_ends(sources: &Sources<'_>, near: &NearList<'_>, room: i64) -> Result<RoomEnds, AllocError>
+fn room_ends(
+    sources: &Sources<'_>,
+    near: &NearList<'_>,
+    room: i64,
+    calls: &mut Calls,
+) -> Result<RoomEnds, AllocError>
     requires { nat_abs room < 2 ^ 40 }
     ensures room { IfOk result (λ it. it.room ≡ room) }
     ensures right { IfOk result (λ it. (from : APlace) (least : ℤ) → AreNearFrom (doc_of sources.now) from least near.now →
-        IsWithin sources.now.style.now least room → AreRoomEnds (doc_of sources.now) from it) }
+        IsWithin sources.now.style.now least room → AreCalls (doc_of sources.now) calls.old.items.items →
+        AreRoomEnds (doc_of sources.now) from it) }
+    ensures calls { OnOk result (AreCalls (doc_of sources.now) calls.old.items.items →
+        AreCalls (doc_of sources.now) calls.new.items.items) }
 {
     let ends = near.ends_in(sources.alloc, sources.galley, sources.style, room)?;
-    let groups = group_ends(sources, ends.as_slice())?;
+    let groups = group_ends(sources, calls, ends.as_slice())?;
     Ok(RoomEnds { room, ends, groups })
 }
 
@@ -121,19 +132,23 @@ fn add_room(
     near: &NearList<'_>,
     room: i64,
     rooms: &mut Vec<RoomEnds>,
+    calls: &mut Calls,
 ) -> Result<(), AllocError>
     requires { nat_abs room < 2 ^ 40 }
     ensures has { OnOk result (has_room rooms.new.items room ≡ true) }
     ensures keeps { OnOk result ((other : ℤ) → has_room rooms.old.items other ≡ true →
         has_room rooms.new.items other ≡ true) }
     ensures right { OnOk result ((from : APlace) (least : ℤ) → AreNearFrom (doc_of sources.now) from least near.now →
-        IsWithin sources.now.style.now least room → AllByRecursion (AreRoomEnds (doc_of sources.now) from) rooms.old.items →
+        IsWithin sources.now.style.now least room → AreCalls (doc_of sources.now) calls.old.items.items →
+        AllByRecursion (AreRoomEnds (doc_of sources.now) from) rooms.old.items →
         AllByRecursion (AreRoomEnds (doc_of sources.now) from) rooms.new.items) }
+    ensures calls { OnOk result (AreCalls (doc_of sources.now) calls.old.items.items →
+        AreCalls (doc_of sources.now) calls.new.items.items) }
 {
     if kept(rooms.as_slice(), room).is_some() {
         return Ok(());
     }
-    let ends = room_ends(sources, near, room)?;
+    let ends = room_ends(sources, near, room, calls)?;
     rooms.push(ends)?;
     Ok(())
 }
@@ -144,16 +159,20 @@ fn add_rooms(
     near: &NearList<'_>,
     laid: &[Laid],
     rooms: &mut Vec<RoomEnds>,
+    calls: &mut Calls,
 ) -> Result<(), AllocError>
     requires small { AllByRecursion (λ (it : ALaid). nat_abs it.room < 2 ^ 40) laid.now }
     ensures has { OnOk result ((it : ALaid) → Contains laid.now it → has_room rooms.new.items it.room ≡ true) }
     ensures right { OnOk result ((from : APlace) (least : ℤ) → AreNearFrom (doc_of sources.now) from least near.now →
         AllByRecursion (λ (it : ALaid). IsWithin sources.now.style.now least it.room) laid.now →
+        AreCalls (doc_of sources.now) calls.old.items.items →
         AllByRecursion (AreRoomEnds (doc_of sources.now) from) rooms.old.items →
         AllByRecursion (AreRoomEnds (doc_of sources.now) from) rooms.new.items) }
+    ensures calls { OnOk result (AreCalls (doc_of sources.now) calls.old.items.items →
+        AreCalls (doc_of sources.now) calls.new.items.items) }
 {
     for it in laid {
-        add_room(sources, near, it.room, rooms)?;
+        add_room(sources, near, it.room, rooms, calls)?;
     }
     Ok(())
 }
@@ -163,10 +182,15 @@ impl PlaceEnds {
     pub fn new(alloc: Global, walk: PlaceWalk) -> PlaceEnds
         ensures walk { result.walk ≡ walk }
         ensures rooms { result.rooms.items ≡ [] }
+        ensures calls { result.calls.items.items ≡ [] }
     {
         PlaceEnds {
             walk,
             rooms: Vec::new(alloc),
+            calls: Calls {
+                items: Vec::new(alloc),
+                at: 0,
+            },
         }
     }
 
@@ -188,7 +212,7 @@ impl PlaceEnds {
         let near = self
             .walk
             .near(sources.alloc, sources.galley, sources.style, least)?;
-        add_rooms(sources, &near, laid, &mut self.rooms)
+        add_rooms(sources, &near, laid, &mut self.rooms, &mut self.calls)
     }
 
     /// The ends in a room of so many scaled points, and none where they are not kept.

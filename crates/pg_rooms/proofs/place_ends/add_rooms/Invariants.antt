@@ -3,6 +3,7 @@ use Rattle.std.specs.List.{AllByRecursion}
 use Rattle.pg_laid.specs.declared.laid.Laid.{Laid}
 use Rattle.pg_list.specs.declared.galley.Place.{Place}
 use Rattle.pg_sources.specs.Document.{doc_of}
+use Rattle.pg_rooms.specs.Calls.{AreCalls}
 use Rattle.pg_rooms.specs.PlaceEnds.{AreNearFrom, AreRoomEnds, IsWithin, has_room}
 use Rattle.pg_rooms.proofs.place_ends.add_rooms.Given as goal
 
@@ -11,6 +12,8 @@ invariant-loop-it l = record {
   has : AllByRecursion (λ (it : Laid). has_room l.rooms.items it.room ≡ true) (take l.it-index l.laid);
   right : (from : Place) (least : ℤ) → AreNearFrom (doc_of l.sources) from least l.near →
       AllByRecursion (λ (it : Laid). IsWithin (doc_of l.sources).style least it.room) l.laid →
+      AreCalls (doc_of l.sources) l.initial.calls.items.items.items →
       AllByRecursion (AreRoomEnds (doc_of l.sources) from) l.initial.rooms.items →
       AllByRecursion (AreRoomEnds (doc_of l.sources) from) l.rooms.items;
+  calls : AreCalls (doc_of l.sources) l.initial.calls.items.items.items → AreCalls (doc_of l.sources) l.calls.items.items;
 }
