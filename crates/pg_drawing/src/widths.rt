@@ -1,13 +1,12 @@
 //! Widths as a page text prints them.
 ghost use Rattle.std.specs.Prelude.{◌≡◌, ◌≤◌, ◌<◌, ◌^◌, min, nat_abs, IfSome};
-ghost use Rattle.std.specs.Option.{option_map};
 ghost use Rattle.std.specs.Str.Parse.{digits_value};
 ghost use Rattle.pg_scaled.specs.Digits.{AllAsciiDigits, size_of};
-ghost use Rattle.pg_scaled.specs.Scaled.{after_point, signed as signed_of};
-ghost use Rattle.pg_words.specs.Read.{behind_minus as minus_of, if_digits};
+ghost use Rattle.pg_scaled.specs.Scaled.{signed as signed_of};
 ghost use Rattle.pg_drawing.specs.Widths.{if_length, if_printed, length_word, nearest, printed_behind, printed_size, width_word};
 
 use pg_scaled::{fraction, split_digits};
+use pg_words::{behind_minus, behind_point, digits};
 
 // 2^104 points are 2^120 units.
 const MOST_POINTS: u128 = 20282409603651670423947251286016;
@@ -44,36 +43,13 @@ fn size_of_parts(whole: &[u8], digits: &[u8]) -> Option<u128>
     if size < MOST_UNITS { Some(size) } else { None }
 }
 
-// The text, where it is digits alone.
-fn only_digits(text: &[u8]) -> Option<&[u8]>
-    ensures value { option_map (λ digits. digits.now) result ≡ if_digits text.now }
-    ensures each { IfSome result (λ digits. AllAsciiDigits digits.now) }
-{
-    let (digits, _) = split_digits(text);
-    if digits.len() == text.len() {
-        Some(digits)
-    } else {
-        None
-    }
-}
-
-// What stands behind a point.
-fn behind_point(text: &[u8]) -> Option<&[u8]>
-    ensures { option_map (λ behind. behind.now) result ≡ after_point text.now }
-{
-    match text {
-        [b'.', behind @ ..] => Some(behind),
-        _ => None,
-    }
-}
-
 #[tactic(auto, unfolding(crate::specs::Widths::printed_behind))]
 fn size_behind(whole: &[u8], fraction: &[u8]) -> Option<u128>
     requires { AllAsciiDigits whole.now }
     ensures value { result ≡ printed_behind whole.now fraction.now }
     ensures bound { IfSome result (λ size. size < 2 ^ 120) }
 {
-    size_of_parts(whole, only_digits(fraction)?)
+    size_of_parts(whole, digits(fraction)?)
 }
 
 // The size of a width without a minus.
@@ -84,16 +60,6 @@ fn size(text: &[u8]) -> Option<u128>
 {
     let (whole, rest) = split_digits(text);
     size_behind(whole, behind_point(rest)?)
-}
-
-// What stands behind a minus.
-fn behind_minus(text: &[u8]) -> Option<&[u8]>
-    ensures { option_map (λ behind. behind.now) result ≡ minus_of text.now }
-{
-    match text {
-        [b'-', behind @ ..] => Some(behind),
-        _ => None,
-    }
 }
 
 fn signed(minus: bool, size: u128) -> i128

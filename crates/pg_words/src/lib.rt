@@ -12,8 +12,9 @@ mod scaled;
 mod words;
 
 pub use lists::{read_ages, read_counts, read_picks};
+pub use numbers::{behind_minus, digits};
 pub use printing::{
     print_ages, print_counts, print_decimal, print_picks, print_place, print_side, print_whole,
 };
-pub use scaled::{read_length, read_length_or_none};
+pub use scaled::{behind_point, read_length, read_length_or_none};
 pub use words::Words;

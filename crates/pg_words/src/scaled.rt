@@ -30,8 +30,8 @@ fn small_size(whole: &[u8], fraction_digits: &[u8]) -> Option<u64>
     if size > MOST_UNITS { None } else { Some(size) }
 }
 
-// What stands behind a point.
-fn behind_point(text: &[u8]) -> Option<&[u8]>
+/// What stands behind a point.
+pub fn behind_point(text: &[u8]) -> Option<&[u8]>
     ensures { option_map (λ behind. behind.now) result ≡ after_point text.now }
 {
     match text {
