@@ -105,7 +105,7 @@ not_over total shrink goal h = by (int_le goal total) (grind (arith, ints, h))
     by false e = refl
     by true e = absurd cc
 
-worse_by : (t : Totals) (g h : ℤ) → g ≤ℤ h → t.total <ℤ g → badness_by false g t ≡ 10000 →
+pub worse_by : (t : Totals) (g h : ℤ) → g ≤ℤ h → t.total <ℤ g → badness_by false g t ≡ 10000 →
     badness_by false h t ≡ 10000
 worse_by t g h up short e =
     let a : int_lt t.total g ≡ true = grind (arith, ints, short) in

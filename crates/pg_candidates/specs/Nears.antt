@@ -1,34 +1,107 @@
 -- What is worked out once of candidates for several rooms.
-use Rattle.std.specs.Prelude.{◌≡◌, ◌≤ℤ◌, Bool, List, map, ℤ, pos, unwrap_or}
+use Rattle.std.specs.Prelude.{◌≡◌, ◌≤ℤ◌, ◌<ℤ◌, ℕ, Bool, true, false, if◌then◌else◌, List, [], ◌∷◌, flat_map, Option, Some, None, ℤ, pos, int_lt, slice_get, unwrap_or}
 use Rattle.std.specs.List.{AllByRecursion}
+use Rattle.std.specs.declared.cmp.Ordering.TheVariants.{Equal}
+use Rattle.pg_list.specs.declared.blocks.Block.{Block}
+use Rattle.pg_list.specs.declared.galley.Place.{Place}
 use Rattle.pg_breaks.specs.Near.{place_forced, place_penalty, place_spent}
+use Rattle.pg_column.specs.Numbers.{goal_by}
 use Rattle.pg_column.specs.Passed.{note_height}
+use Rattle.pg_ends.specs.declared.end.End.{End}
 use Rattle.pg_rules.specs.Room.{Document}
-use Rattle.pg_stretch.specs.View.{view}
-use Rattle.pg_walk_laws.specs.Candidates.{Candidate, kept_ends}
-use Rattle.pg_candidates.specs.View.{candidate_of}
-use Rattle.pg_candidates.specs.declared.candidate.Candidate.{Candidate as CandidateParts}
+use Rattle.pg_style.specs.Values.{StyleValue}
+use Rattle.pg_sums.specs.Step.{badness_by}
+use Rattle.pg_walk_laws.specs.Best.{IsAmong, IsUnder, end_cmp}
+use Rattle.pg_walk_laws.specs.Candidates.{AreCandidates, Candidate, end_in, keeps_in, kept_ends}
+use Rattle.pg_candidates.specs.declared.kind.EndKind.{EndKind}
 
--- what callers see of a candidate with what no room changes
+-- ---- what no room changes
+
+-- what callers see of it: which candidate it is of, the height of its notes, what its end is, and the room from which on
+-- that end is not needed, if there is one
 pub record NearValue : Type 0 where
-  pub candidate : CandidateParts
+  pub at : ℕ
   pub notes : ℤ
-  pub penalty : ℤ
-  pub is_forced : Bool
-  pub is_spent : Bool
+  pub kind : EndKind
+  pub until : Option ℤ
 
--- the candidates alone
-abbrev pub candidates_of : List NearValue → List Candidate
-candidates_of nears = map (λ (near : NearValue). candidate_of near.candidate) nears
+-- candidates, and what no room changes of each
+pub record NearsValue : Type 0 where
+  pub candidates : List Candidate
+  pub nears : List NearValue
 
--- the height of its notes, the penalty of its end, and whether that is forced and spent
-pub record IsNear (doc : Document) (near : NearValue) : Type 0 where
-  pub notes : near.notes ≡ note_height doc.style (view near.candidate.passed)
-  pub penalty : near.penalty ≡ unwrap_or (place_penalty doc.blocks near.candidate.to) (pos 0)
-  pub forced : near.is_forced ≡ place_forced doc.blocks near.candidate.to
-  pub spent : near.is_spent ≡ place_spent doc.blocks near.candidate.to
+-- the penalty of the break at a place, or 0 where there is none, and whether that is forced and spent
+abbrev pub kind_at : List Block → Place → EndKind
+kind_at blocks at = record {
+  penalty = unwrap_or (place_penalty blocks at) (pos 0);
+  is_forced = place_forced blocks at;
+  is_spent = place_spent blocks at;
+}
 
--- those of some candidates, without whom the same ends keep the rules in each room from the least one on
-pub record AreNear (doc : Document) (least : ℤ) (cs : List Candidate) (nears : List NearValue) : Type 0 where
-  pub right : AllByRecursion (IsNear doc) nears
-  pub same : (room : ℤ) → least ≤ℤ room → kept_ends doc room (candidates_of nears) ≡ kept_ends doc room cs
+-- the height of a candidate's notes, and what its end is
+pub record IsNear (doc : Document) (c : Candidate) (near : NearValue) : Type 0 where
+  pub notes : near.notes ≡ note_height doc.style c.passed
+  pub kind : near.kind ≡ kind_at doc.blocks c.to
+
+-- of the candidate at its index
+abbrev pub IsNearIn : Document → List Candidate → NearValue → Type 0
+IsNearIn doc cs near = (c : Candidate) → slice_get cs near.at ≡ Some c → IsNear doc c near
+
+-- ---- what is needed in a room
+
+-- the room is below the one from which on it is not
+abbrev pub is_needed : ℤ → Option ℤ → Bool
+is_needed room None = true
+is_needed room (Some from) = int_lt room from
+
+-- the candidate at an index, if there is one
+abbrev pub one_at : Option Candidate → List Candidate
+one_at None = []
+one_at (Some c) = c ∷ []
+
+-- the candidate, where it is needed
+abbrev pub needed_of : ℤ → List Candidate → NearValue → List Candidate
+needed_of room cs near = if is_needed room near.until then one_at (slice_get cs near.at) else []
+
+-- the candidates that are needed in a room
+abbrev pub needed_in : ℤ → List Candidate → List NearValue → List Candidate
+needed_in room cs nears = flat_map (needed_of room cs) nears
+
+-- some of all ends, among which each has one of its place and fitness that is no worse
+pub record Suffice (all some : List End) : Type 0 where
+  pub among : (x : End) → IsAmong x some → IsAmong x all
+  pub there : (y : End) → IsAmong y all → (x : End) × (IsAmong x some × ((end_cmp x y ≡ Equal) × IsUnder x y))
+
+-- what no room changes of these candidates, and in each room the ends of those that are needed suffice
+pub record AreNear (doc : Document) (cs : List Candidate) (it : NearsValue) : Type 0 where
+  pub same : it.candidates ≡ cs
+  pub right : AllByRecursion (IsNearIn doc cs) it.nears
+  pub suffice : (room : ℤ) → Suffice (kept_ends doc room cs) (kept_ends doc room (needed_in room cs it.nears))
+
+-- of candidates that suffice from a place up to a greatest room
+pub record AreNearFrom (doc : Document) (from : Place) (top : ℤ) (it : NearsValue) : Type 0 where
+  pub candidates : List Candidate
+  pub found : AreCandidates doc from top candidates
+  pub near : AreNear doc candidates it
+
+-- ---- which are not needed
+
+-- in a room what was passed is so far below its goal that its badness is the worst
+pub record IsWorst (style : StyleValue) (c : Candidate) (room : ℤ) : Type 0 where
+  pub short : c.passed.totals.total <ℤ goal_by style room c.passed.notes
+  pub bad : badness_by false (goal_by style room c.passed.notes) c.passed.totals ≡ 10000
+
+-- in a room one candidate keeps the rules, with an end of the other's place and fitness that is no worse
+pub record Serves (doc : Document) (room : ℤ) (one other : Candidate) : Type 0 where
+  pub keeps : keeps_in doc room one ≡ true
+  pub tied : end_cmp (end_in doc room one) (end_in doc room other) ≡ Equal
+  pub under : IsUnder (end_in doc room one) (end_in doc room other)
+
+-- from a room on no column to a candidate's end keeps the rules
+abbrev pub IsHopelessFrom : Document → Candidate → ℤ → Type 0
+IsHopelessFrom doc c from = (room : ℤ) → from ≤ℤ room → keeps_in doc room c ≡ false
+
+-- from a room on one candidate serves for the other, where that keeps the rules
+abbrev pub IsServedFrom : Document → Candidate → Candidate → ℤ → Type 0
+IsServedFrom doc one other from = (room : ℤ) → from ≤ℤ room → keeps_in doc room other ≡ true →
+    Serves doc room one other

@@ -1,7 +1,7 @@
 -- The steps of all columns.
 use Rattle.std.proofs.Common.{◌≡◌, refl, sym, ap, subst, ◌∙◌, List, [], ◌∷◌, ◌++◌, map, Bool, true, false, ℕ, ℤ}
 use Rattle.std.specs.Prelude.{Contains, if◌then◌else◌, Result, Ok, Err, IfOk, IsErr, OnOk}
-use Rattle.std.specs.List.{AllByRecursion, filter, flat_map}
+use Rattle.std.specs.List.{filter, flat_map}
 use Rattle.pg_list.specs.GalleyValue.{GalleyValue}
 use Rattle.pg_list.specs.declared.galley.Place.{Place}
 use Rattle.pg_plan.specs.declared.pages.PageMove.{PageMove}
@@ -21,15 +21,12 @@ use Rattle.pg_space_laws.specs.PageSpace.{page_meaning}
 use Rattle.pg_table.specs.Space.{AreMoves, AreWanted}
 use Rattle.pg_table.specs.declared.step.Opened.{Opened}
 use Rattle.pg_table.proofs.Spared.{all_wanted}
-use Rattle.pg_walk.specs.declared.place.PlaceWalk.{PlaceWalk}
-use Rattle.pg_walk_laws.specs.Candidates.{AreCandidates}
-use Rattle.pg_walk_laws.specs.Reached.{tallest}
 use Rattle.pg_table.specs.declared.step.Step.{Step}
 use Rattle.pg_move_laws.specs.Laws.{ListedAreMoves, ReachIsCeiling}
 use Rattle.pg_move_laws.specs.Listed.{beyond, listed_floats, listed_stay, listed_text, stays_on}
 use Rattle.pg_move_laws.specs.Steps.{IsCeiling, text_room}
 use Rattle.pg_laid.specs.Laid.{laid_of}
-use Rattle.pg_rooms.specs.PlaceEnds.{ArePlaceEnds, AreRoomEnds, ends_in, has_room}
+use Rattle.pg_rooms.specs.PlaceEnds.{ArePlaceEnds, ends_in, has_room}
 use Rattle.pg_rooms.specs.declared.place_ends.PlaceEnds.{PlaceEnds}
 use Rattle.pg_rooms.proofs.Kept.{room_right}
 use Rattle.pg_moves.specs.Stepping.{AreTextSteps, stay_in, steps_in}
@@ -104,14 +101,6 @@ opened galley style u ceiling spared mid new listed reach own e text is =
 
     floats : List (Step State PageMove)
     floats = listed_floats (document galley style) u
-
--- a walk with no room asked for is kept of its place
-pub begun : (doc : Document) (from : Place) (it : PlaceEnds) (walk : PlaceWalk) → it.walk ≡ walk →
-    it.rooms.items ≡ [] → AreCandidates doc from (tallest doc.style) walk.found → ArePlaceEnds doc from it
-begun doc from it walk w r found = record {
-  found = subst (λ (x : PlaceWalk). AreCandidates doc from (tallest doc.style) x.found) (sym w) found;
-  rooms = subst (AllByRecursion (AreRoomEnds doc from)) (sym r) tt;
-}
 
 -- where every move is wanted, all are made
 pub all_made : {E : Type 0} (doc : Document) (u : State) (r : Result (Opened State PageMove) E) (P : Type 0) → P →

@@ -5,7 +5,7 @@ ghost use Rattle.pg_rules.specs.IsState.{IsPlace, IsState};
 ghost use Rattle.pg_reach_laws.specs.ReachAt.{reach_at};
 ghost use Rattle.pg_space_laws.specs.PageSpace.{page_meaning};
 ghost use Rattle.pg_table.specs.Space.{AreMoves, AreWanted};
-ghost use Rattle.pg_walk_laws.specs.Candidates.{AreCandidates};
+ghost use Rattle.pg_candidates.specs.Nears.{AreNearFrom};
 ghost use Rattle.pg_walk_laws.specs.Reached.{tallest};
 ghost use Rattle.pg_move_laws.specs.Listed.{beyond, listed_floats};
 ghost use Rattle.pg_sources.specs.Document.{doc_of};
@@ -38,8 +38,8 @@ fn last_block(galley: &Galley, reach: u32) -> u32
 /// Condition: the place is the galley's. The one refusal is want of memory.
 pub fn walk_place(sources: &Sources<'_>, from: Place) -> Result<PlaceWalk, AllocError>
     requires { IsPlace sources.now.galley.now.blocks from }
-    ensures found { IfOk result (λ walk.
-        AreCandidates (doc_of sources.now) from (tallest sources.now.style.now) walk.found) }
+    ensures near { IfOk result (λ walk.
+        AreNearFrom (doc_of sources.now) from (tallest sources.now.style.now) walk.near) }
     ensures reach { IfOk result (λ walk. walk.reach ≡ reach_at (doc_of sources.now) from) }
 {
     reach_is_the_greatest(sources.galley, sources.style);

@@ -205,6 +205,29 @@ fn step_to(
     })
 }
 
+// Adds the step to an end, behind which there is this state, at this cost. Few steps that are asked about are made:
+// were this made part of the walk over the ends, each of them would pay for its locals.
+#[cold]
+#[inline(never)]
+fn push_step(
+    state: &State,
+    laid: &Laid,
+    end: &End,
+    next: &State,
+    cost: i128,
+    steps: &mut StepList<State, PageMove>,
+) -> Result<(), AllocError>
+    ensures { OnOk result (steps.new ≡ steps.old ++ record {
+      to = next.now;
+      by = move_of state.now laid.now.layout end.now.to end.now.picks;
+      cost = cost;
+    } ∷ []) }
+{
+    let step = step_to(state, laid, end, next, cost)?;
+    steps.push(step)?;
+    Ok(())
+}
+
 // Adds the step to an end before which the floats of a layout are called and no float is left too old, if it is wanted.
 fn add_end<W: Wants<State = State>>(
     sources: &Sources<'_>,
@@ -231,7 +254,7 @@ fn add_end<W: Wants<State = State>>(
     if !wants.wants(&behind.state, behind.rank(), cost) {
         return Ok(());
     }
-    steps.push(step_to(state, laid, end, &behind.state, cost)?)?;
+    push_step(state, laid, end, &behind.state, cost, steps)?;
     Ok(())
 }
 

@@ -1,6 +1,6 @@
 -- What is kept of a place.
-use Rattle.std.proofs.Common.{◌≡◌, refl, sym, ap, subst, ◌∙◌, ℕ, zero, suc, ◌+◌, ◌<◌, true, false, Bool, ℤ, arith, get_or}
-use Rattle.std.specs.Prelude.{List, [], ◌∷◌, ◌++◌, ◌≤ℤ◌, length, take, if◌then◌else◌, Contains}
+use Rattle.std.proofs.Common.{Ok, Err, Result, ◌≡◌, refl, sym, ap, subst, ◌∙◌, ℕ, zero, suc, ◌+◌, ◌<◌, true, false, Bool, ℤ, arith, get_or}
+use Rattle.std.specs.Prelude.{List, [], ◌∷◌, ◌++◌, ◌≤ℤ◌, length, take, if◌then◌else◌, Contains, OnOk}
 use Rattle.std.specs.List.{AllByRecursion}
 use Rattle.std.specs.Ordering.{int_eq}
 use Rattle.std.proofs.Math.Seq.{take-length}
@@ -14,9 +14,14 @@ use Rattle.pg_laid.specs.declared.laid.Laid.{Laid}
 use Rattle.pg_list.specs.declared.galley.Place.{Place}
 use Rattle.pg_rules.specs.Room.{Document}
 use Rattle.pg_style.specs.Values.{StyleValue}
+use Rattle.pg_walk.specs.declared.place.PlaceWalk.{PlaceWalk}
 use Rattle.pg_walk_laws.specs.Reached.{tallest}
+use Rattle.pg_candidates.specs.Nears.{AreNearFrom}
+use Rattle.pg_rooms.proofs.Called.{no_calls}
 use Rattle.pg_rooms.proofs.Grouped.{all_more}
-use Rattle.pg_rooms.specs.PlaceEnds.{AreGroups, ArePlaceEnds, AreRoomEnds, IsWithin, ends_in, groups_in, has_room}
+use Rattle.pg_rooms.specs.Calls.{AreCalls}
+use Rattle.pg_rooms.specs.PlaceEnds.{AreGroups, ArePlaceEnds, AreRoomEnds, ends_in, groups_in, has_room}
+use Rattle.pg_rooms.specs.declared.calls.Call.{Call}
 use Rattle.pg_rooms.specs.declared.grouping.Group.{Group}
 use Rattle.pg_rooms.specs.declared.place_ends.PlaceEnds.{PlaceEnds}
 use Rattle.pg_rooms.specs.declared.place_ends.RoomEnds.{RoomEnds}
@@ -92,33 +97,17 @@ has_each rooms laid i done all it c = all_contain (λ (x : Laid). has_room rooms
     (subst (AllByRecursion (λ (x : Laid). has_room rooms x.room ≡ true))
     (ap (λ (n : ℕ). take n laid) done ∙ take-length laid) all) c
 
--- one room more is kept
-pub has_next : (rooms : List RoomEnds) (laid : List Laid) (i : ℕ) (it : Laid) → i < length laid →
-    it ≡ get_or laid i it → AllByRecursion (λ (x : Laid). has_room rooms x.room ≡ true) (take i laid) →
-    has_room rooms it.room ≡ true → AllByRecursion (λ (x : Laid). has_room rooms x.room ≡ true) (take (i + 1) laid)
-has_next rooms laid i it less is all own =
-    has_more rooms rooms laid i it less is all own (λ room h. h)
-
--- a number that is no greater than the least room, and not than one room more
-pub least_more : (least now : ℤ) (laid : List Laid) (i : ℕ) (it : Laid) → i < length laid → it ≡ get_or laid i it →
-    AllByRecursion (λ (x : Laid). least ≤ℤ x.room) (take i laid) → now ≤ℤ least → now ≤ℤ it.room →
-    AllByRecursion (λ (x : Laid). now ≤ℤ x.room) (take (i + 1) laid)
-least_more least now laid i it less is all low own =
-    all_more (λ (x : Laid). now ≤ℤ x.room) laid i it less is (still (take i laid) all) own
-  where
-    still : (xs : List Laid) → AllByRecursion (λ (x : Laid). least ≤ℤ x.room) xs →
-        AllByRecursion (λ (x : Laid). now ≤ℤ x.room) xs
-    still [] a = tt
-    still (x ∷ xs) a = (omega (arith, ints, low, a.0), still xs a.1)
-
--- the rooms of layouts are from the least one on, and none is above the tallest
-pub all_within : (style : StyleValue) (least : ℤ) (laid : List Laid) →
-    AllByRecursion (λ (x : Laid). least ≤ℤ x.room) laid → AllByRecursion (λ (x : Laid). x.room ≤ℤ tallest style) laid →
-    AllByRecursion (λ (x : Laid). IsWithin style least x.room) laid
-all_within style least [] a b = tt
-all_within style least (x ∷ xs) a b = ((a.0, b.0), all_within style least xs a.1 b.1)
-
 -- ---- for callers
+
+-- a walk with no room asked for is kept of its place
+pub begun : (doc : Document) (from : Place) (it : PlaceEnds) (walk : PlaceWalk) → it.walk ≡ walk →
+    it.rooms.items ≡ [] → it.calls.items.items ≡ [] → AreNearFrom doc from (tallest doc.style) walk.near →
+    ArePlaceEnds doc from it
+begun doc from it walk w r k near = record {
+  near = subst (λ (x : PlaceWalk). AreNearFrom doc from (tallest doc.style) x.near) (sym w) near;
+  rooms = subst (AllByRecursion (AreRoomEnds doc from)) (sym r) tt;
+  calls = subst (λ (calls : List Call). AreCalls doc calls) (sym k) (no_calls doc);
+}
 
 -- the ends in a room that is kept
 pub room_right : (doc : Document) (from : Place) (it : PlaceEnds) (room : ℤ) → ArePlaceEnds doc from it →
@@ -149,3 +138,8 @@ groups_right doc from it room are = by it.rooms.items are.rooms
     by [] all = refl
     by (first ∷ rooms) all = either (int_eq first.room room) first.groups.items (groups_in rooms room) first.ends
         (ends_in rooms room) all.0.groups (by rooms all.1)
+
+-- two clauses of an answer as one
+pub on_both : {T E P Q R : Type 0} (r : Result T E) → (P → Q → R) → OnOk r P → OnOk r Q → OnOk r R
+on_both (Ok x) f p q = f p q
+on_both (Err e) f p q = tt

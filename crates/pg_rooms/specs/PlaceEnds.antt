@@ -1,5 +1,5 @@
 -- The ends of columns of text from a place, room by room.
-use Rattle.std.specs.Prelude.{◌≡◌, Bool, true, false, if◌then◌else◌, List, [], ◌∷◌, ℤ, ◌≤ℤ◌, take, drop}
+use Rattle.std.specs.Prelude.{◌≡◌, Bool, true, false, if◌then◌else◌, List, [], ◌∷◌, ℤ, take, drop}
 use Rattle.std.specs.List.{AllByRecursion}
 use Rattle.std.specs.Ordering.{int_eq}
 use Rattle.pg_list.specs.declared.galley.Place.{Place}
@@ -7,10 +7,9 @@ use Rattle.pg_ends.specs.Ends.{AreEnds}
 use Rattle.pg_ends.specs.declared.end.End.{End}
 use Rattle.pg_rules.specs.Floats.{called}
 use Rattle.pg_rules.specs.Room.{Document}
-use Rattle.pg_style.specs.Values.{StyleValue}
-use Rattle.pg_walk_laws.specs.Candidates.{AreCandidates, Candidate}
 use Rattle.pg_walk_laws.specs.Reached.{tallest}
-use Rattle.pg_candidates.specs.Nears.{AreNear, NearValue}
+use Rattle.pg_candidates.specs.Nears.{AreNearFrom}
+use Rattle.pg_rooms.specs.Calls.{AreCalls}
 use Rattle.pg_rooms.specs.declared.grouping.Group.{Group}
 use Rattle.pg_rooms.specs.declared.place_ends.PlaceEnds.{PlaceEnds}
 use Rattle.pg_rooms.specs.declared.place_ends.RoomEnds.{RoomEnds}
@@ -27,20 +26,11 @@ pub record AreRoomEnds (doc : Document) (from : Place) (it : RoomEnds) : Type 0 
   pub ends : AreEnds doc from it.room it.ends
   pub groups : AreGroups doc it.groups.items it.ends
 
--- what a place keeps: its candidates, and the ends in some rooms
+-- what a place keeps: its candidates, the ends in some rooms, and what is called before them
 pub record ArePlaceEnds (doc : Document) (from : Place) (it : PlaceEnds) : Type 0 where
-  pub found : AreCandidates doc from (tallest doc.style) it.walk.found
+  pub near : AreNearFrom doc from (tallest doc.style) it.walk.near
   pub rooms : AllByRecursion (AreRoomEnds doc from) it.rooms.items
-
--- a room is neither below the least one nor above that of the tallest run
-abbrev pub IsWithin : StyleValue → ℤ → ℤ → Type 0
-IsWithin style least room = (least ≤ℤ room) × (room ≤ℤ tallest style)
-
--- what is near of a place's candidates, for rooms from the least one on
-pub record AreNearFrom (doc : Document) (from : Place) (least : ℤ) (nears : List NearValue) : Type 0 where
-  pub candidates : List Candidate
-  pub found : AreCandidates doc from (tallest doc.style) candidates
-  pub near : AreNear doc least candidates nears
+  pub calls : AreCalls doc it.calls.items.items
 
 -- a room is among these
 abbrev pub has_room : List RoomEnds → ℤ → Bool

@@ -1,11 +1,12 @@
 //! Ends in groups before which the same floats are called.
-ghost use Rattle.std.specs.Prelude.{◌≡◌, ◌≤◌, IfOk, length, take, true};
+ghost use Rattle.std.specs.Prelude.{◌≡◌, ◌≤◌, IfOk, OnOk, length, take};
 ghost use Rattle.std.specs.List.{AllByRecursion};
 ghost use Rattle.pg_ends.specs.declared.end.End.{End as AnEnd};
-ghost use Rattle.pg_rules.specs.Floats.{called};
 ghost use Rattle.pg_sources.specs.Document.{doc_of};
+ghost use Rattle.pg_rooms.specs.Calls.{AreCalls, IsLike};
 ghost use Rattle.pg_rooms.specs.PlaceEnds.{AreGroups};
 
+use crate::calls::{Calls, is_same, like_of};
 use pg_ends::End;
 use pg_list::Place;
 use pg_plan::Counts;
@@ -19,57 +20,50 @@ pub struct Group {
     pub count: usize,
 }
 
-// Whether the same floats are called before a place as before another.
-fn has_same(
-    sources: &Sources<'_>,
-    counts: &Counts,
-    seen: Place,
-    place: Place,
-) -> Result<bool, AllocError>
-    requires { counts.now ≡ called sources.now.galley.now.blocks sources.now.style.now seen }
-    ensures { IfOk result (λ same. same ≡ true →
-        counts.now ≡ called sources.now.galley.now.blocks sources.now.style.now place) }
-{
-    if place == seen {
-        return Ok(true);
-    }
-    Ok(sources.called(place)? == *counts)
-}
-
-// How many of these ends from the first on have the same floats called before them as a place.
+// How many of these ends from the first on have the same floats called before them as a place, by the place that each
+// one's call names.
 fn count_same(
     sources: &Sources<'_>,
-    counts: &Counts,
-    from: Place,
+    calls: &mut Calls,
+    like: Place,
     ends: &[End],
 ) -> Result<usize, AllocError>
-    requires { counts.now ≡ called sources.now.galley.now.blocks sources.now.style.now from }
-    ensures same { IfOk result (λ count. AllByRecursion (λ (end : AnEnd).
-        counts.now ≡ called sources.now.galley.now.blocks sources.now.style.now end.to) (take count ends.now)) }
+    ensures same { IfOk result (λ count. AreCalls (doc_of sources.now) calls.old.items.items →
+        AllByRecursion (λ (end : AnEnd). IsLike (doc_of sources.now) like end.to) (take count ends.now)) }
+    ensures calls { OnOk result (AreCalls (doc_of sources.now) calls.old.items.items →
+        AreCalls (doc_of sources.now) calls.new.items.items) }
     ensures few { IfOk result (λ count. count ≤ length ends.now) }
 {
-    let mut seen = from;
     let mut count = 0;
     for end in ends {
-        if !has_same(sources, counts, seen, end.to)? {
+        let its = like_of(sources, calls, end.to)?;
+        if !is_same(like, its) {
             return Ok(count);
         }
-        seen = end.to;
         count += 1;
     }
     Ok(count)
 }
 
-/// Ends in groups: as many as follow one another with the same floats called before them are one. The one refusal is
-/// want of memory.
-pub(crate) fn group_ends(sources: &Sources<'_>, ends: &[End]) -> Result<Vec<Group>, AllocError>
-    ensures { IfOk result (λ groups. AreGroups (doc_of sources.now) groups.items ends.now) }
+/// Ends in groups: as many as follow one another with the same floats called before them are one. What is called before
+/// them is kept. The one refusal is want of memory.
+pub(crate) fn group_ends(
+    sources: &Sources<'_>,
+    calls: &mut Calls,
+    ends: &[End],
+) -> Result<Vec<Group>, AllocError>
+    ensures groups { IfOk result (λ groups. AreCalls (doc_of sources.now) calls.old.items.items →
+        AreGroups (doc_of sources.now) groups.items ends.now) }
+    ensures calls { OnOk result (AreCalls (doc_of sources.now) calls.old.items.items →
+        AreCalls (doc_of sources.now) calls.new.items.items) }
 {
     let mut groups = Vec::new(sources.alloc);
     let mut rest = ends;
+    calls.at = 0;
     'groups: while let [first, after @ ..] = rest {
-        let called = sources.called(first.to)?;
-        let more = count_same(sources, &called, first.to, after)?;
+        let like = like_of(sources, calls, first.to)?;
+        let called = sources.called(like)?;
+        let more = count_same(sources, calls, like, after)?;
         groups.push(Group {
             called,
             count: more + 1,

@@ -4,8 +4,10 @@
 //! before which the same floats are called (`specs/PlaceEnds`).
 #![tactic(auto)]
 
+mod calls;
 mod grouping;
 mod place_ends;
 
+pub use calls::{Call, Calls};
 pub use grouping::Group;
 pub use place_ends::{PlaceEnds, RoomEnds};

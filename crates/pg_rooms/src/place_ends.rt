@@ -6,13 +6,17 @@ ghost use Rattle.pg_list.specs.declared.galley.Place.{Place as APlace};
 ghost use Rattle.pg_walk_laws.specs.Reached.{tallest};
 ghost use Rattle.pg_laid.specs.declared.laid.Laid.{Laid as ALaid};
 ghost use Rattle.pg_sources.specs.Document.{doc_of};
-ghost use Rattle.pg_rooms.specs.PlaceEnds.{AreNearFrom, ArePlaceEnds, AreRoomEnds, IsWithin, ends_in, groups_in, has_room};
+ghost use Rattle.pg_rooms.specs.Calls.{AreCalls};
+ghost use Rattle.pg_candidates.specs.Nears.{AreNearFrom};
+ghost use Rattle.pg_rooms.specs.PlaceEnds.{ArePlaceEnds, AreRoomEnds, ends_in, groups_in, has_room};
 
+use crate::calls::Calls;
 use crate::grouping::{Group, group_ends};
+use pg_candidates::NearList;
 use pg_ends::{End, EndList};
 use pg_laid::Laid;
 use pg_sources::Sources;
-use pg_walk::{NearList, PlaceWalk};
+use pg_walk::PlaceWalk;
 use std::alloc::{AllocError, Global};
 
 /// The ends in a room in scaled points, and their groups.
@@ -32,11 +36,12 @@ impl RoomEnds {
     }
 }
 
-/// What is kept of a place: its walk, and the ends in the rooms that were asked for.
+/// What is kept of a place: its walk, the ends in the rooms that were asked for, and what is called before them.
 #[derive(Drop)]
 pub struct PlaceEnds {
     pub walk: PlaceWalk,
     pub rooms: Vec<RoomEnds>,
+    pub calls: Calls,
 }
 
 // What is kept of a room.
@@ -56,84 +61,51 @@ fn kept(rooms: &[RoomEnds], room: i64) -> Option<&RoomEnds>
     None
 }
 
-// Whether the room of each layout is kept.
-fn has_all(rooms: &[RoomEnds], laid: &[Laid]) -> bool
-    ensures { result ≡ true → (it : ALaid) → Contains laid.now it → has_room rooms.now it.room ≡ true }
-{
-    for it in laid {
-        if kept(rooms, it.room).is_none() {
-            return false;
-        }
-    }
-    true
-}
-
-// A room of two that is above neither.
-fn lesser(a: i64, b: i64) -> i64
-    requires a { nat_abs a < 2 ^ 40 }
-    requires b { nat_abs b < 2 ^ 40 }
-    ensures first { result ≤ℤ a }
-    ensures second { result ≤ℤ b }
-    ensures size { nat_abs result < 2 ^ 40 }
-{
-    if b < a { b } else { a }
-}
-
-// The room of the first layout, or 0 where there is none.
-fn first_room(laid: &[Laid]) -> i64
-    requires { AllByRecursion (λ (it : ALaid). nat_abs it.room < 2 ^ 40) laid.now }
-    ensures { nat_abs result < 2 ^ 40 }
-{
-    match laid {
-        [first, ..] => first.room,
-        [] => 0,
-    }
-}
-
-// The least room of layouts, or 0 where there are none.
-fn least_room(laid: &[Laid]) -> i64
-    requires { AllByRecursion (λ (it : ALaid). nat_abs it.room < 2 ^ 40) laid.now }
-    ensures size { nat_abs result < 2 ^ 40 }
-    ensures least { AllByRecursion (λ (it : ALaid). result ≤ℤ it.room) laid.now }
-{
-    let mut least = first_room(laid);
-    for it in laid {
-        least = lesser(least, it.room);
-    }
-    least
-}
-
 // The ends in a room, in groups.
-fn room_ends(sources: &Sources<'_>, near: &NearList<'_>, room: i64) -> Result<RoomEnds, AllocError>
+fn room_ends(
+    sources: &Sources<'_>,
+    near: &NearList,
+    room: i64,
+    calls: &mut Calls,
+) -> Result<RoomEnds, AllocError>
     requires { nat_abs room < 2 ^ 40 }
     ensures room { IfOk result (λ it. it.room ≡ room) }
-    ensures right { IfOk result (λ it. (from : APlace) (least : ℤ) → AreNearFrom (doc_of sources.now) from least near.now →
-        IsWithin sources.now.style.now least room → AreRoomEnds (doc_of sources.now) from it) }
+    ensures right { IfOk result (λ it. (from : APlace) →
+        AreNearFrom (doc_of sources.now) from (tallest sources.now.style.now) near.now →
+        room ≤ℤ tallest sources.now.style.now → AreCalls (doc_of sources.now) calls.old.items.items →
+        AreRoomEnds (doc_of sources.now) from it) }
+    ensures calls { OnOk result (AreCalls (doc_of sources.now) calls.old.items.items →
+        AreCalls (doc_of sources.now) calls.new.items.items) }
 {
     let ends = near.ends_in(sources.alloc, sources.galley, sources.style, room)?;
-    let groups = group_ends(sources, ends.as_slice())?;
+    let groups = group_ends(sources, calls, ends.as_slice())?;
     Ok(RoomEnds { room, ends, groups })
 }
 
 // Works out the ends in a room, where they are not kept yet.
 fn add_room(
     sources: &Sources<'_>,
-    near: &NearList<'_>,
+    near: &NearList,
     room: i64,
     rooms: &mut Vec<RoomEnds>,
+    calls: &mut Calls,
 ) -> Result<(), AllocError>
     requires { nat_abs room < 2 ^ 40 }
     ensures has { OnOk result (has_room rooms.new.items room ≡ true) }
     ensures keeps { OnOk result ((other : ℤ) → has_room rooms.old.items other ≡ true →
         has_room rooms.new.items other ≡ true) }
-    ensures right { OnOk result ((from : APlace) (least : ℤ) → AreNearFrom (doc_of sources.now) from least near.now →
-        IsWithin sources.now.style.now least room → AllByRecursion (AreRoomEnds (doc_of sources.now) from) rooms.old.items →
+    ensures right { OnOk result ((from : APlace) →
+        AreNearFrom (doc_of sources.now) from (tallest sources.now.style.now) near.now →
+        room ≤ℤ tallest sources.now.style.now → AreCalls (doc_of sources.now) calls.old.items.items →
+        AllByRecursion (AreRoomEnds (doc_of sources.now) from) rooms.old.items →
         AllByRecursion (AreRoomEnds (doc_of sources.now) from) rooms.new.items) }
+    ensures calls { OnOk result (AreCalls (doc_of sources.now) calls.old.items.items →
+        AreCalls (doc_of sources.now) calls.new.items.items) }
 {
     if kept(rooms.as_slice(), room).is_some() {
         return Ok(());
     }
-    let ends = room_ends(sources, near, room)?;
+    let ends = room_ends(sources, near, room, calls)?;
     rooms.push(ends)?;
     Ok(())
 }
@@ -141,19 +113,24 @@ fn add_room(
 // Works out the ends in the rooms of layouts, where they are not kept yet.
 fn add_rooms(
     sources: &Sources<'_>,
-    near: &NearList<'_>,
+    near: &NearList,
     laid: &[Laid],
     rooms: &mut Vec<RoomEnds>,
+    calls: &mut Calls,
 ) -> Result<(), AllocError>
     requires small { AllByRecursion (λ (it : ALaid). nat_abs it.room < 2 ^ 40) laid.now }
     ensures has { OnOk result ((it : ALaid) → Contains laid.now it → has_room rooms.new.items it.room ≡ true) }
-    ensures right { OnOk result ((from : APlace) (least : ℤ) → AreNearFrom (doc_of sources.now) from least near.now →
-        AllByRecursion (λ (it : ALaid). IsWithin sources.now.style.now least it.room) laid.now →
+    ensures right { OnOk result ((from : APlace) →
+        AreNearFrom (doc_of sources.now) from (tallest sources.now.style.now) near.now →
+        AllByRecursion (λ (it : ALaid). it.room ≤ℤ tallest sources.now.style.now) laid.now →
+        AreCalls (doc_of sources.now) calls.old.items.items →
         AllByRecursion (AreRoomEnds (doc_of sources.now) from) rooms.old.items →
         AllByRecursion (AreRoomEnds (doc_of sources.now) from) rooms.new.items) }
+    ensures calls { OnOk result (AreCalls (doc_of sources.now) calls.old.items.items →
+        AreCalls (doc_of sources.now) calls.new.items.items) }
 {
     for it in laid {
-        add_room(sources, near, it.room, rooms)?;
+        add_room(sources, near, it.room, rooms, calls)?;
     }
     Ok(())
 }
@@ -163,10 +140,15 @@ impl PlaceEnds {
     pub fn new(alloc: Global, walk: PlaceWalk) -> PlaceEnds
         ensures walk { result.walk ≡ walk }
         ensures rooms { result.rooms.items ≡ [] }
+        ensures calls { result.calls.items.items ≡ [] }
     {
         PlaceEnds {
             walk,
             rooms: Vec::new(alloc),
+            calls: Calls {
+                items: Vec::new(alloc),
+                at: 0,
+            },
         }
     }
 
@@ -181,14 +163,13 @@ impl PlaceEnds {
             AllByRecursion (λ (it : ALaid). it.room ≤ℤ tallest sources.now.style.now) laid.now →
             ArePlaceEnds (doc_of sources.now) from self.old → ArePlaceEnds (doc_of sources.now) from self.new) }
     {
-        if has_all(self.rooms.as_slice(), laid) {
-            return Ok(());
-        }
-        let least = least_room(laid);
-        let near = self
-            .walk
-            .near(sources.alloc, sources.galley, sources.style, least)?;
-        add_rooms(sources, &near, laid, &mut self.rooms)
+        add_rooms(
+            sources,
+            &self.walk.near,
+            laid,
+            &mut self.rooms,
+            &mut self.calls,
+        )
     }
 
     /// The ends in a room of so many scaled points, and none where they are not kept.

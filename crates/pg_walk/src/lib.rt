@@ -4,8 +4,8 @@
 //! pg_walk_laws), and `ends` lists each place and fitness at which a column of text from the place, in a room of a
 //! height, keeps the rules on one column, with its numbers and its best picks, in order, and nothing else (`AreEnds` of
 //! pg_ends); `ends_many` does so for several rooms from one walk; `reach_of` tells how far columns from a place may go
-//! (`IsReach` of pg_rules); `walk_from` does both from one place for all rooms, and `PlaceWalk::near` keeps of it what
-//! several rooms share (`AreNear` of pg_candidates). This holds for every galley and style.
+//! (`IsReach` of pg_rules); `walk_from` does both from one place for all rooms, and gives the candidates with what no
+//! room changes (`AreNearFrom` of pg_candidates). This holds for every galley and style.
 #![tactic(auto)]
 
 mod place;

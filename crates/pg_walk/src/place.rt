@@ -1,44 +1,38 @@
 //! One walk for all columns of text from a place.
-ghost use Rattle.std.specs.Prelude.{◌<◌, ◌^◌, IfOk, nat_abs};
+ghost use Rattle.std.specs.Prelude.{IfOk};
 ghost use Rattle.pg_rules.specs.IsState.{IsPlace};
 ghost use Rattle.pg_rules.specs.Legal.{document};
 ghost use Rattle.pg_rules.specs.Reach.{IsReach};
-ghost use Rattle.pg_walk_laws.specs.Candidates.{AreCandidates};
 ghost use Rattle.pg_walk_laws.specs.Reached.{tallest as tallest_of};
-ghost use Rattle.pg_candidates.specs.Nears.{AreNear};
+ghost use Rattle.pg_candidates.specs.Nears.{AreNearFrom};
 
 use crate::reach::{reach_of, tallest};
 use crate::walking::candidates;
-use pg_candidates::{CandidateList, NearList};
+use pg_candidates::NearList;
 use pg_list::{Galley, Place};
 use pg_style::Style;
 use std::alloc::{AllocError, Global};
 
-/// Where columns of text from a place may end in the room of any page, and one more than the greatest block of a place
-/// that they may reach.
+/// Where columns of text from a place may end in the room of any page, with what no room changes, and one more than the
+/// greatest block of a place that they may reach.
 #[derive(Drop)]
 pub struct PlaceWalk {
-    pub found: CandidateList,
+    pub near: NearList,
     pub reach: u32,
 }
 
-impl PlaceWalk {
-    /// What rooms from a least one of so many scaled points on share: the places where columns may end with what no
-    /// room changes, without those that are too short for all of these rooms.
-    ///
-    /// Condition: the least room is below 2^40 in size. The one refusal is want of memory.
-    pub fn near(
-        &self,
-        alloc: Global,
-        galley: &Galley,
-        style: &Style,
-        least: i64,
-    ) -> Result<NearList<'_>, AllocError>
-        requires { nat_abs least < 2 ^ 40 }
-        ensures { IfOk result (AreNear (document galley.now style.now) least self.now.found) }
-    {
-        self.found.near(alloc, galley, style, least)
-    }
+// Where columns of text from a place may end in some room up to a greatest one, with what no room changes.
+pub(crate) fn near_from(
+    alloc: Global,
+    galley: &Galley,
+    style: &Style,
+    from: Place,
+    top: i64,
+) -> Result<NearList, AllocError>
+    requires { IsPlace galley.now.blocks from }
+    ensures { IfOk result (AreNearFrom (document galley.now style.now) from top) }
+{
+    candidates(alloc, galley, style, from, top)?.into_near(alloc, galley, style)
 }
 
 /// What one walk from a place tells of the columns of text that begin there, in every room up to that of the tallest run,
@@ -52,11 +46,11 @@ pub fn walk_from(
     from: Place,
 ) -> Result<PlaceWalk, AllocError>
     requires { IsPlace galley.now.blocks from }
-    ensures found { IfOk result (λ walk.
-        AreCandidates (document galley.now style.now) from (tallest_of style.now) walk.found) }
+    ensures near { IfOk result (λ walk.
+        AreNearFrom (document galley.now style.now) from (tallest_of style.now) walk.near) }
     ensures reach { IfOk result (λ walk. IsReach (document galley.now style.now) from walk.reach) }
 {
     let reach = reach_of(alloc, galley, style, from)?;
-    let found = candidates(alloc, galley, style, from, tallest(style))?;
-    Ok(PlaceWalk { found, reach })
+    let near = near_from(alloc, galley, style, from, tallest(style))?;
+    Ok(PlaceWalk { near, reach })
 }

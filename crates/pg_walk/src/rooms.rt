@@ -5,13 +5,12 @@ ghost use Rattle.pg_rules.specs.IsState.{IsPlace};
 ghost use Rattle.pg_rules.specs.Legal.{document};
 ghost use Rattle.pg_list.specs.declared.galley.Place.{Place as APlace};
 ghost use Rattle.pg_ends.specs.Ends.{AreEnds};
-ghost use Rattle.pg_walk_laws.specs.Candidates.{AreCandidates, Candidate as ACandidate};
 ghost use Rattle.pg_walk_laws.specs.Laws.{AreEndsInEach, AreUpTo};
-ghost use Rattle.pg_candidates.specs.Nears.{AreNear};
-ghost use Rattle.pg_walk.specs.Rooms.{AreFrom, greatest_room, smallest_room};
+ghost use Rattle.pg_candidates.specs.Nears.{AreNearFrom};
+ghost use Rattle.pg_walk.specs.Rooms.{greatest_room};
 
-use crate::walking::candidates;
-use pg_candidates::{CandidateList, NearList};
+use crate::place::near_from;
+use pg_candidates::NearList;
 use pg_ends::{EndList, EndLists};
 use pg_list::{Galley, Place};
 use pg_style::Style;
@@ -32,7 +31,7 @@ pub fn ends(
     requires size { nat_abs room < 2 ^ 40 }
     ensures { IfOk result (λ ends. AreEnds (document galley.now style.now) from room ends) }
 {
-    candidates(alloc, galley, style, from, room)?.ends_in(alloc, galley, style, room)
+    near_from(alloc, galley, style, from, room)?.ends_in(alloc, galley, style, room)
 }
 
 // The greatest of a room and those of a list.
@@ -60,48 +59,17 @@ fn top_of(rooms: &[i64]) -> i64
     }
 }
 
-// The least of a room and those of a list.
-fn smallest_of(first: i64, rooms: &[i64]) -> i64
-    requires first { nat_abs first < 2 ^ 40 }
-    requires each { AllByRecursion (λ (room : ℤ). nat_abs room < 2 ^ 40) rooms.now }
-    ensures value { result ≡ smallest_room first rooms.now }
-    ensures size { nat_abs result < 2 ^ 40 }
-{
-    let mut least = first;
-    let mut left = rooms;
-    'rooms: while let [room, after @ ..] = left {
-        if *room < least {
-            least = *room;
-        }
-        left = after;
-    }
-    least
-}
-
-// A room that none of these is below.
-fn least_of(rooms: &[i64]) -> i64
-    requires { AllByRecursion (λ (room : ℤ). nat_abs room < 2 ^ 40) rooms.now }
-    ensures from { AreFrom result rooms.now }
-    ensures size { nat_abs result < 2 ^ 40 }
-{
-    match rooms {
-        [room, ..] => smallest_of(*room, rooms),
-        [] => 0,
-    }
-}
-
-// The ends in each of these rooms of candidates with what these rooms share.
+// The ends in each of these rooms of candidates with what no room changes.
 fn ends_near(
     alloc: Global,
     galley: &Galley,
     style: &Style,
-    nears: &NearList<'_>,
+    nears: &NearList,
     rooms: &[i64],
 ) -> Result<EndLists, AllocError>
     requires { AllByRecursion (λ (room : ℤ). nat_abs room < 2 ^ 40) rooms.now }
-    ensures { IfOk result (λ lists. (from : APlace) (least top : ℤ) (cs : List ACandidate) →
-        AreNear (document galley.now style.now) least cs nears.now → AreFrom least rooms.now → AreUpTo top rooms.now →
-        AreCandidates (document galley.now style.now) from top cs →
+    ensures { IfOk result (λ lists. (from : APlace) (top : ℤ) →
+        AreNearFrom (document galley.now style.now) from top nears.now → AreUpTo top rooms.now →
         AreEndsInEach (document galley.now style.now) from rooms.now lists) }
 {
     let mut lists = EndLists::new(alloc);
@@ -111,23 +79,6 @@ fn ends_near(
         left = after;
     }
     Ok(lists)
-}
-
-// The ends in each of these rooms of the candidates of a place.
-fn ends_each(
-    alloc: Global,
-    galley: &Galley,
-    style: &Style,
-    found: &CandidateList,
-    rooms: &[i64],
-) -> Result<EndLists, AllocError>
-    requires { AllByRecursion (λ (room : ℤ). nat_abs room < 2 ^ 40) rooms.now }
-    ensures { IfOk result (λ lists. (from : APlace) (top : ℤ) → AreUpTo top rooms.now →
-        AreCandidates (document galley.now style.now) from top found.now →
-        AreEndsInEach (document galley.now style.now) from rooms.now lists) }
-{
-    let nears = found.near(alloc, galley, style, least_of(rooms))?;
-    ends_near(alloc, galley, style, &nears, rooms)
 }
 
 /// The ends in each of these rooms in scaled points, in order, from one walk: for each what `ends` gives.
@@ -144,6 +95,6 @@ pub fn ends_many(
     requires size { AllByRecursion (λ (room : ℤ). nat_abs room < 2 ^ 40) rooms.now }
     ensures { IfOk result (AreEndsInEach (document galley.now style.now) from rooms.now) }
 {
-    let found = candidates(alloc, galley, style, from, top_of(rooms))?;
-    ends_each(alloc, galley, style, &found, rooms)
+    let nears = near_from(alloc, galley, style, from, top_of(rooms))?;
+    ends_near(alloc, galley, style, &nears, rooms)
 }

@@ -99,7 +99,7 @@ not_true : (b : Bool) → not (not b) ≡ true → b ≡ true
 not_true true e = refl
 not_true false e = absurd cc
 
-fits_more : (o : Option ℤ) (height top : ℤ) → height ≤ℤ top → fits o height ≡ true → fits o top ≡ true
+pub fits_more : (o : Option ℤ) (height top : ℤ) → height ≤ℤ top → fits o height ≡ true → fits o top ≡ true
 fits_more None height top h f = refl
 fits_more (Some x) height top h f = let a = le_int x height f in int_le_of x top (omega (arith, ints, a, h))
 

@@ -1,8 +1,10 @@
 use Rattle.pg_sources.specs.Document.{doc_of}
-use Rattle.pg_moves.proofs.AllSteps.{all_made, begun}
+use Rattle.pg_rooms.proofs.Kept.{begun}
+use Rattle.pg_moves.proofs.AllSteps.{all_made}
 use Rattle.pg_moves.proofs.opening.open.Goals as goal
 
 pub returns-clause-moves : goal.returns-clause-moves
 returns-clause-moves c = all_made (doc_of c.args.sources.now) c.args.state.now c.open_by.result _
     (begun (doc_of c.args.sources.now) c.args.state.now.place c.new-kept.result c.in_ok-walk.walk
-    c.new-kept.ensures.walk c.new-kept.ensures.rooms c.in_ok-walk.ensures.found) c.open_by.ensures.moves
+    c.new-kept.ensures.walk c.new-kept.ensures.rooms c.new-kept.ensures.calls c.in_ok-walk.ensures.near)
+    c.open_by.ensures.moves

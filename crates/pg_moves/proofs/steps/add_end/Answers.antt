@@ -46,9 +46,11 @@ returns-clause-behind g c = behind g (goal.at.returns-clause-behind g c).After-e
 pub returns-clause-added : goal.returns-clause-added
 returns-clause-added g c = λ goes. stepped (doc_of c.args.sources.now) c.args.state.now
     c.args.laid.now c.requires.laid (g.W.Wants.spares c.args.wants.now) c.args.end.now c.args.settled.now
-    c.in_ok-step_to.field-0 (sym c.ends_here.ensures ∙ c.if-ends_here.false)
-    (λ settles. c.in_ok-step_to.ensures ∙ asked_is (doc_of c.args.sources.now) c.args.state.now c.args.laid.now
-    c.requires.laid c.args.end.now c.args.settled.now c.args.behind.now c.end_at.new.self _
-    c.end_at.ensures c.requires.behind
-    (to_z-of_z w128 c.cost_to-cost.result (record { sfits = search rules }) ∙ c.cost_to-cost.ensures) settles)
-    goes c.args.steps.now c.push.new.self c.in_ok-push.ensures.ok
+    (step (doc_of c.args.sources.now) c.args.state.now c.args.laid.now c.requires.laid c.end_at.new.self.state
+    (move_of c.args.state.now c.args.laid.now.layout c.args.end.now.to c.args.end.now.picks)
+    (to_z w128 (of_z w128 c.cost_to-cost.result)))
+    (sym c.ends_here.ensures ∙ c.if-ends_here.false)
+    (asked_is (doc_of c.args.sources.now) c.args.state.now c.args.laid.now c.requires.laid c.args.end.now
+    c.args.settled.now c.args.behind.now c.end_at.new.self _ c.end_at.ensures c.requires.behind
+    (to_z-of_z w128 c.cost_to-cost.result (record { sfits = search rules }) ∙ c.cost_to-cost.ensures))
+    goes c.args.steps.now c.push_step.new.steps c.in_ok-push_step.ensures

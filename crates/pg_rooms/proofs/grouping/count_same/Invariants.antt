@@ -1,13 +1,14 @@
 use Rattle.std.proofs.Common.{◌≡◌, take}
 use Rattle.std.specs.List.{AllByRecursion}
 use Rattle.pg_ends.specs.declared.end.End.{End}
-use Rattle.pg_rules.specs.Floats.{called}
+use Rattle.pg_sources.specs.Document.{doc_of}
+use Rattle.pg_rooms.specs.Calls.{AreCalls, IsLike}
 use Rattle.pg_rooms.proofs.grouping.count_same.Given as goal
 
 abbrev pub invariant-loop-end : goal.invariant-loop-end
 invariant-loop-end l = record {
-  seen : l.counts ≡ called l.sources.galley.now.blocks l.sources.style.now l.seen;
-  same : AllByRecursion (λ (end : End). l.counts ≡ called l.sources.galley.now.blocks l.sources.style.now end.to)
-      (take l.end-index l.ends);
+  same : AreCalls (doc_of l.sources) l.initial.calls.items.items →
+      AllByRecursion (λ (end : End). IsLike (doc_of l.sources) l.like end.to) (take l.end-index l.ends);
+  calls : AreCalls (doc_of l.sources) l.initial.calls.items.items → AreCalls (doc_of l.sources) l.calls.items.items;
   count : l.count ≡ l.end-index;
 }

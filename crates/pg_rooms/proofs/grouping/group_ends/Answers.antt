@@ -1,23 +1,43 @@
-use Rattle.std.proofs.Common.{refl, ◌+◌, rules, arith}
+use Rattle.std.proofs.Common.{refl, sym, subst, ◌∙◌, ◌+◌, ◌++◌, rules, arith, List}
 use Rattle.std.proofs.lemmas.List.{take_rest}
 use Rattle.pg_sources.specs.Document.{doc_of}
+use Rattle.pg_rooms.specs.PlaceEnds.{AreGroups}
+use Rattle.pg_rooms.specs.declared.grouping.Group.{Group}
+use Rattle.pg_rooms.proofs.Called.{all_like}
 use Rattle.pg_rooms.proofs.Grouped.{all_grouped, one_group, split_first, still_few}
 use Rattle.pg_rooms.proofs.grouping.group_ends.Goals as goal
 
+pub groups-init : goal.groups-init
+groups-init c = record {
+  groups = λ all more g. subst (λ (found : List Group). AreGroups (doc_of c.args.sources.now) (found ++ more)
+      c.args.ends.now) (sym c.new-groups.ensures.items) g;
+  calls = λ all. all;
+  few = search rules;
+}
+
 pub groups-preserved : goal.groups-preserved
 groups-preserved c = record {
-  groups = one_group (doc_of c.args.sources.now) c.groups.groups.items c.push.new.self.items c.args.ends.now
+  groups = λ all.
+      let calls = c.groups.invariant.calls all in
+      one_group (doc_of c.args.sources.now) c.groups.groups.items c.push.new.self.items c.args.ends.now
       c.groups.rest.now _ _ c.first-item.result
       (record { called = c.in_ok-called.called; count = c.in_ok-more.more + 1 }) c.in_ok-more.more
-      c.groups.invariant.groups (split_first c.groups.rest.now c.first-item.result (search rules) c.first-item.is)
-      refl c.in_ok-called.ensures c.in_ok-more.ensures.same (search rules) (take_rest _ c.in_ok-more.more);
+      (c.groups.invariant.groups all) (split_first c.groups.rest.now c.first-item.result (search rules) c.first-item.is)
+      refl (c.in_ok-called.ensures ∙ (c.in_ok-like.ensures.like calls).same)
+      (all_like (doc_of c.args.sources.now) _ _ _ c.in_ok-called.ensures
+      (c.in_ok-more.ensures.same (c.in_ok-like.ensures.calls calls)))
+      (search rules) (take_rest _ c.in_ok-more.more);
+  calls = λ all. c.in_ok-more.ensures.calls (c.in_ok-like.ensures.calls (c.groups.invariant.calls all));
   few = still_few c.args.ends.now c.groups.rest.now _ _ c.first-item.result c.in_ok-more.more
       (split_first c.groups.rest.now c.first-item.result (search rules) c.first-item.is)
       (take_rest _ c.in_ok-more.more) c.groups.invariant.few;
 }
 
-pub returns : goal.returns
-returns c =
+pub returns-clause-groups : goal.returns-clause-groups
+returns-clause-groups c = λ all.
     let below = c.in_default.len_below in
     all_grouped (doc_of c.args.sources.now) c.groups.groups.items c.args.ends.now c.groups.rest.now
-    c.groups.invariant.groups (omega (arith, below))
+    (c.groups.invariant.groups all) (omega (arith, below))
+
+pub returns-clause-calls : goal.returns-clause-calls
+returns-clause-calls c = λ all. c.groups.invariant.calls all

@@ -1,7 +1,7 @@
-use Rattle.std.proofs.Common.{rules, sym, subst, ◌∙◌, ℤ, w64}
+use Rattle.std.proofs.Common.{rules, sym, subst, ◌∙◌, ℤ, ◌≤ℤ◌, w64}
 use Rattle.std.proofs.lemmas.Int.{to_z-of_z}
 use Rattle.pg_sources.specs.Document.{doc_of}
-use Rattle.pg_rooms.specs.PlaceEnds.{IsWithin}
+use Rattle.pg_walk_laws.specs.Reached.{tallest}
 use Rattle.pg_rooms.proofs.Kept.{has_added, has_still, rooms_added}
 use Rattle.pg_rooms.proofs.place_ends.add_room.Goals as goal
 
@@ -14,7 +14,10 @@ returns-clause-keeps c = λ other h. has_still c.args.rooms.now.items c.push.new
     (search rules) h
 
 pub returns-clause-right : goal.returns-clause-right
-returns-clause-right c = λ from least near within are. rooms_added (doc_of c.args.sources.now) from
+returns-clause-right c = λ from near within calls are. rooms_added (doc_of c.args.sources.now) from
     c.args.rooms.now.items c.push.new.self.items c.in_ok-ends.ends (search rules) are
-    (c.in_ok-ends.ensures.right from least near (subst (IsWithin c.args.sources.now.style.now least)
-    (sym (to_z-of_z w64 c.args.room (record { sfits = c.ranges.room.sfits }))) within))
+    (c.in_ok-ends.ensures.right from near (subst (λ (z : ℤ). z ≤ℤ tallest c.args.sources.now.style.now)
+    (sym (to_z-of_z w64 c.args.room (record { sfits = c.ranges.room.sfits }))) within) calls)
+
+pub returns-clause-calls : goal.returns-clause-calls
+returns-clause-calls c = c.in_ok-ends.ensures.calls

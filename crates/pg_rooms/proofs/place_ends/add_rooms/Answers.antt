@@ -1,9 +1,13 @@
-use Rattle.std.proofs.Common.{rules, ◌≡◌, sym, subst, true, ℤ, w64}
+use Rattle.std.proofs.Common.{rules, ◌≡◌, sym, subst, true, ℤ, ◌≤ℤ◌, w64}
 use Rattle.std.proofs.lemmas.Int.{to_z-of_z}
 use Rattle.pg_laid.specs.declared.laid.Laid.{Laid}
-use Rattle.pg_rooms.specs.PlaceEnds.{IsWithin, has_room}
-use Rattle.pg_rooms.proofs.Kept.{all_contain, has_each, has_more}
+use Rattle.pg_walk_laws.specs.Reached.{tallest}
+use Rattle.pg_rooms.specs.PlaceEnds.{has_room}
+use Rattle.pg_rooms.proofs.Kept.{all_contain, has_more}
 use Rattle.pg_rooms.proofs.place_ends.add_rooms.Goals as goal
+
+pub loop-it-init : goal.loop-it-init
+loop-it-init c = record { has = tt; right = λ from near within calls are. are; calls = λ calls. calls }
 
 pub loop-it-preserved : goal.loop-it-preserved
 loop-it-preserved c = record {
@@ -12,10 +16,11 @@ loop-it-preserved c = record {
       (subst (λ (z : ℤ). has_room c.add_room.new.rooms.items z ≡ true)
       (to_z-of_z w64 c.it-item.result.room (record { sfits = search rules })) c.in_ok-add_room.ensures.has)
       c.in_ok-add_room.ensures.keeps;
-  right = λ from least near within are. c.in_ok-add_room.ensures.right from least near
-      (subst (IsWithin c.args.sources.now.style.now least)
+  right = λ from near within calls are. c.in_ok-add_room.ensures.right from near
+      (subst (λ (z : ℤ). z ≤ℤ tallest c.args.sources.now.style.now)
       (sym (to_z-of_z w64 c.it-item.result.room (record { sfits = search rules })))
-      (all_contain (λ (it : Laid). IsWithin c.args.sources.now.style.now least it.room) c.args.laid.now c.it-item.result
+      (all_contain (λ (it : Laid). it.room ≤ℤ tallest c.args.sources.now.style.now) c.args.laid.now c.it-item.result
       within (c.loop-it.it-index, c.loop-it-test.true, sym c.it-item.is)))
-      (c.loop-it.invariant.right from least near within are);
+      (c.loop-it.invariant.calls calls) (c.loop-it.invariant.right from near within calls are);
+  calls = λ calls. c.in_ok-add_room.ensures.calls (c.loop-it.invariant.calls calls);
 }

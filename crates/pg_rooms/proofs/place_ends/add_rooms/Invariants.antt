@@ -1,16 +1,21 @@
-use Rattle.std.proofs.Common.{◌≡◌, take, true, ℤ}
+use Rattle.std.proofs.Common.{◌≡◌, take, true, ◌≤ℤ◌}
 use Rattle.std.specs.List.{AllByRecursion}
 use Rattle.pg_laid.specs.declared.laid.Laid.{Laid}
 use Rattle.pg_list.specs.declared.galley.Place.{Place}
 use Rattle.pg_sources.specs.Document.{doc_of}
-use Rattle.pg_rooms.specs.PlaceEnds.{AreNearFrom, AreRoomEnds, IsWithin, has_room}
+use Rattle.pg_rooms.specs.Calls.{AreCalls}
+use Rattle.pg_walk_laws.specs.Reached.{tallest}
+use Rattle.pg_candidates.specs.Nears.{AreNearFrom}
+use Rattle.pg_rooms.specs.PlaceEnds.{AreRoomEnds, has_room}
 use Rattle.pg_rooms.proofs.place_ends.add_rooms.Given as goal
 
 abbrev pub invariant-loop-it : goal.invariant-loop-it
 invariant-loop-it l = record {
   has : AllByRecursion (λ (it : Laid). has_room l.rooms.items it.room ≡ true) (take l.it-index l.laid);
-  right : (from : Place) (least : ℤ) → AreNearFrom (doc_of l.sources) from least l.near →
-      AllByRecursion (λ (it : Laid). IsWithin (doc_of l.sources).style least it.room) l.laid →
+  right : (from : Place) → AreNearFrom (doc_of l.sources) from (tallest (doc_of l.sources).style) l.near →
+      AllByRecursion (λ (it : Laid). it.room ≤ℤ tallest (doc_of l.sources).style) l.laid →
+      AreCalls (doc_of l.sources) l.initial.calls.items.items →
       AllByRecursion (AreRoomEnds (doc_of l.sources) from) l.initial.rooms.items →
       AllByRecursion (AreRoomEnds (doc_of l.sources) from) l.rooms.items;
+  calls : AreCalls (doc_of l.sources) l.initial.calls.items.items → AreCalls (doc_of l.sources) l.calls.items.items;
 }

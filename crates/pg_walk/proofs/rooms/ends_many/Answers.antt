@@ -1,7 +1,7 @@
 use Rattle.std.proofs.Common.{rules, subst, ℤ, w64}
 use Rattle.std.proofs.lemmas.Int.{to_z-of_z}
 use Rattle.pg_rules.specs.Legal.{document}
-use Rattle.pg_walk_laws.specs.Candidates.{AreCandidates}
+use Rattle.pg_candidates.specs.Nears.{AreNearFrom}
 use Rattle.pg_walk.proofs.Several.{for_each}
 use Rattle.pg_walk.proofs.rooms.ends_many.Goals as goal
 
@@ -9,6 +9,6 @@ pub returns : goal.returns
 returns c =
     let doc = document c.args.galley.now c.args.style.now in
     let top = to_z-of_z w64 c.top_of.result (record { sfits = search rules }) in
-    for_each c.ends_each.result doc c.args.from c.top_of.result c.args.rooms.now c.in_ok-found.found c.top_of.ensures
-    (subst (λ (z : ℤ). AreCandidates doc c.args.from z c.in_ok-found.found) top c.in_ok-found.ensures)
-    c.ends_each.ensures
+    for_each c.ends_near.result doc c.args.from c.top_of.result c.args.rooms.now c.in_ok-nears.nears c.top_of.ensures
+    (subst (λ (z : ℤ). AreNearFrom doc c.args.from z c.in_ok-nears.nears) top c.in_ok-nears.ensures)
+    c.ends_near.ensures

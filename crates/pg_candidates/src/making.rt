@@ -1,0 +1,154 @@
+//! What no room changes, worked out candidate by candidate.
+ghost use Rattle.std.specs.Prelude.{◌≡◌, ◌++◌, ◌∷◌, [], IfOk, IfSome, List, Some, map, slice_get, true, ℕ};
+ghost use Rattle.pg_list.specs.GalleyValue.{GalleyValue};
+ghost use Rattle.pg_rules.specs.Legal.{document};
+ghost use Rattle.pg_walk_laws.specs.Candidates.{Candidate as ACandidate};
+ghost use Rattle.pg_candidates.specs.Nears.{IsHopelessFrom, IsNear, IsServedFrom, IsWorst, kind_at as kind_at_of};
+ghost use Rattle.pg_candidates.specs.Seen.{AreSeen, AreServed};
+ghost use Rattle.pg_candidates.specs.View.{candidate_of};
+
+use crate::candidate::Candidate;
+use crate::kind::{EndKind, kind_at};
+use crate::near::Near;
+use crate::order::Ranked;
+use crate::until::{until_alone, until_beside, worst_from};
+use pg_list::{Galley, Place};
+use pg_style::Style;
+use std::alloc::{AllocError, Global};
+
+// The first candidate of a place, the kind of its end, which all ends there share, and a room in which its badness is the
+// worst, if one was found.
+#[derive(Clone, Copy, Debug)]
+struct First {
+    at: usize,
+    kind: EndKind,
+    worst: Option<i64>,
+}
+
+// Whether a candidate's end is at a place.
+fn is_at(candidate: &Candidate, place: Place) -> bool
+    ensures { result ≡ true → candidate.now.to ≡ place }
+{
+    candidate.to == place
+}
+
+// The first candidate of the last place, where it is this one.
+fn first_beside(candidates: &[Candidate], first: Option<First>, to: Place) -> Option<First>
+    ensures is { IfSome result (λ it. first ≡ Some it) }
+    ensures place { IfSome result (λ it. (one : ACandidate) →
+        slice_get (map candidate_of candidates.now) it.at ≡ Some one → one.to ≡ to) }
+{
+    let it = first?;
+    if is_at(candidates.get(it.at)?, to) {
+        Some(it)
+    } else {
+        None
+    }
+}
+
+// Of a candidate that is the first of its place.
+fn near_first(style: &Style, first: First, candidate: &Candidate) -> Near
+    ensures at { result.at ≡ first.at }
+    ensures near { (g : GalleyValue) → first.kind ≡ kind_at_of g.blocks candidate.now.to →
+        IsNear (document g style.now) (candidate_of candidate.now) result }
+    ensures until { (g : GalleyValue) → first.kind ≡ kind_at_of g.blocks candidate.now.to →
+        IfSome first.worst (IsWorst style.now (candidate_of candidate.now)) →
+        IfSome result.until (IsHopelessFrom (document g style.now) (candidate_of candidate.now)) }
+{
+    Near {
+        at: first.at,
+        notes: candidate.passed.notes.height(style),
+        kind: first.kind,
+        until: until_alone(style, first.kind, first.worst),
+    }
+}
+
+// The room from which on the end of a candidate is not needed beside the first one of its place, if one was found.
+fn until_behind(
+    style: &Style,
+    candidates: &[Candidate],
+    first: First,
+    candidate: &Candidate,
+) -> Option<i64>
+    ensures { (g : GalleyValue) (one : ACandidate) → slice_get (map candidate_of candidates.now) first.at ≡ Some one →
+        one.to ≡ candidate.now.to → first.kind ≡ kind_at_of g.blocks candidate.now.to →
+        IfSome first.worst (IsWorst style.now one) →
+        IfSome result (IsServedFrom (document g style.now) one (candidate_of candidate.now)) }
+{
+    let one = candidates.get(first.at)?;
+    until_beside(style, first.kind, first.worst, one, candidate)
+}
+
+// Of a candidate behind the first one of its place.
+fn near_behind(
+    style: &Style,
+    candidates: &[Candidate],
+    first: First,
+    at: usize,
+    candidate: &Candidate,
+) -> Near
+    ensures at { result.at ≡ at }
+    ensures near { (g : GalleyValue) → first.kind ≡ kind_at_of g.blocks candidate.now.to →
+        IsNear (document g style.now) (candidate_of candidate.now) result }
+    ensures until { (g : GalleyValue) (one : ACandidate) →
+        slice_get (map candidate_of candidates.now) first.at ≡ Some one →
+        one.to ≡ candidate.now.to → first.kind ≡ kind_at_of g.blocks candidate.now.to →
+        IfSome first.worst (IsWorst style.now one) →
+        IfSome result.until (IsServedFrom (document g style.now) one (candidate_of candidate.now)) }
+{
+    Near {
+        at,
+        notes: candidate.passed.notes.height(style),
+        kind: first.kind,
+        until: until_behind(style, candidates, first, candidate),
+    }
+}
+
+// Adds what no room changes of the candidate that is told, and answers which is the first of its place.
+fn add_near(
+    galley: &Galley,
+    style: &Style,
+    candidates: &[Candidate],
+    it: &Ranked,
+    first: Option<First>,
+    nears: &mut Vec<Near>,
+) -> Result<Option<First>, AllocError>
+    ensures { IfOk result (λ next. (seen : List ℕ) →
+        AreSeen (document galley.now style.now) (map candidate_of candidates.now) seen first nears.old.items →
+        AreSeen (document galley.now style.now) (map candidate_of candidates.now) (seen ++ it.now.at ∷ []) next
+        nears.new.items) }
+{
+    let Some(candidate) = candidates.get(it.at) else {
+        return Ok(first);
+    };
+    if let Some(same) = first_beside(candidates, first, candidate.to) {
+        nears.push(near_behind(style, candidates, same, it.at, candidate))?;
+        return Ok(Some(same));
+    }
+    let own = First {
+        at: it.at,
+        kind: kind_at(galley, candidate.to),
+        worst: worst_from(style, candidate),
+    };
+    nears.push(near_first(style, own, candidate))?;
+    Ok(Some(own))
+}
+
+// What no room changes of the candidates in this order, in which those of one place follow one another.
+pub(crate) fn nears_of(
+    alloc: Global,
+    galley: &Galley,
+    style: &Style,
+    candidates: &[Candidate],
+    order: &[Ranked],
+) -> Result<Vec<Near>, AllocError>
+    ensures { IfOk result (λ nears. AreServed (document galley.now style.now) (map candidate_of candidates.now)
+        (map (λ it. it.at) order.now) nears.items) }
+{
+    let mut nears = Vec::with_capacity(alloc, order.len())?;
+    let mut first = None;
+    'each: for it in order {
+        first = add_near(galley, style, candidates, it, first, &mut nears)?;
+    }
+    Ok(nears)
+}

@@ -1,0 +1,162 @@
+//! The room from which on the end of a candidate is not needed.
+ghost use Rattle.std.specs.Prelude.{◌≡◌, ◌<◌, ◌^◌, ◌≤ℤ◌, ◌<ℤ◌, IfSome, false, nat_abs, true};
+ghost use Rattle.pg_breaks.specs.Near.{place_spent};
+ghost use Rattle.pg_column.specs.Passed.{fits};
+ghost use Rattle.pg_list.specs.GalleyValue.{GalleyValue};
+ghost use Rattle.pg_rules.specs.Legal.{document};
+ghost use Rattle.pg_sums.specs.Step.{badness_by};
+ghost use Rattle.pg_walk_laws.specs.Best.{IsCheaper};
+ghost use Rattle.pg_walk_laws.specs.Candidates.{Candidate as ACandidate};
+ghost use Rattle.pg_candidates.specs.Nears.{IsHopelessFrom, IsServedFrom, IsWorst, kind_at};
+ghost use Rattle.pg_candidates.specs.View.{candidate_of};
+
+use crate::candidate::Candidate;
+use crate::kind::EndKind;
+use pg_plan::compare_picks;
+use pg_style::Style;
+use pg_sums::Sums;
+use pg_whole::plus;
+use std::cmp::Ordering;
+
+// Whether a number is below 2^40 in size.
+fn is_small(number: i64) -> bool
+    ensures { result ≡ true → nat_abs number < 2 ^ 40 }
+{
+    number.unsigned_abs() < 1 << 40
+}
+
+// More than some stretch fills with a badness below the worst.
+fn past(stretch: i64) -> i64
+    requires { nat_abs stretch < 2 ^ 40 }
+    ensures { nat_abs result < 2 ^ 43 }
+{
+    if stretch > 0 { 5 * stretch + 1 } else { 1 }
+}
+
+// A goal that is likely to be so far above a total that the badness is the worst; none where the numbers are large.
+fn far_goal(total: i64, stretch: i64) -> Option<i64>
+    ensures { IfSome result (λ goal. nat_abs goal < 2 ^ 52) }
+{
+    if is_small(total) && is_small(stretch) {
+        Some(total + past(stretch))
+    } else {
+        None
+    }
+}
+
+// Whether sums are so far below a goal that their badness is the worst.
+fn is_worst(sums: &Sums, goal: i64) -> bool
+    requires { nat_abs goal < 2 ^ 52 }
+    ensures short { result ≡ true → sums.now.totals.total <ℤ goal }
+    ensures bad { result ≡ true → badness_by false goal sums.now.totals ≡ 10000 }
+{
+    sums.total() < goal && sums.page_badness(goal, false) == 10000
+}
+
+// A room in which what was passed is so far below its goal that the badness is the worst, if one was found. So it is in
+// each greater room.
+pub(crate) fn worst_from(style: &Style, candidate: &Candidate) -> Option<i64>
+    ensures { IfSome result (IsWorst style.now (candidate_of candidate.now)) }
+{
+    let sums = &candidate.passed.sums;
+    let goal = far_goal(sums.total(), sums.totals().finite)?;
+    if is_worst(sums, goal) {
+        Some(plus(goal, candidate.passed.notes.height(style)))
+    } else {
+        None
+    }
+}
+
+// Whether the worst badness is no end of this kind: it is neither forced nor spent, and the tolerance is below that.
+fn is_refused(style: &Style, kind: EndKind) -> bool
+    ensures forced { result ≡ true → kind.is_forced ≡ false }
+    ensures spent { result ≡ true → kind.is_spent ≡ false }
+    ensures strict { result ≡ true → style.now.tolerance < 10000 }
+{
+    !kind.is_forced && !kind.is_spent && style.tolerance < 10000
+}
+
+// The room from which on no column to the end of a candidate keeps the rules, if one is known: one in which its badness is
+// the worst, where that is refused.
+pub(crate) fn until_alone(style: &Style, kind: EndKind, worst: Option<i64>) -> Option<i64>
+    ensures { (g : GalleyValue) (c : ACandidate) → kind ≡ kind_at g.blocks c.to → IfSome worst (IsWorst style.now c) →
+        IfSome result (IsHopelessFrom (document g style.now) c) }
+{
+    if is_refused(style, kind) { worst } else { None }
+}
+
+// Whether the picks of a candidate cost less than those of another, or the same and are not after them.
+fn is_cheaper(one: &Candidate, other: &Candidate) -> bool
+    ensures { result ≡ true →
+        IsCheaper one.now.pick_demerits one.now.picks other.now.pick_demerits other.now.picks }
+{
+    if one.pick_demerits < other.pick_demerits {
+        return true;
+    }
+    one.pick_demerits <= other.pick_demerits
+        && !matches!(
+            compare_picks(one.picks.as_slice(), other.picks.as_slice()),
+            Ordering::Greater
+        )
+}
+
+// The greater of two rooms.
+fn greater(a: i64, b: i64) -> i64
+    ensures first { a ≤ℤ result }
+    ensures second { b ≤ℤ result }
+{
+    if a < b { b } else { a }
+}
+
+// A room that is not below another, and not below a bound.
+fn raised(bound: Option<i64>, room: i64) -> i64
+    ensures room { room ≤ℤ result }
+    ensures fits { fits bound result ≡ true }
+{
+    match bound {
+        Some(least) => greater(least, room),
+        None => room,
+    }
+}
+
+// The room from which on a candidate has the same numbers as another of its place that is cheaper and suits too, if one
+// was found, with a room in which the other's badness is the worst.
+fn until_cheaper(
+    style: &Style,
+    worst: Option<i64>,
+    one: &Candidate,
+    other: &Candidate,
+) -> Option<i64>
+    ensures { (g : GalleyValue) → one.now.to ≡ other.now.to → place_spent g.blocks other.now.to ≡ false →
+        IfSome worst (IsWorst style.now (candidate_of one.now)) →
+        IfSome result (IsServedFrom (document g style.now) (candidate_of one.now) (candidate_of other.now)) }
+{
+    let own = worst?;
+    if !is_cheaper(one, other) {
+        return None;
+    }
+    let room = greater(own, worst_from(style, other)?);
+    Some(raised(one.passed.bound, room))
+}
+
+// The room from which on the end of a candidate is not needed beside that of another of its place, if one was found: no
+// column to it keeps the rules from there on, or the other serves for it.
+pub(crate) fn until_beside(
+    style: &Style,
+    kind: EndKind,
+    worst: Option<i64>,
+    one: &Candidate,
+    other: &Candidate,
+) -> Option<i64>
+    ensures { (g : GalleyValue) → one.now.to ≡ other.now.to → kind ≡ kind_at g.blocks other.now.to →
+        IfSome worst (IsWorst style.now (candidate_of one.now)) →
+        IfSome result (IsServedFrom (document g style.now) (candidate_of one.now) (candidate_of other.now)) }
+{
+    if kind.is_spent {
+        return None;
+    }
+    if is_refused(style, kind) {
+        return until_alone(style, kind, worst_from(style, other));
+    }
+    until_cheaper(style, worst, one, other)
+}

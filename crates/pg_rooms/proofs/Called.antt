@@ -1,0 +1,39 @@
+-- Places before which the same floats are called.
+use Rattle.std.proofs.Common.{◌≡◌, sym, subst, ◌∙◌, ℕ, Option, Some, None, List, [], ◌∷◌, take, drop}
+use Rattle.std.specs.Prelude.{IfSome}
+use Rattle.std.specs.List.{AllByRecursion, insert}
+use Rattle.pg_ends.specs.declared.end.End.{End}
+use Rattle.pg_lemmas.proofs.Lists.{all_append, all_drop, all_take}
+use Rattle.pg_list.specs.declared.galley.Place.{Place}
+use Rattle.pg_rules.specs.Floats.{called}
+use Rattle.pg_rules.specs.Room.{Document}
+use Rattle.pg_rooms.specs.Calls.{AreCalls, IsLike}
+use Rattle.pg_rooms.specs.declared.calls.Call.{Call}
+
+-- where none is kept
+pub no_calls : (doc : Document) → AreCalls doc []
+no_calls doc = record { all = tt }
+
+-- one call more
+pub call_more : (doc : Document) (calls now : List Call) (i : ℕ) (call : Call) → now ≡ insert calls i call →
+    IsLike doc call.like call.at → AreCalls doc calls → AreCalls doc now
+call_more doc calls now i call put own are =
+    let P = λ (it : Call). IsLike doc it.like it.at in
+    record {
+      all = subst (AllByRecursion P) (sym put) (all_append P (take i calls) (call ∷ drop i calls)
+          (all_take P i calls are.all) (own, all_drop P i calls are.all));
+    }
+
+-- a place before which so many floats are called as before another one
+pub some_like : (doc : Document) (at : Place) (counts : List ℕ) (o : Option Place) →
+    counts ≡ called doc.blocks doc.style at → IfSome o (λ like. called doc.blocks doc.style like ≡ counts) →
+    IfSome o (λ like. IsLike doc like at)
+some_like doc at counts None own so = tt
+some_like doc at counts (Some like) own so = record { same = so ∙ own }
+
+-- ends of which each is like a place have what is called before it
+pub all_like : (doc : Document) (counts : List ℕ) (like : Place) (ends : List End) →
+    counts ≡ called doc.blocks doc.style like → AllByRecursion (λ (end : End). IsLike doc like end.to) ends →
+    AllByRecursion (λ (end : End). counts ≡ called doc.blocks doc.style end.to) ends
+all_like doc counts like [] e all = tt
+all_like doc counts like (end ∷ ends) e all = (e ∙ all.0.same, all_like doc counts like ends e all.1)
