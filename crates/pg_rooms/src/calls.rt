@@ -155,7 +155,6 @@ fn like_near(
 }
 
 // Adds the call of a place behind so many others, and answers the place that it names.
-#[cold]
 #[inline(never)]
 fn add_call(
     sources: &Sources<'_>,
@@ -169,6 +168,29 @@ fn add_call(
         AreCalls (doc_of sources.now) calls.new.items) }
 {
     let like = like_near(sources, calls.as_slice(), at, place)?;
+    calls.insert(at, Call { at: place, like })?;
+    Ok(like)
+}
+
+// The same beside a place before which so many floats are called, which it names where as many are called before it.
+#[inline(never)]
+fn add_beside(
+    sources: &Sources<'_>,
+    calls: &mut Vec<Call>,
+    at: usize,
+    counts: &Counts,
+    like: Place,
+    place: Place,
+) -> Result<Place, AllocError>
+    requires within { at ≤ length calls.old.items }
+    requires counts { counts.now ≡ called sources.now.galley.now.blocks sources.now.style.now like }
+    ensures like { IfOk result (λ its. IsLike (doc_of sources.now) its place) }
+    ensures calls { OnOk result (AreCalls (doc_of sources.now) calls.old.items →
+        AreCalls (doc_of sources.now) calls.new.items) }
+{
+    if !calls_so_many(sources, counts, place)? {
+        return add_call(sources, calls, at, place);
+    }
     calls.insert(at, Call { at: place, like })?;
     Ok(like)
 }
@@ -190,5 +212,28 @@ pub(crate) fn like_of(
     match like_at(calls.items.as_slice(), at, place) {
         Some(like) => Ok(like),
         None => add_call(sources, &mut calls.items, at, place),
+    }
+}
+
+/// The same beside a place before which so many floats are called: where the call is missing, what is called is counted
+/// once.
+pub(crate) fn like_beside(
+    sources: &Sources<'_>,
+    calls: &mut Calls,
+    counts: &Counts,
+    like: Place,
+    place: Place,
+) -> Result<Place, AllocError>
+    requires { counts.now ≡ called sources.now.galley.now.blocks sources.now.style.now like }
+    ensures like { IfOk result (λ its. AreCalls (doc_of sources.now) calls.old.items.items →
+        IsLike (doc_of sources.now) its place) }
+    ensures calls { OnOk result (AreCalls (doc_of sources.now) calls.old.items.items →
+        AreCalls (doc_of sources.now) calls.new.items.items) }
+{
+    let at = skip_to(calls.items.as_slice(), calls.at, &place);
+    calls.at = at;
+    match like_at(calls.items.as_slice(), at, place) {
+        Some(its) => Ok(its),
+        None => add_beside(sources, &mut calls.items, at, counts, like, place),
     }
 }

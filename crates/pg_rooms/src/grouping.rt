@@ -2,11 +2,12 @@
 ghost use Rattle.std.specs.Prelude.{◌≡◌, ◌≤◌, IfOk, OnOk, length, take};
 ghost use Rattle.std.specs.List.{AllByRecursion};
 ghost use Rattle.pg_ends.specs.declared.end.End.{End as AnEnd};
+ghost use Rattle.pg_rules.specs.Floats.{called};
 ghost use Rattle.pg_sources.specs.Document.{doc_of};
 ghost use Rattle.pg_rooms.specs.Calls.{AreCalls, IsLike};
 ghost use Rattle.pg_rooms.specs.PlaceEnds.{AreGroups};
 
-use crate::calls::{Calls, is_same, like_of};
+use crate::calls::{Calls, is_same, like_beside, like_of};
 use pg_ends::End;
 use pg_list::Place;
 use pg_plan::Counts;
@@ -25,9 +26,11 @@ pub struct Group {
 fn count_same(
     sources: &Sources<'_>,
     calls: &mut Calls,
+    counts: &Counts,
     like: Place,
     ends: &[End],
 ) -> Result<usize, AllocError>
+    requires { counts.now ≡ called sources.now.galley.now.blocks sources.now.style.now like }
     ensures same { IfOk result (λ count. AreCalls (doc_of sources.now) calls.old.items.items →
         AllByRecursion (λ (end : AnEnd). IsLike (doc_of sources.now) like end.to) (take count ends.now)) }
     ensures calls { OnOk result (AreCalls (doc_of sources.now) calls.old.items.items →
@@ -36,7 +39,7 @@ fn count_same(
 {
     let mut count = 0;
     for end in ends {
-        let its = like_of(sources, calls, end.to)?;
+        let its = like_beside(sources, calls, counts, like, end.to)?;
         if !is_same(like, its) {
             return Ok(count);
         }
@@ -63,7 +66,7 @@ pub(crate) fn group_ends(
     'groups: while let [first, after @ ..] = rest {
         let like = like_of(sources, calls, first.to)?;
         let called = sources.called(like)?;
-        let more = count_same(sources, calls, like, after)?;
+        let more = count_same(sources, calls, &called, like, after)?;
         groups.push(Group {
             called,
             count: more + 1,
