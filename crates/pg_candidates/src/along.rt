@@ -1,10 +1,13 @@
 //! The ends along a stretch.
-ghost use Rattle.std.specs.Prelude.{◌≡◌, ◌≤◌, ◌+◌, ◌^◌, ◌++◌, true, OnOk, IfOk, IfSome, length};
+ghost use Rattle.std.specs.Prelude.{◌≡◌, ◌≤◌, ◌+◌, ◌^◌, ◌++◌, true, None, OnOk, IfOk, IfSome, length};
 ghost use Rattle.pg_list.specs.Places.{place as place_of};
+ghost use Rattle.pg_list.specs.GalleyValue.{GalleyValue};
 ghost use Rattle.pg_rules.specs.Legal.{document};
-ghost use Rattle.pg_column.specs.Passed.{fits};
+ghost use Rattle.pg_column.specs.Passed.{fits, is_end_here};
+ghost use Rattle.pg_walk_laws.specs.Reached.{reach_along};
 ghost use Rattle.pg_walk_laws.specs.Walk.{end_here, ends_along, past_stretch};
 ghost use Rattle.pg_stretch.specs.Ahead.{IsSettled, front_ahead, items_ahead};
+ghost use Rattle.pg_stretch.specs.Quiet.{is_quiet, passed_along};
 ghost use Rattle.pg_stretch.specs.View.{IsFor, view};
 ghost use Rattle.pg_candidates.specs.View.{passed_of};
 
@@ -15,20 +18,20 @@ use pg_stretch::{Cursor, Passed, State};
 use pg_style::Style;
 use std::alloc::AllocError;
 
-// Adds an end at a place where one may be.
+// Adds an end at a place where one may be, if it is a break behind a box.
 fn end_at(
-    galley: &Galley,
     style: &Style,
     at: Place,
+    is_end: bool,
     passed: &Passed,
     picks: &Picks,
     demerits: i64,
     found: &mut CandidateList,
 ) -> Result<(), AllocError>
-    ensures { OnOk result (found.new ≡ found.old
-        ++ end_here (document galley.now style.now) picks.now demerits at (view passed.now)) }
+    ensures { OnOk result ((g : GalleyValue) → is_end ≡ is_end_here g.blocks (view passed.now) at →
+        found.new ≡ found.old ++ end_here (document g style.now) picks.now demerits at (view passed.now)) }
 {
-    if passed.is_end(galley, at) && passed.is_within_limits(style) {
+    if is_end && passed.is_within_limits(style) {
         found.push(Candidate {
             to: at,
             picks: picks.copy()?,
@@ -37,6 +40,93 @@ fn end_at(
         })?;
     }
     Ok(())
+}
+
+/// What a walk along a stretch tells: what was passed with the front behind it, where some room up to the greatest one
+/// lets pass, the greatest block on the way, and whether the notes passed take no room.
+#[derive(Clone, Copy, Debug)]
+pub struct Walked {
+    pub state: Option<State>,
+    pub greatest: u32,
+    pub is_quiet: bool,
+}
+
+// A walk that ended at a break, with what was passed up to it.
+fn stopped(style: &Style, passed: &Passed, greatest: u32) -> Walked
+    ensures { result ≡ record {
+      state = None;
+      greatest = greatest;
+      is_quiet = is_quiet style.now (view passed.now);
+    } }
+{
+    Walked {
+        state: None,
+        greatest,
+        is_quiet: passed.is_quiet(style),
+    }
+}
+
+/// Goes through the items ahead, and adds the ends on the way, with these picks at these demerits. Answers how far it
+/// came; where the notes passed take no room, a walk without notes comes as far.
+///
+/// Conditions: as for `pass_on` of pg_stretch.
+pub fn walk_on(
+    galley: &Galley,
+    style: &Style,
+    top: i64,
+    start: Cursor,
+    before: Passed,
+    picks: &Picks,
+    demerits: i64,
+    found: &mut CandidateList,
+) -> Result<Walked, AllocError>
+    requires settled { IsSettled galley.now.blocks start }
+    requires style { IsFor style.now before }
+    requires bound { fits before.bound top ≡ true }
+    requires few { (before.sums.count + length (items_ahead galley.now.blocks start) ≤ 2 ^ 20)
+        × (before.notes.count + length (items_ahead galley.now.blocks start) ≤ 2 ^ 20) }
+    ensures ends { OnOk result (found.new ≡ found.old
+        ++ ends_along (document galley.now style.now) top picks.now demerits
+        (place_of (front_ahead galley.now.blocks start) 0 0) (view before) (items_ahead galley.now.blocks start)) }
+    ensures past { IfOk result (λ w. passed_of w.state
+        ≡ past_stretch (document galley.now style.now) top (view before) (items_ahead galley.now.blocks start)) }
+    ensures front { IfOk result (λ w. IfSome w.state (λ s. s.block ≡ front_ahead galley.now.blocks start)) }
+    ensures style { IfOk result (λ w. IfSome w.state (λ s. IsFor style.now s.passed)) }
+    ensures counts { IfOk result (λ w. IfSome w.state (λ s.
+        (s.passed.sums.count ≡ before.sums.count + length (items_ahead galley.now.blocks start))
+        × (s.passed.notes.count ≡ before.notes.count + length (items_ahead galley.now.blocks start)))) }
+    ensures reach { IfOk result (λ w. w.greatest ≡ reach_along (document galley.now style.now) top
+        (front_ahead galley.now.blocks start) (view before) (items_ahead galley.now.blocks start)) }
+    ensures quiet { IfOk result (λ w. w.is_quiet ≡ is_quiet style.now
+        (passed_along (document galley.now style.now) top (view before) (items_ahead galley.now.blocks start))) }
+{
+    let mut at = start;
+    let mut passed = before;
+    let mut greatest = 0u32;
+    'ahead: while let Some(item) = at.item(galley) {
+        let here = at.place();
+        greatest = greatest.max(here.block);
+        let is_end = passed.is_end(galley, here);
+        end_at(style, here, is_end, &passed, picks, demerits, found)?;
+        if !passed.pass_at(galley, style, here, is_end, item) {
+            return Ok(stopped(style, &passed, greatest));
+        }
+        if !passed.fits(top) {
+            return Ok(stopped(style, &passed, greatest));
+        }
+        at = at.next(galley);
+    }
+    let front = at.place();
+    let is_end = passed.is_end(galley, front);
+    end_at(style, front, is_end, &passed, picks, demerits, found)?;
+    Ok(Walked {
+        state: Some(State {
+            block: at.block,
+            passed,
+        }),
+        greatest: greatest.max(at.block),
+        is_quiet: passed.is_quiet(style),
+    })
 }
 
 /// Goes through the items ahead, and adds the ends on the way, with these picks at these demerits. Answers what was
@@ -69,22 +159,6 @@ pub fn ends_on(
         (s.passed.sums.count ≡ before.sums.count + length (items_ahead galley.now.blocks start))
         × (s.passed.notes.count ≡ before.notes.count + length (items_ahead galley.now.blocks start)))) }
 {
-    let mut at = start;
-    let mut passed = before;
-    'ahead: while let Some(item) = at.item(galley) {
-        let here = at.place();
-        end_at(galley, style, here, &passed, picks, demerits, found)?;
-        if !passed.pass(galley, style, here, item) {
-            return Ok(None);
-        }
-        if !passed.fits(top) {
-            return Ok(None);
-        }
-        at = at.next(galley);
-    }
-    end_at(galley, style, at.place(), &passed, picks, demerits, found)?;
-    Ok(Some(State {
-        block: at.block,
-        passed,
-    }))
+    let walked = walk_on(galley, style, top, start, before, picks, demerits, found)?;
+    Ok(walked.state)
 }

@@ -1,5 +1,5 @@
 //! A candidate, and a list of them.
-ghost use Rattle.std.specs.Prelude.{◌≡◌, ◌++◌, ◌∷◌, [], OnOk, map};
+ghost use Rattle.std.specs.Prelude.{◌≡◌, ◌++◌, ◌∷◌, [], IfOk, OnOk, map};
 ghost use Rattle.pg_candidates.specs.View.{candidate_of};
 
 use pg_list::Place;
@@ -35,13 +35,14 @@ impl Model for CandidateList {
 }
 
 impl CandidateList {
-    /// No candidates. No memory is taken.
-    pub fn new(alloc: Global) -> CandidateList
-        ensures { result ≡ [] }
+    /// No candidates, with room for as many as most places have, so that they are seldom moved. The one refusal is want
+    /// of memory.
+    pub fn with_room(alloc: Global) -> Result<CandidateList, AllocError>
+        ensures { IfOk result (λ list. list ≡ []) }
     {
-        CandidateList {
-            items: Vec::new(alloc),
-        }
+        Ok(CandidateList {
+            items: Vec::with_capacity(alloc, 64)?,
+        })
     }
 
     /// Adds a candidate behind the others.

@@ -1,7 +1,8 @@
 //! Candidates for the ends of columns from a place: where columns may end in some room up to a greatest one, with what
 //! they pass on the way; and the ends in a room among them.
 //!
-//! Proved: `ends_on` finds the ends along a stretch (`ends_along` of pg_walk_laws, `specs/Walk`);
+//! Proved: `walk_on` finds the ends along a stretch (`ends_along` of pg_walk_laws, `specs/Walk`), and tells how far it came
+//! (`reach_along`) and whether the notes passed take room; `ends_on` finds the ends alone;
 //! `CandidateList::into_near` works out of candidates what no room changes, and from which room on the end of each is
 //! not needed (`AreNear`: in each room the ends of those that are needed there suffice); `NearList::ends_in` gives the
 //! best ends in a room (`AreBest`), and so, of candidates that suffice (`AreCandidates`), all ends in it (`AreEnds`).
@@ -17,6 +18,6 @@ mod order;
 mod room;
 mod until;
 
-pub use along::ends_on;
+pub use along::{Walked, ends_on, walk_on};
 pub use candidate::{Candidate, CandidateList};
 pub use near::NearList;

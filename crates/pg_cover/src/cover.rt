@@ -2,6 +2,7 @@
 ghost use Rattle.std.specs.Prelude.{◌≡◌, true, length, Contains, IfOk, Some, None, ◌≤ℤ◌, ◌+ℤ◌};
 ghost use Rattle.std.specs.Bool.{Decides};
 ghost use Rattle.pg_plan.specs.declared.states.Label.{Label as ALabel};
+ghost use Rattle.pg_table.specs.Space.{AreMoves};
 ghost use Rattle.pg_table.specs.declared.step.Step.{Step as AStep};
 ghost use Rattle.pg_plan.specs.declared.pages.PageMove.{PageMove as AMove};
 ghost use Rattle.pg_plan.specs.declared.states.State.{State as AState};
@@ -10,7 +11,8 @@ ghost use Rattle.pg_cover.specs.Covered.{AreOwn, CoveredBy, DoesCover, CoversSte
 
 use crate::hints::{Hints, hints_of};
 use pg_list::Place;
-use pg_plan::{Label, PageMove, State, compare_places};
+use pg_plan::compare_places;
+use pg_small::{SmallLabel, SmallMove, SmallState};
 use pg_steps::Steps;
 use pg_table::{Space, Step, StepList};
 use std::alloc::{AllocError, Global};
@@ -27,10 +29,10 @@ fn is_within(cost: i128, base: i128, pays: i128) -> bool
 }
 
 // Whether the label has a state that is no worse, at a cost that is at most the sum of two.
-fn label_covers<S: Space<State = State>>(
+fn label_covers<S: Space<State = SmallState>>(
     space: &S,
-    label: &Label,
-    to: &State,
+    label: &SmallLabel,
+    to: &SmallState,
     base: i128,
     pays: i128,
 ) -> bool
@@ -43,10 +45,10 @@ fn label_covers<S: Space<State = State>>(
 
 /// Whether some label has a state that is no worse than a state of the space, at a cost that is at most the sum of two.
 /// The sum is that of whole numbers, and may be beyond 128 bits. No memory is taken.
-pub fn covers<S: Space<State = State>>(
+pub fn covers<S: Space<State = SmallState>>(
     space: &S,
-    labels: &[Label],
-    to: &State,
+    labels: &[SmallLabel],
+    to: &SmallState,
     base: i128,
     pays: i128,
 ) -> bool
@@ -63,12 +65,12 @@ pub fn covers<S: Space<State = State>>(
 }
 
 // Whether one of the labels at these places covers what a step of a label leads to.
-fn among_covers<S: Space<State = State, Move = PageMove>>(
+fn among_covers<S: Space<State = SmallState, Move = SmallMove>>(
     space: &S,
-    labels: &[Label],
+    labels: &[SmallLabel],
     places: &[usize],
-    label: &Label,
-    step: &Step<State, PageMove>,
+    label: &SmallLabel,
+    step: &Step<SmallState, SmallMove>,
 ) -> bool
     requires labels { AreOwn (S.meaning space.now) labels.now }
     requires to { (S.meaning space.now).Own step.now.to }
@@ -85,12 +87,12 @@ fn among_covers<S: Space<State = State, Move = PageMove>>(
 }
 
 // Whether a label covers what a step of a label leads to. The labels of its key are looked at first.
-fn covers_step<S: Space<State = State, Move = PageMove>>(
+fn covers_step<S: Space<State = SmallState, Move = SmallMove>>(
     space: &S,
-    labels: &[Label],
+    labels: &[SmallLabel],
     hints: &Hints<S::Key>,
-    label: &Label,
-    step: &Step<State, PageMove>,
+    label: &SmallLabel,
+    step: &Step<SmallState, SmallMove>,
 ) -> Result<bool, AllocError>
     requires labels { AreOwn (S.meaning space.now) labels.now }
     requires to { (S.meaning space.now).Own step.now.to }
@@ -122,13 +124,24 @@ fn least_place(is_covered: bool, least: Option<Place>, to: Place) -> Option<Plac
     }
 }
 
+// The least of places, with the end of a step unless what it leads to is covered.
+fn least_by(
+    is_covered: bool,
+    least: Option<Place>,
+    step: &Step<SmallState, SmallMove>,
+) -> Option<Place>
+    ensures { result ≡ least_with is_covered least step.now.by.column.to }
+{
+    least_place(is_covered, least, step.by.to())
+}
+
 // The least place where one of these steps of a label ends that no label covers.
-fn least_open<S: Space<State = State, Move = PageMove>>(
+fn least_open<S: Space<State = SmallState, Move = SmallMove>>(
     space: &S,
-    labels: &[Label],
+    labels: &[SmallLabel],
     hints: &Hints<S::Key>,
-    label: &Label,
-    steps: StepList<State, PageMove>,
+    label: &SmallLabel,
+    steps: StepList<SmallState, SmallMove>,
 ) -> Result<Option<Place>, AllocError>
     requires labels { AreOwn (S.meaning space.now) labels.now }
     requires steps { (step : AStep AState AMove) → Contains steps step → (S.meaning space.now).Own step.to }
@@ -137,29 +150,38 @@ fn least_open<S: Space<State = State, Move = PageMove>>(
     let mut steps = steps;
     let mut least = None;
     while let Some(step) = steps.pop() {
-        least = least_place(
-            covers_step(space, labels, hints, label, &step)?,
-            least,
-            step.by.column.to,
-        );
+        let is_covered = covers_step(space, labels, hints, label, &step)?;
+        least = least_by(is_covered, least, &step);
     }
     Ok(least)
 }
 
-// The least place where a column that follows a label ends, and no label covers what it leads to.
-fn open_of<S: Space<State = State, Move = PageMove>, L: Ledger>(
+// All columns that may follow a label.
+fn steps_of<S: Space<State = SmallState, Move = SmallMove>, L: Ledger>(
     space: &S,
-    labels: &[Label],
+    label: &SmallLabel,
+    steps: &mut Steps<L>,
+) -> Result<StepList<SmallState, SmallMove>, AllocError>
+    requires { (S.meaning space.now).Own label.now.state }
+    ensures { IfOk result (AreMoves (S.meaning space.now) label.now.state) }
+{
+    Ok(space.expand(&label.state, steps)?.steps)
+}
+
+// The least place where a column that follows a label ends, and no label covers what it leads to.
+fn open_of<S: Space<State = SmallState, Move = SmallMove>, L: Ledger>(
+    space: &S,
+    labels: &[SmallLabel],
     hints: &Hints<S::Key>,
-    label: &Label,
+    label: &SmallLabel,
     steps: &mut Steps<L>,
 ) -> Result<Option<Place>, AllocError>
     requires labels { AreOwn (S.meaning space.now) labels.now }
     requires label { (S.meaning space.now).Own label.now.state }
     ensures { IfOk result (IsOpenOf (S.meaning space.now) labels.now label.now) }
 {
-    let opened = space.expand(&label.state, steps)?;
-    least_open(space, labels, hints, label, opened.steps)
+    let opened = steps_of(space, label, steps)?;
+    least_open(space, labels, hints, label, opened)
 }
 
 /// A label, by its index from 0, behind which stands a column that leads to what no label covers, and the least place
@@ -172,10 +194,10 @@ pub struct Open {
 
 /// The first label with a column behind it that leads to what no label covers; None where there is no such label. Each
 /// label up to that one is opened once, and counted as a step. The only refusal is for want of memory.
-pub fn first_open<S: Space<State = State, Move = PageMove>, L: Ledger>(
+pub fn first_open<S: Space<State = SmallState, Move = SmallMove>, L: Ledger>(
     alloc: Global,
     space: &S,
-    labels: &[Label],
+    labels: &[SmallLabel],
     steps: &mut Steps<L>,
 ) -> Result<Option<Open>, AllocError>
     requires { AreOwn (S.meaning space.now) labels.now }

@@ -2,7 +2,7 @@
 ghost use Rattle.pg_cover.specs.Covered.{AreOwn};
 
 use indexmap::IndexSet;
-use pg_plan::{Label, State};
+use pg_small::{SmallLabel, SmallState};
 use pg_table::Space;
 use std::alloc::{AllocError, Global};
 use std::hash::Hash;
@@ -43,10 +43,10 @@ impl<K: Eq + Hash + Drop> Hints<K> {
 }
 
 /// The places of labels by their keys.
-pub(crate) fn hints_of<S: Space<State = State>>(
+pub(crate) fn hints_of<S: Space<State = SmallState>>(
     alloc: Global,
     space: &S,
-    labels: &[Label],
+    labels: &[SmallLabel],
 ) -> Result<Hints<S::Key>, AllocError>
     requires { AreOwn (S.meaning space.now) labels.now }
 {
@@ -55,7 +55,8 @@ pub(crate) fn hints_of<S: Space<State = State>>(
         places: Vec::new(alloc),
     };
     for place in 0..labels.len() {
-        hints.add(space.key(&labels[place].state)?, place)?;
+        let label = &labels[place];
+        hints.add(space.key(&label.state)?, place)?;
     }
     Ok(hints)
 }

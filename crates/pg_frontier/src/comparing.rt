@@ -4,7 +4,8 @@ ghost use Rattle.std.specs.Ordering.{int_cmp, nat_cmp, ordering_then};
 ghost use Rattle.pg_plan.specs.Order.{counts_cmp, place_cmp};
 ghost use Rattle.pg_rules.specs.Frontier.{option_cmp, side_rank, state_cmp};
 
-use pg_plan::{Side, State, compare_places};
+use pg_plan::{Side, compare_places};
+use pg_small::SmallState;
 use std::cmp::Ordering;
 
 // The place of a side: left before right before single.
@@ -54,25 +55,25 @@ fn compare_ages(a: &[u8], b: &[u8]) -> Ordering
 }
 
 // Compares two states of one place by their other fields.
-fn compare_at_place(a: &State, b: &State) -> Ordering
+fn compare_at_place(a: &SmallState, b: &SmallState) -> Ordering
     ensures { ordering_then (place_cmp a.now.place b.now.place) result ≡ state_cmp a.now b.now }
 {
-    let column = a.column.cmp(&b.column);
-    let side = compare_sides(a.side, b.side);
-    let run = compare_numbers(a.run, b.run);
-    let wide = compare_heights(a.wide, b.wide);
-    let fitness = compare_numbers(a.fitness, b.fitness);
-    let placed = compare_counts(a.placed.as_slice(), b.placed.as_slice());
-    let ages = compare_ages(a.ages.as_slice(), b.ages.as_slice());
+    let column = a.column().cmp(&b.column());
+    let side = compare_sides(a.side(), b.side());
+    let run = compare_numbers(a.run(), b.run());
+    let wide = compare_heights(a.wide(), b.wide());
+    let fitness = compare_numbers(a.fitness(), b.fitness());
+    let placed = compare_counts(a.placed(), b.placed());
+    let ages = compare_ages(a.ages(), b.ages());
     column.then(side.then(run.then(wide.then(fitness.then(placed.then(ages))))))
 }
 
 /// The order of states: by place, column, side, run, height of the wide area, fitness, counts of the floats placed and
 /// ages of those that wait. No memory is taken.
-pub fn compare_states(a: &State, b: &State) -> Ordering
+pub fn compare_states(a: &SmallState, b: &SmallState) -> Ordering
     ensures { result ≡ state_cmp a.now b.now }
 {
-    match compare_places(&a.place, &b.place) {
+    match compare_places(&a.place(), &b.place()) {
         Ordering::Equal => compare_at_place(a, b),
         first => first,
     }

@@ -9,15 +9,16 @@ ghost use Rattle.pg_space_laws.specs.Laws.{label_of};
 ghost use Rattle.pg_table.specs.declared.table.Entry.{Entry as AnEntry};
 
 use crate::comparing::compare_states;
-use pg_plan::{Label, LabelList, PageMove, State};
+use pg_plan::{Label, LabelList};
+use pg_small::{SmallMove, SmallState};
 use pg_table::Entry;
 use std::alloc::{AllocError, Global};
 
 // The entries in the order of their states, borrowed.
 fn in_order<'a>(
     alloc: Global,
-    entries: &'a [Entry<State, PageMove>],
-) -> Result<Vec<&'a Entry<State, PageMove>>, AllocError>
+    entries: &'a [Entry<SmallState, SmallMove>],
+) -> Result<Vec<&'a Entry<SmallState, SmallMove>>, AllocError>
     ensures all { IfOk result (λ ordered. IsPermutation entries.now (map (λ entry. entry.now) ordered.items)) }
     ensures order { IfOk result (λ ordered.
         IsSortedByKey (λ (entry : AnEntry AState AMove). entry.state) state_cmp
@@ -32,22 +33,25 @@ fn in_order<'a>(
 }
 
 // The label of an entry: its state, copied, and its cost.
-fn label_at(entry: &Entry<State, PageMove>) -> Result<Label, AllocError>
+fn label_at(alloc: Global, entry: &Entry<SmallState, SmallMove>) -> Result<Label, AllocError>
     ensures { IfOk result (λ label. label ≡ label_of entry.now) }
 {
     Ok(Label {
-        state: entry.state.copy()?,
+        state: entry.state.to_state(alloc)?,
         cost: entry.cost,
     })
 }
 
 // The labels of entries, in the same order.
-fn labels_of(alloc: Global, ordered: &[&Entry<State, PageMove>]) -> Result<LabelList, AllocError>
+fn labels_of(
+    alloc: Global,
+    ordered: &[&Entry<SmallState, SmallMove>],
+) -> Result<LabelList, AllocError>
     ensures { IfOk result (λ labels. labels ≡ map label_of (map (λ entry. entry.now) ordered.now)) }
 {
     let mut labels = LabelList::new(alloc);
     for entry in ordered {
-        labels.push(label_at(entry)?)?;
+        labels.push(label_at(alloc, entry)?)?;
     }
     Ok(labels)
 }
@@ -56,7 +60,7 @@ fn labels_of(alloc: Global, ordered: &[&Entry<State, PageMove>]) -> Result<Label
 /// is copied once. The only refusal is want of memory.
 pub fn frontier_of(
     alloc: Global,
-    entries: &[Entry<State, PageMove>],
+    entries: &[Entry<SmallState, SmallMove>],
 ) -> Result<LabelList, AllocError>
     ensures all { IfOk result (λ labels. IsPermutation (map label_of entries.now) labels) }
     ensures order { IfOk result (λ labels. IsSortedByKey (λ (label : ALabel). label.state) state_cmp labels) }

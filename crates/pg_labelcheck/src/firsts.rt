@@ -10,6 +10,7 @@ ghost use Rattle.pg_labelcheck.specs.Tested.{IsFinalBelow};
 
 use pg_cover::covers;
 use pg_plan::Label;
+use pg_small::SmallLabel;
 use pg_space::PageSpace;
 use pg_table::Space;
 use std::alloc::AllocError;
@@ -36,7 +37,7 @@ pub(crate) fn first_no_state(space: &PageSpace<'_>, labels: &[Label]) -> Option<
 }
 
 /// Whether some label covers the start at the cost 0.
-pub(crate) fn covers_start(space: &PageSpace<'_>, labels: &[Label]) -> Result<bool, AllocError>
+pub(crate) fn covers_start(space: &PageSpace<'_>, labels: &[SmallLabel]) -> Result<bool, AllocError>
     requires { AreStates (doc_of space.now.sources) labels.now }
     ensures { IfOk result (λ r. Decides r (CoversStart (doc_of space.now.sources) labels.now)) }
 {
@@ -45,7 +46,7 @@ pub(crate) fn covers_start(space: &PageSpace<'_>, labels: &[Label]) -> Result<bo
 }
 
 // Whether the label is finished, at less than the cost where there is one.
-fn is_final(space: &PageSpace<'_>, label: &Label, below: Option<i128>) -> bool
+fn is_final(space: &PageSpace<'_>, label: &SmallLabel, below: Option<i128>) -> bool
     requires { IsState (doc_of space.now.sources) label.now.state }
     ensures { Decides result (IsFinalBelow (doc_of space.now.sources) below label.now) }
 {
@@ -59,7 +60,7 @@ fn is_final(space: &PageSpace<'_>, label: &Label, below: Option<i128>) -> bool
 /// The first label that is finished, at less than the cost where there is one.
 pub(crate) fn first_final(
     space: &PageSpace<'_>,
-    labels: &[Label],
+    labels: &[SmallLabel],
     below: Option<i128>,
 ) -> Option<usize>
     requires { AreStates (doc_of space.now.sources) labels.now }

@@ -13,7 +13,7 @@ use pg_cover::first_open;
 use pg_floats::FloatList;
 use pg_labels::{Output, Shown};
 use pg_list::Galley;
-use pg_plan::Label;
+use pg_small::{SmallLabel, small_labels};
 use pg_space::{Document, KeptPages, PageSpace};
 use pg_steps::Steps;
 use pg_style::Style;
@@ -44,12 +44,13 @@ fn test_states(space: &PageSpace<'_>, output: &Output) -> Result<(), No>
 }
 
 // Test 5: some label covers the start at the cost 0.
-fn test_start(space: &PageSpace<'_>, output: &Output) -> Result<(), No>
+fn test_start(space: &PageSpace<'_>, labels: &[SmallLabel], output: &Output) -> Result<(), No>
+    requires labels { labels.now ≡ output.now.labels }
     requires before { PassesStates space.now.sources.galley.now space.now.sources.style.now output.now }
     ensures { Tested (PassesStart space.now.sources.galley.now space.now.sources.style.now output.now)
         space.now.sources.galley.now space.now.sources.style.now output.now result }
 {
-    match covers_start(space, output.labels.as_slice()) {
+    match covers_start(space, labels) {
         Ok(true) => Ok(()),
         Ok(false) => Err(No::NoStart),
         Err(_) => Err(No::Memory),
@@ -61,16 +62,18 @@ fn test_start(space: &PageSpace<'_>, output: &Output) -> Result<(), No>
 fn test_steps<D: Document, L: Ledger>(
     alloc: Global,
     space: &KeptPages<'_, D>,
+    labels: &[SmallLabel],
     output: &Output,
     steps: &mut Steps<L>,
 ) -> Result<(), No>
+    requires labels { labels.now ≡ output.now.labels }
     requires few { IsFew output.now }
     requires before { PassesStart space.now.pages.sources.galley.now space.now.pages.sources.style.now output.now }
     ensures { Tested (PassesSteps space.now.pages.sources.galley.now space.now.pages.sources.style.now output.now)
         space.now.pages.sources.galley.now space.now.pages.sources.style.now output.now result }
 {
     best_picks_decide(space.pages.sources.galley, space.pages.sources.style);
-    match first_open(alloc, space, output.labels.as_slice(), steps) {
+    match first_open(alloc, space, labels, steps) {
         Ok(None) => Ok(()),
         Ok(Some(open)) => Err(No::NotClosed {
             label: number_of(open.index),
@@ -91,7 +94,7 @@ pub(crate) fn shown_cost(shown: &Shown) -> Option<i128>
 }
 
 // What is said of a finished label with its number: it undercuts what is shown, or is final where none is legal.
-fn final_fault(shown: &Shown, number: u32, label: &Label) -> No
+fn final_fault(shown: &Shown, number: u32, label: &SmallLabel) -> No
     ensures { result ≡ final_fault_of shown.now number label.now.cost }
 {
     match shown {
@@ -104,17 +107,53 @@ fn final_fault(shown: &Shown, number: u32, label: &Label) -> No
 }
 
 // Tests 7 and 8: no label is finished at less than the shown cost, and none where none is said to be legal.
-fn test_final(space: &PageSpace<'_>, output: &Output) -> Result<(), No>
+fn test_final(space: &PageSpace<'_>, labels: &[SmallLabel], output: &Output) -> Result<(), No>
+    requires labels { labels.now ≡ output.now.labels }
     requires few { IsFew output.now }
     requires before { PassesSteps space.now.sources.galley.now space.now.sources.style.now output.now }
     ensures { Tested (PassesAll space.now.sources.galley.now space.now.sources.style.now output.now)
         space.now.sources.galley.now space.now.sources.style.now output.now result }
 {
-    let labels = output.labels.as_slice();
     match first_final(space, labels, shown_cost(&output.shown)) {
         None => Ok(()),
         Some(index) => Err(final_fault(&output.shown, number_of(index), &labels[index])),
     }
+}
+
+// Tests 5 and 6 of labels in few bytes, over a space of pages in which labels of one place share a walk.
+fn test_closed<D: Document, L: Ledger>(
+    alloc: Global,
+    space: &KeptPages<'_, D>,
+    labels: &[SmallLabel],
+    output: &Output,
+    steps: &mut Steps<L>,
+) -> Result<(), No>
+    requires labels { labels.now ≡ output.now.labels }
+    requires few { IsFew output.now }
+    requires before { PassesStates space.now.pages.sources.galley.now space.now.pages.sources.style.now output.now }
+    ensures { Tested (PassesSteps space.now.pages.sources.galley.now space.now.pages.sources.style.now output.now)
+        space.now.pages.sources.galley.now space.now.pages.sources.style.now output.now result }
+{
+    test_start(&space.pages, labels, output)?;
+    test_steps(alloc, space, labels, output, steps)
+}
+
+// Tests 5 to 8 of labels in few bytes.
+fn test_small<D: Document, L: Ledger>(
+    alloc: Global,
+    space: &KeptPages<'_, D>,
+    labels: &[SmallLabel],
+    output: &Output,
+    steps: &mut Steps<L>,
+) -> Result<(), No>
+    requires labels { labels.now ≡ output.now.labels }
+    requires few { IsFew output.now }
+    requires before { PassesStates space.now.pages.sources.galley.now space.now.pages.sources.style.now output.now }
+    ensures { Tested (PassesAll space.now.pages.sources.galley.now space.now.pages.sources.style.now output.now)
+        space.now.pages.sources.galley.now space.now.pages.sources.style.now output.now result }
+{
+    test_closed(alloc, space, labels, output, steps)?;
+    test_final(&space.pages, labels, output)
 }
 
 // Tests 4 to 8, over a space of pages in which labels of one place share a walk.
@@ -130,9 +169,10 @@ fn test_in<D: Document, L: Ledger>(
         space.now.pages.sources.galley.now space.now.pages.sources.style.now output.now result }
 {
     test_states(&space.pages, output)?;
-    test_start(&space.pages, output)?;
-    test_steps(alloc, space, output, steps)?;
-    test_final(&space.pages, output)
+    match small_labels(alloc, output.labels.as_slice()) {
+        Ok(labels) => test_small(alloc, space, labels.as_slice(), output, steps),
+        Err(_) => Err(No::Memory),
+    }
 }
 
 /// Tests 4 to 8 of an output, of which the first three pass, with a counter of steps of its own.

@@ -1,6 +1,6 @@
 -- A step of the parts that were settled.
 use Rattle.std.proofs.Common.{◌≡◌, refl, sym, subst, ap, ◌∙◌, ℕ, ◌+◌, ◌*◌, ◌^◌, ◌≤◌, List, [], length, Option, Some, None, ℤ, arith}
-use Rattle.std.specs.Prelude.{◌==◌, if◌then◌else◌, pos, ◌+ℤ◌}
+use Rattle.std.specs.Prelude.{◌==◌, if◌then◌else◌, nat_abs, pos, ◌+ℤ◌}
 use Rattle.pg_style.specs.Values.{StyleValue}
 use Rattle.pg_rules.specs.Floats.{entry, float_numbers, plus_counts}
 use Rattle.pg_layouts.proofs.Areas.{slots_long}
@@ -125,3 +125,16 @@ few_after doc u laid counts n is c e l =
 pub rank_is : (doc : Document) (u : State) (place tail : ℕ) → place ≡ place_rank u.place → tail ≡ rank_tail u →
     2 ^ 18 * place + tail ≡ rank doc u
 rank_is doc u place tail p t = omega (arith, p, t)
+
+-- ---- the state behind a column
+
+pub behind_is : (style : StyleValue) (u : State) (laid : Laid) (settled : Settled) (to : Place) (fitness : Option ℕ)
+    (next state : State) (page : ℤ) (tail : ℕ) → next ≡ state_behind style u laid to fitness settled.ages →
+    page ≡ page_price style u laid settled.price → nat_abs page ≤ 2 ^ 52 → tail ≡ rank_tail next → state ≡ next →
+    IsBehind style u laid settled (record { state = state; page = page; tail = tail })
+behind_is style u laid settled to fitness next state page tail is price small told same = record {
+  state = subst (λ (v : State). v ≡ state_behind style u laid v.place v.fitness settled.ages) (sym (same ∙ is)) refl;
+  page = price;
+  small = small;
+  tail = told ∙ ap (λ (v : State). rank_tail v) (sym same);
+}

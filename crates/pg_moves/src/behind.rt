@@ -16,8 +16,8 @@ use crate::steps::{fitness_price, kept_fitness, page_price, state_behind, text_p
 use pg_areas::total;
 use pg_ends::End;
 use pg_laid::Laid;
-use pg_list::Place;
 use pg_plan::{Side, State};
+use pg_small::SmallState;
 use pg_sources::Sources;
 use pg_style::Style;
 use pg_waiting::Settled;
@@ -27,7 +27,7 @@ use std::alloc::AllocError;
 /// The state behind a column of a layout up to one end after another, with what is worked out once for all of them.
 #[derive(Drop)]
 pub(crate) struct Behind {
-    pub(crate) state: State,
+    pub(crate) state: SmallState,
     /// What the column pays for its page's run and for its floats.
     pub(crate) page: i128,
     /// What the state gives to its rank, but for its place.
@@ -90,10 +90,11 @@ fn count_after(sources: &Sources<'_>, state: &State, laid: &Laid) -> u32
     total(laid.after.as_slice())
 }
 
-// The block, the variant and the index of a place as one number, the block first.
-fn place_rank(at: Place) -> u64
-    ensures { result ≡ place_rank_of at }
+// The block, the variant and the index of a state's place as one number, the block first.
+fn place_rank(state: &SmallState) -> u64
+    ensures { result ≡ place_rank_of state.now.place }
 {
+    let at = state.place();
     (1 << 20) * (8 * u64::from(at.block) + u64::from(at.variant)) + u64::from(at.index)
 }
 
@@ -121,8 +122,9 @@ pub(crate) fn first_behind(
     let page = page_price(style, state, laid, settled.price);
     let next = state_behind(style, state, laid, state.place, None, settled.ages.copy()?)?;
     let tail = tail_of(&next, placed);
+    let small = SmallState::of(sources.alloc, next)?;
     Ok(Behind {
-        state: next,
+        state: small,
         page,
         tail,
     })
@@ -138,8 +140,8 @@ impl Behind {
           };
         } }
     {
-        self.state.place = end.to;
-        self.state.fitness = kept_fitness(style, end.cost.fitness);
+        self.state
+            .end_at(end.to, kept_fitness(style, end.cost.fitness));
     }
 
     /// The rank of the state, or what 64 bits hold of it where it is none of the space's own.
@@ -147,7 +149,7 @@ impl Behind {
         requires { self.now.tail ≡ rank_tail self.now.state }
         ensures { (doc : Document) → result ≡ rank doc self.now.state % 2 ^ 64 }
     {
-        joined(place_rank(self.state.place), self.tail)
+        joined(place_rank(&self.state), self.tail)
     }
 
     /// What the column of text to an end costs.

@@ -14,15 +14,16 @@ ghost use Rattle.pg_moves.specs.Thinned.{Adds};
 use crate::steps::add_ends;
 use pg_ends::End;
 use pg_laid::Laid;
-use pg_plan::{PageMove, State};
+use pg_plan::State;
 use pg_rooms::Group;
+use pg_small::{SmallMove, SmallState};
 use pg_sources::Sources;
 use pg_table::{StepList, Wants};
 use pg_waiting::{Known, calls_all, settle};
 use std::alloc::AllocError;
 
 // Adds the wanted steps to ends before each of which the same floats are called.
-fn add_group<W: Wants<State = State>>(
+fn add_group<W: Wants<State = SmallState>>(
     sources: &Sources<'_>,
     state: &State,
     known: &Known,
@@ -30,7 +31,7 @@ fn add_group<W: Wants<State = State>>(
     called: &[u16],
     ends: &[End],
     wants: &W,
-    steps: &mut StepList<State, PageMove>,
+    steps: &mut StepList<SmallState, SmallMove>,
 ) -> Result<(), AllocError>
     requires own { IsState (doc_of sources.now) state.now }
     requires known { known.now ≡ known_of (doc_of sources.now) state.now }
@@ -70,7 +71,7 @@ fn later_ends(ends: &[End], count: usize) -> &[End]
 }
 
 /// Adds the wanted steps to the ends of a layout at which the column may end.
-pub fn add_groups<W: Wants<State = State>>(
+pub fn add_groups<W: Wants<State = SmallState>>(
     sources: &Sources<'_>,
     state: &State,
     known: &Known,
@@ -78,7 +79,7 @@ pub fn add_groups<W: Wants<State = State>>(
     groups: &[Group],
     ends: &[End],
     wants: &W,
-    steps: &mut StepList<State, PageMove>,
+    steps: &mut StepList<SmallState, SmallMove>,
 ) -> Result<(), AllocError>
     requires own { IsState (doc_of sources.now) state.now }
     requires known { known.now ≡ known_of (doc_of sources.now) state.now }

@@ -17,9 +17,10 @@ use crate::texts::text_steps;
 use pg_laid::lay_floats;
 use pg_list::{Galley, Place};
 use pg_move_laws::listed_steps_are_moves;
-use pg_plan::{Counts, PageMove, State};
+use pg_plan::{Counts, State};
 use pg_reach_laws::laws::reach_is_the_greatest;
 use pg_rooms::PlaceEnds;
+use pg_small::{SmallMove, SmallState};
 use pg_sources::Sources;
 use pg_table::{EveryMove, Opened, StepList, Wants};
 use pg_waiting::{Known, known};
@@ -64,7 +65,7 @@ fn add_floats(
     sources: &Sources<'_>,
     state: &State,
     known: &Known,
-    steps: &mut StepList<State, PageMove>,
+    steps: &mut StepList<SmallState, SmallMove>,
 ) -> Result<(), AllocError>
     requires own { IsState (doc_of sources.now) state.now }
     requires known { known.now ≡ known_of (doc_of sources.now) state.now }
@@ -79,12 +80,12 @@ fn add_floats(
 /// how far an edit can be felt there. What it works out is kept. Columns without text are all made, wanted or not.
 ///
 /// Condition: it is a state of the galley. The one refusal is want of memory.
-pub fn open_by<W: Wants<State = State>>(
+pub fn open_by<W: Wants<State = SmallState>>(
     sources: &Sources<'_>,
     state: &State,
     kept: &mut PlaceEnds,
     wants: &W,
-) -> Result<Opened<State, PageMove>, AllocError>
+) -> Result<Opened<SmallState, SmallMove>, AllocError>
     requires own { IsState (doc_of sources.now) state.now }
     requires reach { kept.old.walk.reach ≡ reach_at (doc_of sources.now) state.now.place }
     ensures moves { IfOk result (λ it. ArePlaceEnds (doc_of sources.now) state.now.place kept.old →
@@ -104,12 +105,15 @@ pub fn open_by<W: Wants<State = State>>(
 }
 
 /// All columns that may follow a state, with a walk of its own.
-pub fn open(sources: &Sources<'_>, state: &State) -> Result<Opened<State, PageMove>, AllocError>
+pub fn open(
+    sources: &Sources<'_>,
+    state: &State,
+) -> Result<Opened<SmallState, SmallMove>, AllocError>
     requires { IsState (doc_of sources.now) state.now }
     ensures moves { IfOk result (λ it. AreMoves (page_meaning (doc_of sources.now)) state.now it.steps) }
     ensures reach { IfOk result (λ it. it.reach ≡ reach_at (doc_of sources.now) state.now.place) }
 {
     let walk = walk_place(sources, state.place)?;
     let mut kept = PlaceEnds::new(sources.alloc, walk);
-    open_by(sources, state, &mut kept, &EveryMove::<State>::new())
+    open_by(sources, state, &mut kept, &EveryMove::<SmallState>::new())
 }

@@ -14,7 +14,8 @@ ghost use Rattle.pg_plan.specs.declared.states.State.{State as AState};
 
 use crate::steps::{page_price, state_behind};
 use pg_laid::{Laid, has_floats};
-use pg_plan::{Column, PageMove, Picks, State};
+use pg_plan::{Picks, State};
+use pg_small::{SmallMove, SmallState};
 use pg_sources::Sources;
 use pg_style::Style;
 use pg_table::{Step, StepList};
@@ -23,20 +24,22 @@ use pg_whole::{large_plus, plus};
 use std::alloc::{AllocError, Global};
 
 // The column without text.
-fn stay(alloc: Global, state: &State, laid: &Laid) -> Result<PageMove, AllocError>
+fn stay(alloc: Global, state: &State, laid: &Laid) -> Result<SmallMove, AllocError>
     ensures { IfOk result (λ it. it ≡ move_of state.now laid.now.layout state.now.place []) }
 {
-    Ok(PageMove {
-        column: Column {
-            from: state.place,
-            to: state.place,
-            top: laid.layout.top.copy()?,
-            bottom: laid.layout.bottom.copy()?,
-            picks: Picks::new(alloc),
-        },
-        run: laid.layout.run,
-        wide: laid.layout.wide.copy()?,
-    })
+    let layout = &laid.layout;
+    let (top, bottom, wide) = (&layout.top, &layout.bottom, &layout.wide);
+    let none = Picks::new(alloc);
+    SmallMove::of(
+        alloc,
+        state.place,
+        state.place,
+        layout.run,
+        top,
+        bottom,
+        wide,
+        &none,
+    )
 }
 
 // The fitness that the column behind one without text is compared with.
@@ -105,7 +108,7 @@ fn step_of(
     state: &State,
     laid: &Laid,
     settled: Settled,
-) -> Result<Step<State, PageMove>, AllocError>
+) -> Result<Step<SmallState, SmallMove>, AllocError>
     requires own { IsState (doc_of sources.now) state.now }
     requires laid { laid.now ≡ laid_of (doc_of sources.now) state.now laid.now.layout }
     requires settled { Settles (doc_of sources.now) state.now state.now.place laid.now.after (Some settled) }
@@ -114,8 +117,9 @@ fn step_of(
     let style = sources.style;
     let cost = stay_price(style, state, laid, settled.price);
     let fitness = fitness_behind(style, state);
+    let next = state_behind(style, state, laid, state.place, fitness, settled.ages)?;
     Ok(Step {
-        to: state_behind(style, state, laid, state.place, fitness, settled.ages)?,
+        to: SmallState::of(sources.alloc, next)?,
         by: stay(sources.alloc, state, laid)?,
         cost,
     })
@@ -127,7 +131,7 @@ fn add_standing(
     state: &State,
     laid: &Laid,
     settled: Option<Settled>,
-    steps: &mut StepList<State, PageMove>,
+    steps: &mut StepList<SmallState, SmallMove>,
 ) -> Result<(), AllocError>
     requires own { IsState (doc_of sources.now) state.now }
     requires laid { laid.now ≡ laid_of (doc_of sources.now) state.now laid.now.layout }
@@ -150,7 +154,7 @@ fn add_stay(
     state: &State,
     known: &Known,
     laid: &Laid,
-    steps: &mut StepList<State, PageMove>,
+    steps: &mut StepList<SmallState, SmallMove>,
 ) -> Result<(), AllocError>
     requires own { IsState (doc_of sources.now) state.now }
     requires known { known.now ≡ known_of (doc_of sources.now) state.now }
@@ -170,7 +174,7 @@ pub fn add_stays(
     state: &State,
     known: &Known,
     laid: &[Laid],
-    steps: &mut StepList<State, PageMove>,
+    steps: &mut StepList<SmallState, SmallMove>,
 ) -> Result<(), AllocError>
     requires own { IsState (doc_of sources.now) state.now }
     requires known { known.now ≡ known_of (doc_of sources.now) state.now }

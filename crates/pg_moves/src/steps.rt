@@ -18,7 +18,8 @@ use crate::behind::{Behind, first_behind};
 use pg_ends::End;
 use pg_laid::Laid;
 use pg_list::Place;
-use pg_plan::{Ages, Column, PageMove, Side, State};
+use pg_plan::{Ages, Side, State};
+use pg_small::{SmallMove, SmallState};
 use pg_sources::Sources;
 use pg_style::{Run, Style};
 use pg_table::{Step, StepList, Wants};
@@ -134,20 +135,25 @@ pub fn state_behind(
 }
 
 // The column of text to an end.
-fn move_to(state: &State, laid: &Laid, end: &End) -> Result<PageMove, AllocError>
+fn move_to(
+    sources: &Sources<'_>,
+    state: &State,
+    laid: &Laid,
+    end: &End,
+) -> Result<SmallMove, AllocError>
     ensures { IfOk result (λ it. it ≡ move_of state.now laid.now.layout end.now.to end.now.picks) }
 {
-    Ok(PageMove {
-        column: Column {
-            from: state.place,
-            to: end.to,
-            top: laid.layout.top.copy()?,
-            bottom: laid.layout.bottom.copy()?,
-            picks: end.picks.copy()?,
-        },
-        run: laid.layout.run,
-        wide: laid.layout.wide.copy()?,
-    })
+    let layout = &laid.layout;
+    SmallMove::of(
+        sources.alloc,
+        state.place,
+        end.to,
+        layout.run,
+        &layout.top,
+        &layout.bottom,
+        &layout.wide,
+        &end.picks,
+    )
 }
 
 /// What a column pays for its page's run and for its floats.
@@ -186,12 +192,13 @@ fn ends_here(state: &State, end: &End) -> bool
 
 // The step to an end, behind which there is this state, at this cost.
 fn step_to(
+    sources: &Sources<'_>,
     state: &State,
     laid: &Laid,
     end: &End,
-    next: &State,
+    next: &SmallState,
     cost: i128,
-) -> Result<Step<State, PageMove>, AllocError>
+) -> Result<Step<SmallState, SmallMove>, AllocError>
     ensures { IfOk result (λ step. step ≡ record {
       to = next.now;
       by = move_of state.now laid.now.layout end.now.to end.now.picks;
@@ -199,8 +206,8 @@ fn step_to(
     }) }
 {
     Ok(Step {
-        to: next.copy()?,
-        by: move_to(state, laid, end)?,
+        to: next.copy(sources.alloc)?,
+        by: move_to(sources, state, laid, end)?,
         cost,
     })
 }
@@ -210,12 +217,13 @@ fn step_to(
 #[cold]
 #[inline(never)]
 fn push_step(
+    sources: &Sources<'_>,
     state: &State,
     laid: &Laid,
     end: &End,
-    next: &State,
+    next: &SmallState,
     cost: i128,
-    steps: &mut StepList<State, PageMove>,
+    steps: &mut StepList<SmallState, SmallMove>,
 ) -> Result<(), AllocError>
     ensures { OnOk result (steps.new ≡ steps.old ++ record {
       to = next.now;
@@ -223,13 +231,13 @@ fn push_step(
       cost = cost;
     } ∷ []) }
 {
-    let step = step_to(state, laid, end, next, cost)?;
+    let step = step_to(sources, state, laid, end, next, cost)?;
     steps.push(step)?;
     Ok(())
 }
 
 // Adds the step to an end before which the floats of a layout are called and no float is left too old, if it is wanted.
-fn add_end<W: Wants<State = State>>(
+fn add_end<W: Wants<State = SmallState>>(
     sources: &Sources<'_>,
     state: &State,
     laid: &Laid,
@@ -237,7 +245,7 @@ fn add_end<W: Wants<State = State>>(
     settled: &Settled,
     behind: &mut Behind,
     wants: &W,
-    steps: &mut StepList<State, PageMove>,
+    steps: &mut StepList<SmallState, SmallMove>,
 ) -> Result<(), AllocError>
     requires laid { laid.now ≡ laid_of (doc_of sources.now) state.now laid.now.layout }
     requires behind { IsBehind sources.now.style.now state.now laid.now settled.now behind.old }
@@ -254,19 +262,19 @@ fn add_end<W: Wants<State = State>>(
     if !wants.wants(&behind.state, behind.rank(), cost) {
         return Ok(());
     }
-    push_step(state, laid, end, &behind.state, cost, steps)?;
+    push_step(sources, state, laid, end, &behind.state, cost, steps)?;
     Ok(())
 }
 
 /// Adds the steps that are wanted to ends before which the floats of a layout are called and no float is left too old.
-pub fn add_ends<W: Wants<State = State>>(
+pub fn add_ends<W: Wants<State = SmallState>>(
     sources: &Sources<'_>,
     state: &State,
     laid: &Laid,
     ends: &[End],
     settled: &Settled,
     wants: &W,
-    steps: &mut StepList<State, PageMove>,
+    steps: &mut StepList<SmallState, SmallMove>,
 ) -> Result<(), AllocError>
     requires own { IsState (doc_of sources.now) state.now }
     requires laid { laid.now ≡ laid_of (doc_of sources.now) state.now laid.now.layout }

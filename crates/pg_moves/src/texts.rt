@@ -12,22 +12,23 @@ ghost use Rattle.pg_laid.specs.declared.laid.Laid.{Laid as ALaid};
 
 use crate::groups::add_groups;
 use pg_laid::{Laid, lay_texts};
-use pg_plan::{Counts, PageMove, State};
+use pg_plan::{Counts, State};
 use pg_rooms::PlaceEnds;
+use pg_small::{SmallMove, SmallState};
 use pg_sources::Sources;
 use pg_table::{StepList, Wants};
 use pg_waiting::Known;
 use std::alloc::AllocError;
 
 // Adds the wanted steps to the ends in the room of a layout.
-fn add_laid<W: Wants<State = State>>(
+fn add_laid<W: Wants<State = SmallState>>(
     sources: &Sources<'_>,
     state: &State,
     known: &Known,
     laid: &Laid,
     kept: &PlaceEnds,
     wants: &W,
-    steps: &mut StepList<State, PageMove>,
+    steps: &mut StepList<SmallState, SmallMove>,
 ) -> Result<(), AllocError>
     requires own { IsState (doc_of sources.now) state.now }
     requires known { known.now ≡ known_of (doc_of sources.now) state.now }
@@ -42,14 +43,14 @@ fn add_laid<W: Wants<State = State>>(
 }
 
 /// Adds the wanted steps of columns of text in these layouts, by the ends in their rooms.
-pub fn add_all<W: Wants<State = State>>(
+pub fn add_all<W: Wants<State = SmallState>>(
     sources: &Sources<'_>,
     state: &State,
     known: &Known,
     laid: &[Laid],
     kept: &PlaceEnds,
     wants: &W,
-    steps: &mut StepList<State, PageMove>,
+    steps: &mut StepList<SmallState, SmallMove>,
 ) -> Result<(), AllocError>
     requires own { IsState (doc_of sources.now) state.now }
     requires known { known.now ≡ known_of (doc_of sources.now) state.now }
@@ -65,14 +66,14 @@ pub fn add_all<W: Wants<State = State>>(
 }
 
 /// The wanted steps of the columns of text, with counts up to a ceiling, from what is kept of the state's place.
-pub fn text_steps<W: Wants<State = State>>(
+pub fn text_steps<W: Wants<State = SmallState>>(
     sources: &Sources<'_>,
     state: &State,
     known: &Known,
     ceiling: &Counts,
     kept: &mut PlaceEnds,
     wants: &W,
-) -> Result<StepList<State, PageMove>, AllocError>
+) -> Result<StepList<SmallState, SmallMove>, AllocError>
     requires own { IsState (doc_of sources.now) state.now }
     requires known { known.now ≡ known_of (doc_of sources.now) state.now }
     requires ceiling { HasSoMany (doc_of sources.now) ceiling.now }

@@ -1,7 +1,8 @@
 //! What a session keeps of its last solution.
 ghost use Rattle.std.specs.Prelude.{◌≡◌, [], false, min};
 
-use pg_plan::{LabelList, PageKey, PageMove, State};
+use pg_plan::{LabelList, PageKey};
+use pg_small::{SmallMove, SmallState};
 use pg_table::Table;
 use std::alloc::Global;
 
@@ -9,7 +10,7 @@ use std::alloc::Global;
 /// of the galley as it stands.
 #[derive(Drop)]
 pub struct Kept {
-    pub table: Table<State, PageMove, PageKey>,
+    pub table: Table<SmallState, SmallMove, PageKey>,
     pub labels: LabelList,
     pub touched: u32,
     pub solved: bool,

@@ -17,8 +17,9 @@ use crate::space::PageSpace;
 use pg_floats::FloatList;
 use pg_list::{Galley, Place};
 use pg_moves::{open_by, walk_place};
-use pg_plan::{PageKey, PageMove, State};
+use pg_plan::{PageKey, State};
 use pg_rooms::PlaceEnds;
+use pg_small::{SmallMove, SmallState};
 use pg_states::no_worse;
 use pg_steps::Steps;
 use pg_style::Style;
@@ -55,7 +56,7 @@ struct Kept<D: Document> {
 /// The columns behind a state, and what is kept of its place.
 #[derive(Drop)]
 struct OpenedBy<D: Document> {
-    opened: Opened<State, PageMove>,
+    opened: Opened<SmallState, SmallMove>,
     kept: Kept<D>,
 }
 
@@ -117,7 +118,7 @@ impl<'a, D: Document> KeptPages<'a, D> {
     }
 
     // The columns that may follow a state and are wanted, by what is kept of its place.
-    fn open_by<W: Wants<State = State>>(
+    fn open_by<W: Wants<State = SmallState>>(
         &self,
         state: &State,
         kept: Kept<D>,
@@ -144,27 +145,28 @@ impl<'a, D: Document> KeptPages<'a, D> {
     }
 
     // The columns that may follow a state and are wanted. What is kept of its place serves for the next state.
-    fn open<W: Wants<State = State>>(
+    fn open<W: Wants<State = SmallState>>(
         &self,
-        state: &State,
+        state: &SmallState,
         wants: &W,
-    ) -> Result<Opened<State, PageMove>, AllocError>
+    ) -> Result<Opened<SmallState, SmallMove>, AllocError>
         requires { IsState (doc_of self.now.pages.sources) state.now }
         ensures moves { IfOk result (λ it. AreWanted (page_meaning (doc_of self.now.pages.sources)) state.now
             (W.spares wants.now) it.steps) }
         ensures reach { IfOk result (λ it. it.reach ≡ reach_at (doc_of self.now.pages.sources) state.now.place) }
     {
-        let kept = self.take(state.place)?;
-        let by = self.open_by(state, kept, wants)?;
+        let own = state.to_state(self.pages.sources.alloc)?;
+        let kept = self.take(own.place)?;
+        let by = self.open_by(&own, kept, wants)?;
         let _was = self.kept.try_replace(Some(by.kept));
         Ok(by.opened)
     }
 }
 
 impl<D: Document> Space for KeptPages<'_, D> {
-    type State = State;
+    type State = SmallState;
 
-    type Move = PageMove;
+    type Move = SmallMove;
 
     type Key = PageKey;
 
@@ -176,55 +178,55 @@ impl<D: Document> Space for KeptPages<'_, D> {
 
     ghost lawful = { λ s. pages_lawful s.pages.sources.galley.now s.pages.sources.style.now s.pages.sources.in_range };
 
-    fn start(&self) -> Result<State, AllocError> {
+    fn start(&self) -> Result<SmallState, AllocError> {
         self.pages.start()
     }
 
-    fn key(&self, state: &State) -> Result<PageKey, AllocError> {
+    fn key(&self, state: &SmallState) -> Result<PageKey, AllocError> {
         self.pages.key(state)
     }
 
-    fn rank(&self, state: &State) -> u64 {
+    fn rank(&self, state: &SmallState) -> u64 {
         self.pages.rank(state)
     }
 
-    fn block(&self, state: &State) -> u32 {
+    fn block(&self, state: &SmallState) -> u32 {
         self.pages.block(state)
     }
 
-    fn is_done(&self, state: &State) -> bool {
+    fn is_done(&self, state: &SmallState) -> bool {
         self.pages.is_done(state)
     }
 
-    fn no_worse(&self, a: &State, b: &State) -> bool {
+    fn no_worse(&self, a: &SmallState, b: &SmallState) -> bool {
         self.pages.no_worse(a, b)
     }
 
-    fn order(&self, a: &PageMove, b: &PageMove) -> Ordering {
+    fn order(&self, a: &SmallMove, b: &SmallMove) -> Ordering {
         self.pages.order(a, b)
     }
 
     fn expand<L: Ledger>(
         &self,
-        state: &State,
+        state: &SmallState,
         steps: &mut Steps<L>,
-    ) -> Result<Opened<State, PageMove>, AllocError> {
+    ) -> Result<Opened<SmallState, SmallMove>, AllocError> {
         steps.tick();
-        self.open(state, &EveryMove::<State>::new())
+        self.open(state, &EveryMove::<SmallState>::new())
     }
 }
 
 impl<D: Document> Offering for KeptPages<'_, D> {
-    fn outdoes(&self, a: &State, b: &State) -> bool {
+    fn outdoes(&self, a: &SmallState, b: &SmallState) -> bool {
         no_worse(a, b)
     }
 
-    fn offer<L: Ledger, W: Wants<State = State>>(
+    fn offer<L: Ledger, W: Wants<State = SmallState>>(
         &self,
-        state: &State,
+        state: &SmallState,
         steps: &mut Steps<L>,
         wants: &W,
-    ) -> Result<Opened<State, PageMove>, AllocError> {
+    ) -> Result<Opened<SmallState, SmallMove>, AllocError> {
         steps.tick();
         self.open(state, wants)
     }

@@ -7,14 +7,15 @@ ghost use Rattle.pg_table.specs.Label.{Grounded, RunOf};
 ghost use Rattle.pg_table.specs.declared.table.Entry.{Entry as AnEntry};
 ghost use Rattle.pg_space.specs.Runs.{IsWay, move_at};
 
-use pg_plan::{Moves, PageMove, State};
+use pg_plan::Moves;
+use pg_small::{SmallMove, SmallState};
 use pg_table::Entry;
 use std::alloc::{AllocError, Global};
 
 // The places of the labels on the way from a label back to the start, without the start.
 fn way_to(
     alloc: Global,
-    labels: &[Entry<State, PageMove>],
+    labels: &[Entry<SmallState, SmallMove>],
     index: usize,
 ) -> Result<Vec<usize>, AllocError>
     requires within { index < length labels.now }
@@ -30,7 +31,7 @@ fn way_to(
     Ok(way)
 }
 
-fn move_of(labels: &[Entry<State, PageMove>], at: usize) -> Option<&PageMove>
+fn move_of(labels: &[Entry<SmallState, SmallMove>], at: usize) -> Option<&SmallMove>
     ensures { option_copied result ≡ move_at labels.now at }
 {
     match labels.get(at) {
@@ -40,14 +41,15 @@ fn move_of(labels: &[Entry<State, PageMove>], at: usize) -> Option<&PageMove>
 }
 
 fn push_move(
-    labels: &[Entry<State, PageMove>],
+    alloc: Global,
+    labels: &[Entry<SmallState, SmallMove>],
     at: usize,
     moves: &mut Moves,
 ) -> Result<(), AllocError>
     ensures { OnOk result (moves.new ≡ moves.old ++ option_to_list (move_at labels.now at)) }
 {
     if let Some(step) = move_of(labels, at) {
-        moves.push(step.copy()?)?;
+        moves.push(step.to_move(alloc)?)?;
     }
     Ok(())
 }
@@ -55,7 +57,7 @@ fn push_move(
 /// The moves of the run of a label, from the first to the last.
 pub fn moves_of(
     alloc: Global,
-    labels: &[Entry<State, PageMove>],
+    labels: &[Entry<SmallState, SmallMove>],
     index: usize,
 ) -> Result<Moves, AllocError>
     requires within { index < length labels.now }
@@ -66,7 +68,7 @@ pub fn moves_of(
     let mut way = way_to(alloc, labels, index)?;
     let mut moves = Moves::new(alloc);
     'forth: while let Some(at) = way.pop() {
-        push_move(labels, at, &mut moves)?;
+        push_move(alloc, labels, at, &mut moves)?;
     }
     Ok(moves)
 }

@@ -17,7 +17,8 @@ use crate::runs::moves_of;
 use crate::space::PageSpace;
 use pg_floats::FloatList;
 use pg_list::Galley;
-use pg_plan::{PageKey, PageMove, Pagination, State};
+use pg_plan::{PageKey, Pagination};
+use pg_small::{SmallMove, SmallState};
 use pg_steps::Steps;
 use pg_style::Style;
 use pg_table::{Entry, Table};
@@ -40,7 +41,7 @@ pub fn refill_pages<L: Ledger>(
     galley: &Galley,
     style: &Style,
     floats: &FloatList,
-    table: &mut Table<State, PageMove, PageKey>,
+    table: &mut Table<SmallState, SmallMove, PageKey>,
     below: u32,
     steps: &mut Steps<L>,
 ) -> Result<(), AllocError>
@@ -59,7 +60,7 @@ fn refill_kept<D: Document, L: Ledger>(
     galley: &Galley,
     style: &Style,
     floats: &FloatList,
-    table: &mut Table<State, PageMove, PageKey>,
+    table: &mut Table<SmallState, SmallMove, PageKey>,
     below: u32,
     steps: &mut Steps<L>,
 ) -> Result<(), AllocError>
@@ -80,7 +81,7 @@ fn refill_kept<D: Document, L: Ledger>(
 pub fn outcome_of(
     alloc: Global,
     space: &PageSpace<'_>,
-    table: &Table<State, PageMove, PageKey>,
+    table: &Table<SmallState, SmallMove, PageKey>,
 ) -> Result<Outcome, AllocError>
     requires { IsTable (page_meaning (doc_of space.now.sources)) table.now }
     ensures { IfOk result (Solves space.now.sources.galley.now space.now.sources.style.now) }
@@ -92,7 +93,7 @@ pub fn outcome_of(
     }
 }
 
-fn cost_at(labels: &[Entry<State, PageMove>], index: usize) -> i128
+fn cost_at(labels: &[Entry<SmallState, SmallMove>], index: usize) -> i128
     requires { index < length labels.now }
     ensures { (e : AnEntry AState AMove) → slice_get labels.now index ≡ Some e → result ≡ e.cost }
 {
@@ -103,7 +104,7 @@ fn cost_at(labels: &[Entry<State, PageMove>], index: usize) -> i128
 fn best_at(
     alloc: Global,
     space: &PageSpace<'_>,
-    labels: &[Entry<State, PageMove>],
+    labels: &[Entry<SmallState, SmallMove>],
     index: usize,
 ) -> Result<Outcome, AllocError>
     requires table { IsTable (page_meaning (doc_of space.now.sources)) labels.now }

@@ -17,7 +17,8 @@ use pg_floats::FloatList;
 use pg_list::Galley;
 use pg_moves::open;
 use pg_paging::{columns_are_paged, pages_of};
-use pg_plan::{Moves, PageKey, PageMove, Pagination, State, compare_moves};
+use pg_plan::{Moves, PageKey, Pagination, State};
+use pg_small::{SmallMove, SmallState};
 use pg_sources::Sources;
 use pg_space_laws::filled_table_tells_all;
 use pg_states::{is_done, is_state, key_of, no_worse, rank_of, start};
@@ -89,9 +90,9 @@ impl<'a> PageSpace<'a> {
 }
 
 impl Space for PageSpace<'_> {
-    type State = State;
+    type State = SmallState;
 
-    type Move = PageMove;
+    type Move = SmallMove;
 
     type Key = PageKey;
 
@@ -103,40 +104,40 @@ impl Space for PageSpace<'_> {
 
     ghost lawful = { λ s. pages_lawful s.sources.galley.now s.sources.style.now s.sources.in_range };
 
-    fn start(&self) -> Result<State, AllocError> {
+    fn start(&self) -> Result<SmallState, AllocError> {
         start(&self.sources)
     }
 
-    fn key(&self, state: &State) -> Result<PageKey, AllocError> {
-        key_of(state)
+    fn key(&self, state: &SmallState) -> Result<PageKey, AllocError> {
+        key_of(self.sources.alloc, state)
     }
 
-    fn rank(&self, state: &State) -> u64 {
+    fn rank(&self, state: &SmallState) -> u64 {
         rank_of(&self.sources, state)
     }
 
-    fn block(&self, state: &State) -> u32 {
-        state.place.block
+    fn block(&self, state: &SmallState) -> u32 {
+        state.place().block
     }
 
-    fn is_done(&self, state: &State) -> bool {
+    fn is_done(&self, state: &SmallState) -> bool {
         is_done(&self.sources, state)
     }
 
-    fn no_worse(&self, a: &State, b: &State) -> bool {
+    fn no_worse(&self, a: &SmallState, b: &SmallState) -> bool {
         no_worse(a, b)
     }
 
-    fn order(&self, a: &PageMove, b: &PageMove) -> Ordering {
-        compare_moves(a, b)
+    fn order(&self, a: &SmallMove, b: &SmallMove) -> Ordering {
+        a.compare(b)
     }
 
     fn expand<L: Ledger>(
         &self,
-        state: &State,
+        state: &SmallState,
         steps: &mut Steps<L>,
-    ) -> Result<Opened<State, PageMove>, AllocError> {
+    ) -> Result<Opened<SmallState, SmallMove>, AllocError> {
         steps.tick();
-        open(&self.sources, state)
+        open(&self.sources, &state.to_state(self.sources.alloc)?)
     }
 }

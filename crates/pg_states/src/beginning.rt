@@ -6,6 +6,7 @@ ghost use Rattle.pg_sources.specs.Document.{doc_of};
 
 use pg_list::Place;
 use pg_plan::{Ages, Counts, Side, State};
+use pg_small::SmallState;
 use pg_sources::Sources;
 use pg_style::{First, Style};
 use std::alloc::AllocError;
@@ -21,11 +22,11 @@ fn first_side(style: &Style) -> Side
     }
 }
 
-/// The state before all columns: the first place, with no float placed and none that waits.
-pub fn start(sources: &Sources<'_>) -> Result<State, AllocError>
-    ensures { IfOk result (λ it. it ≡ state_at (doc_of sources.now) []) }
+// The state before all columns, in its own type.
+fn first_state(sources: &Sources<'_>) -> State
+    ensures { result ≡ state_at (doc_of sources.now) [] }
 {
-    Ok(State {
+    State {
         place: Place {
             block: 0,
             variant: 0,
@@ -38,5 +39,12 @@ pub fn start(sources: &Sources<'_>) -> Result<State, AllocError>
         fitness: None,
         placed: Counts::zeros(sources.alloc, sources.slots()),
         ages: Ages::new(sources.alloc),
-    })
+    }
+}
+
+/// The state before all columns: the first place, with no float placed and none that waits.
+pub fn start(sources: &Sources<'_>) -> Result<SmallState, AllocError>
+    ensures { IfOk result (λ it. it ≡ state_at (doc_of sources.now) []) }
+{
+    SmallState::of(sources.alloc, first_state(sources))
 }

@@ -4,22 +4,15 @@ ghost use Rattle.pg_flat.specs.Flat.{is_same_place as is_same_place_of};
 ghost use Rattle.pg_rules.specs.NoWorse.{are_no_older as are_no_older_of, are_same_counts as are_same_counts_of, is_no_worse, is_same_key as is_same_key_of, is_same_number as is_same_number_of, is_same_side as is_same_side_of, is_same_whole as is_same_whole_of, key};
 
 use pg_list::Place;
-use pg_plan::{PageKey, Side, State};
-use std::alloc::AllocError;
+use pg_plan::{PageKey, Side};
+use pg_small::SmallState;
+use std::alloc::{AllocError, Global};
 
 /// A state but for its ages.
-pub fn key_of(state: &State) -> Result<PageKey, AllocError>
+pub fn key_of(alloc: Global, state: &SmallState) -> Result<PageKey, AllocError>
     ensures { IfOk result (λ it. it ≡ key state.now) }
 {
-    Ok(PageKey {
-        place: state.place,
-        column: state.column,
-        side: state.side,
-        run: state.run,
-        wide: state.wide,
-        fitness: state.fitness,
-        placed: state.placed.copy()?,
-    })
+    state.key(alloc)
 }
 
 fn is_same_place(a: Place, b: Place) -> bool
@@ -90,38 +83,38 @@ fn are_no_older(a: &[u8], b: &[u8]) -> bool
 }
 
 // Whether the fitness and the counts of placed floats are the same.
-fn is_same_past(a: &State, b: &State) -> bool
+fn is_same_past(a: &SmallState, b: &SmallState) -> bool
     ensures { result ≡ (is_same_number_of a.now.fitness b.now.fitness && are_same_counts_of a.now.placed b.now.placed) }
 {
-    is_same_number(a.fitness, b.fitness)
-        && are_same_counts(a.placed.as_slice(), b.placed.as_slice())
+    is_same_number(a.fitness(), b.fitness()) && are_same_counts(a.placed(), b.placed())
 }
 
 // Whether the run and the wide area of the page are the same.
-fn is_same_page(a: &State, b: &State) -> bool
+fn is_same_page(a: &SmallState, b: &SmallState) -> bool
     ensures { result ≡ (is_same_number_of a.now.run b.now.run && is_same_whole_of a.now.wide b.now.wide) }
 {
-    is_same_number(a.run, b.run) && is_same_height(a.wide, b.wide)
+    is_same_number(a.run(), b.run()) && is_same_height(a.wide(), b.wide())
 }
 
 // Whether the place, the column and the side are the same.
-fn is_same_spot(a: &State, b: &State) -> bool
+fn is_same_spot(a: &SmallState, b: &SmallState) -> bool
     ensures { result ≡ (is_same_place_of a.now.place b.now.place
         && ((a.now.column == b.now.column) && is_same_side_of a.now.side b.now.side)) }
 {
-    is_same_place(a.place, b.place) && (a.column == b.column && is_same_side(a.side, b.side))
+    is_same_place(a.place(), b.place())
+        && (a.column() == b.column() && is_same_side(a.side(), b.side()))
 }
 
 // Whether two states are equal but for their ages.
-fn is_same_key(a: &State, b: &State) -> bool
+fn is_same_key(a: &SmallState, b: &SmallState) -> bool
     ensures { result ≡ is_same_key_of (key a.now) (key b.now) }
 {
     is_same_spot(a, b) && (is_same_page(a, b) && is_same_past(a, b))
 }
 
 /// Whether two states are equal but for their ages, and no age of the first is greater. No memory is taken.
-pub fn no_worse(a: &State, b: &State) -> bool
+pub fn no_worse(a: &SmallState, b: &SmallState) -> bool
     ensures { result ≡ is_no_worse a.now b.now }
 {
-    is_same_key(a, b) && are_no_older(a.ages.as_slice(), b.ages.as_slice())
+    is_same_key(a, b) && are_no_older(a.ages(), b.ages())
 }

@@ -9,15 +9,16 @@ ghost use Rattle.pg_sources.specs.Document.{doc_of};
 ghost use Rattle.pg_space_laws.specs.PageSpace.{place_rank as place_rank_of, rank, side_run as side_run_of};
 
 use pg_areas::total;
-use pg_list::Place;
-use pg_plan::{Side, State};
+use pg_plan::Side;
+use pg_small::SmallState;
 use pg_sources::Sources;
 use pg_space_laws::ranks_fit;
 
-// The block, the variant and the index of a place as one number, the block first.
-fn place_rank(at: Place) -> u64
-    ensures { result ≡ place_rank_of at }
+// The block, the variant and the index of a state's place as one number, the block first.
+fn place_rank(state: &SmallState) -> u64
+    ensures { result ≡ place_rank_of state.now.place }
 {
+    let at = state.place();
     (1 << 20) * (8 * u64::from(at.block) + u64::from(at.variant)) + u64::from(at.index)
 }
 
@@ -44,27 +45,27 @@ fn side_rank(side: Side) -> u64
 }
 
 // The run and whether the side is a right one, as one number.
-fn side_run(state: &State) -> u64
+fn side_run(state: &SmallState) -> u64
     ensures { result ≡ side_run_of state.now }
 {
-    2 * run_rank(state.run) + side_rank(state.side)
+    2 * run_rank(state.run()) + side_rank(state.side())
 }
 
 // The first column of a page comes after the second one of the page before.
-fn column_rank(column: u8) -> u64
-    ensures { result ≡ (if column == 1 then 16 else 0) }
+fn column_rank(state: &SmallState) -> u64
+    ensures { result ≡ (if state.now.column == 1 then 16 else 0) }
 {
-    if column == 1 { 16 } else { 0 }
+    if state.column() == 1 { 16 } else { 0 }
 }
 
 // How many floats are placed.
-fn count_placed(sources: &Sources<'_>, state: &State) -> u32
+fn count_placed(sources: &Sources<'_>, state: &SmallState) -> u32
     requires { IsState (doc_of sources.now) state.now }
     ensures { result ≡ total_count state.now.placed }
 {
     // hands on that the classes are few
     let _ = sources.slots();
-    total(state.placed.as_slice())
+    total(state.placed())
 }
 
 // By place, then by how many floats are placed, by column, and by run and side.
@@ -76,15 +77,15 @@ fn joined(place: u64, placed: u32, column: u64, run: u64) -> u64
 }
 
 /// The number by which the space of pages orders its states. No memory is taken.
-pub fn rank_of(sources: &Sources<'_>, state: &State) -> u64
+pub fn rank_of(sources: &Sources<'_>, state: &SmallState) -> u64
     requires { IsState (doc_of sources.now) state.now }
     ensures { result ≡ rank (doc_of sources.now) state.now }
 {
     ranks_fit(sources.galley, sources.style);
     joined(
-        place_rank(state.place),
+        place_rank(state),
         count_placed(sources, state),
-        column_rank(state.column),
+        column_rank(state),
         side_run(state),
     )
 }

@@ -15,6 +15,20 @@ use Rattle.pg_stretch.specs.declared.cursor.Cursor.{Cursor}
 use Rattle.pg_stretch.specs.Ahead.{IsSettled, front_ahead, item_ahead, items_ahead, place_ahead, settled, stepped}
 use Rattle.pg_stretch.proofs.Cursors.{IsDone, ahead_is, done}
 
+-- what no room up to the greatest one lets pass is not passed
+pub over_none : (doc : Document) (top : ℤ) (q : Passed) (xs : List FlatItem) → fits q.bound top ≡ false →
+    past_stretch doc top q xs ≡ None
+over_none doc top q xs f = by (pass_items doc q xs) refl
+  where
+    by : (o : Option Passed) → pass_items doc q xs ≡ o →
+        option_map_or (λ (r : Passed). if fits r.bound top then Some r else None) o None ≡ None
+    by None i = refl
+    by (Some r) i = inside (fits r.bound top) refl
+      where
+        inside : (t : Bool) → fits r.bound top ≡ t → (if t then Some r else None) ≡ None
+        inside false g = refl
+        inside true g = absurd (let k : true ≡ false = sym (items_fit doc top q r xs i g) ∙ f in cc)
+
 module _ (doc : Document) (top : ℤ) (p : Passed) (x : FlatItem) (xs : List FlatItem) where
   pub past_on : (q : Passed) → pass_item doc p x ≡ Some q →
       past_stretch doc top p (x ∷ xs) ≡ past_stretch doc top q xs
@@ -27,16 +41,7 @@ module _ (doc : Document) (top : ℤ) (p : Passed) (x : FlatItem) (xs : List Fla
 
   pub past_over : (q : Passed) → pass_item doc p x ≡ Some q → fits q.bound top ≡ false →
       past_stretch doc top p (x ∷ xs) ≡ None
-  past_over q e f = past_on q e ∙ by (pass_items doc q xs) refl
-    where
-      by : (o : Option Passed) → pass_items doc q xs ≡ o →
-          option_map_or (λ (r : Passed). if fits r.bound top then Some r else None) o None ≡ None
-      by None i = refl
-      by (Some r) i = inside (fits r.bound top) refl
-        where
-          inside : (t : Bool) → fits r.bound top ≡ t → (if t then Some r else None) ≡ None
-          inside false g = refl
-          inside true g = absurd (let k : true ≡ false = sym (items_fit doc top q r xs i g) ∙ f in cc)
+  past_over q e f = past_on q e ∙ over_none doc top q xs f
 
   -- the greatest block along the items is that of the first or of one behind it
   abbrev reached : ℕ → Option Passed → ℕ

@@ -1,3 +1,4 @@
 pub mod Cursors
 pub mod Along
 pub mod Left
+pub mod Quiet

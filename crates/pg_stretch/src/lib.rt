@@ -3,7 +3,8 @@
 //!
 //! Proved: a `Cursor` goes through the items of the stretches of pg_walk_laws (`specs/Ahead`); `Passed::pass` goes past
 //! one item, and past the break before it, as `specs/Passed` of pg_column says; `pass_on` goes through a stretch, and
-//! answers what was passed and the greatest block on the way.
+//! answers what was passed and the greatest block on the way. Where the notes passed take no room (`specs/Quiet`), a walk
+//! without notes goes the same way.
 #![tactic(auto)]
 
 mod cursor;

@@ -4,6 +4,7 @@ ghost use Rattle.pg_list.specs.Ranges.{IsItemInRange};
 ghost use Rattle.pg_flat.specs.Flat.{FlatItem};
 ghost use Rattle.pg_rules.specs.Legal.{document};
 ghost use Rattle.pg_column.specs.Passed.{are_within as are_within_of, crossed, fits as fits_of, is_end_here, least_room as least_room_of, nothing, pass_item, raised as raised_of, with_next};
+ghost use Rattle.pg_stretch.specs.Quiet.{is_quiet as is_quiet_of};
 ghost use Rattle.pg_stretch.specs.View.{IsFor, view};
 
 use pg_breaks::{break_cost, is_forced};
@@ -64,6 +65,13 @@ impl Passed {
         self.notes.first_over(style).is_none()
     }
 
+    /// Whether the notes passed take no room.
+    pub fn is_quiet(&self, style: &Style) -> bool
+        ensures { result ≡ is_quiet_of style.now (view self.now) }
+    {
+        self.notes.height(style) == 0
+    }
+
     /// Whether a room is not below the bound.
     pub fn fits(&self, room: i64) -> bool
         ensures { result ≡ fits_of self.now.bound room }
@@ -120,7 +128,32 @@ impl Passed {
         ensures counts { result ≡ true →
             (self.new.sums.count ≡ self.old.sums.count + 1) × (self.new.notes.count ≡ self.old.notes.count + 1) }
     {
-        if self.is_end(galley, place) {
+        let is_end = self.is_end(galley, place);
+        self.pass_at(galley, style, place, is_end, item)
+    }
+
+    /// The same as `pass`, where the answer of `is_end` at the place is at hand.
+    pub fn pass_at(
+        &mut self,
+        galley: &Galley,
+        style: &Style,
+        place: Place,
+        is_end: bool,
+        item: &Item,
+    ) -> bool
+        requires style { IsFor style.now self.old }
+        requires end { is_end ≡ is_end_here galley.now.blocks (view self.old) place }
+        requires range { IsItemInRange item.now }
+        requires few { (self.old.sums.count < 2 ^ 20) × (self.old.notes.count < 2 ^ 20) }
+        ensures goes { (is_front : Bool) → result ≡ true → pass_item (document galley.now style.now) (view self.old)
+            (record { place = place; item = item.now; is_front = is_front }) ≡ Some (view self.new) }
+        ensures stops { (is_front : Bool) → result ≡ false → (pass_item (document galley.now style.now) (view self.old)
+            (record { place = place; item = item.now; is_front = is_front }) ≡ None) × (self.new ≡ self.old) }
+        ensures style { IsFor style.now self.new }
+        ensures counts { result ≡ true →
+            (self.new.sums.count ≡ self.old.sums.count + 1) × (self.new.notes.count ≡ self.old.notes.count + 1) }
+    {
+        if is_end {
             if is_forced(galley, place) {
                 return false;
             }

@@ -1,6 +1,6 @@
 -- The state behind the first stretch is one of the walk.
-use Rattle.std.proofs.Common.{◌≡◌, refl, sym, ap, ◌∙◌, ℕ, ◌+◌, ◌≤◌, ◌<◌, ◌^◌, List, [], length, drop, arith, Some, None, Option, Result, Ok, Err, IfOk, IfSome, ℤ, inl, inr}
-use Rattle.std.specs.Prelude.{slice_get, unwrap_or, option_map}
+use Rattle.std.proofs.Common.{◌≡◌, refl, sym, ap, ◌∙◌, ℕ, ◌+◌, ◌≤◌, ◌<◌, ◌^◌, List, [], length, drop, arith, Some, None, Option, Result, Ok, Err, IfOk, IfSome, ℤ, inl, inr, ◌⊎◌, Bool, true, false, subst}
+use Rattle.std.specs.Prelude.{if◌then◌else◌, slice_get, unwrap_or, option_map}
 use Rattle.std.specs.List.{AllByRecursion}
 use Rattle.pg_list.specs.Counts.{item_count}
 use Rattle.pg_list.specs.declared.blocks.Block.{Block}
@@ -16,10 +16,15 @@ use Rattle.pg_rules.specs.Room.{Document}
 use Rattle.pg_stretch.specs.View.{IsFor, view}
 use Rattle.pg_stretch.specs.declared.passing.State.{State}
 use Rattle.pg_stretch.proofs.Left.{first_left}
-use Rattle.pg_walk_laws.specs.Walk.{first_front, first_items, past_stretch}
+use Rattle.pg_stretch.specs.Quiet.{is_quiet, passed_along}
+use Rattle.pg_stretch.proofs.Quiet.{quiet_reach, quiet_stops}
+use Rattle.pg_walk_laws.specs.Reached.{first_reach, quiet, reach_along}
+use Rattle.pg_walk_laws.specs.Walk.{first_front, first_items, past_stretch, variants_at}
 use Rattle.pg_walk_laws.proofs.SpaceLaws.{past_parts}
 use Rattle.pg_walk_laws.proofs.Whole.{first_within}
 use Rattle.pg_candidates.specs.View.{passed_of}
+use Rattle.pg_candidates.specs.declared.along.Walked.{Walked}
+use Rattle.pg_walk.specs.Blocks.{IsAlone, TellsQuiet}
 use Rattle.pg_walk_laws.specs.Candidates.{AreCandidates, Candidate}
 use Rattle.pg_walk_laws.specs.Laws.{LabelsSuffice}
 use Rattle.pg_walk_laws.specs.Space.{first_ends}
@@ -60,22 +65,91 @@ first_own doc top all few from at s front style past sums notes =
 
 -- ---- in the answer of the first stretch
 
-pub first_owned : {E : Type 0} (r : Result (Option State) E) (doc : Document) (top z : ℤ) → z ≡ top →
+-- a value of the first stretch, where its parts are told by equations
+pub at_first : {X : Type 0} (F : ℤ → Passed → List FlatItem → ℕ → X) (doc : Document) (top z : ℤ) → z ≡ top →
+    (from : Place) → (p : Passed) → p ≡ nothing → (xs : List FlatItem) → xs ≡ first_items doc.blocks from →
+    (b : ℕ) → b ≡ first_front doc.blocks from →
+    F z p xs b ≡ F top nothing (first_items doc.blocks from) (first_front doc.blocks from)
+at_first F doc top z t from p pe xs xe b be =
+    ap (λ (y : ℤ). F y p xs b) t ∙ (ap (λ (q : Passed). F top q xs b) pe
+    ∙ (ap (λ (ys : List FlatItem). F top nothing ys b) xe ∙ ap (F top nothing (first_items doc.blocks from)) be))
+
+pub first_owned : {E : Type 0} (r : Result Walked E) (doc : Document) (top z : ℤ) → z ≡ top →
     AllByRecursion IsBlock doc.blocks → item_count doc.blocks ≤ 2 ^ 20 → (from : Place) → IsPlace doc.blocks from →
     (p : Passed) → p ≡ nothing → (xs : List FlatItem) → xs ≡ first_items doc.blocks from →
     (b : ℕ) → b ≡ first_front doc.blocks from → (n m : ℕ) → n ≡ 0 → m ≡ 0 →
-    IfOk r (λ o. passed_of o ≡ past_stretch doc z p xs) → IfOk r (λ o. IfSome o (λ s. s.block ≡ b)) →
-    IfOk r (λ o. IfSome o (λ s. IsFor doc.style s.passed)) →
-    IfOk r (λ o. IfSome o (λ s. (s.passed.sums.count ≡ n + length xs) × (s.passed.notes.count ≡ m + length xs))) →
-    IfOk r (λ o. IfSome o (IsOwn doc top))
+    IfOk r (λ w. passed_of w.state ≡ past_stretch doc z p xs) → IfOk r (λ w. IfSome w.state (λ s. s.block ≡ b)) →
+    IfOk r (λ w. IfSome w.state (λ s. IsFor doc.style s.passed)) →
+    IfOk r (λ w. IfSome w.state (λ s.
+    (s.passed.sums.count ≡ n + length xs) × (s.passed.notes.count ≡ m + length xs))) →
+    IfOk r (λ w. IfSome w.state (IsOwn doc top))
 first_owned (Err e) doc top z t all few from at p pe xs xe b be n m ne me past front style counts = tt
-first_owned (Ok None) doc top z t all few from at p pe xs xe b be n m ne me past front style counts = tt
-first_owned (Ok (Some s)) doc top z t all few from at p pe xs xe b be n m ne me past front style counts =
-    let long = ap length xe in
-    first_own doc top all few from at s (front ∙ be) style
-    (past ∙ (ap (λ (y : ℤ). past_stretch doc y p xs) t ∙ (ap (λ (q : Passed). past_stretch doc top q xs) pe
-    ∙ ap (past_stretch doc top nothing) xe)))
-    (omega (arith, long, counts.0, ne)) (omega (arith, long, counts.1, me))
+first_owned (Ok w) doc top z t all few from at p pe xs xe b be n m ne me past front style counts =
+    by w.state past front style counts
+  where
+    by : (o : Option State) → passed_of o ≡ past_stretch doc z p xs → IfSome o (λ s. s.block ≡ b) →
+        IfSome o (λ s. IsFor doc.style s.passed) →
+        IfSome o (λ s. (s.passed.sums.count ≡ n + length xs) × (s.passed.notes.count ≡ m + length xs)) →
+        IfSome o (IsOwn doc top)
+    by None past front style counts = tt
+    by (Some s) past front style counts =
+        let long = ap length xe in
+        first_own doc top all few from at s (front ∙ be) style
+        (past ∙ at_first (λ (y : ℤ) (q : Passed) (ys : List FlatItem) (c : ℕ). past_stretch doc y q ys)
+        doc top z t from p pe xs xe b be)
+        (omega (arith, long, counts.0, ne)) (omega (arith, long, counts.1, me))
+
+-- ---- what it tells of a walk without notes
+
+tells_quiet : (doc : Document) (top : ℤ) (from : Place) (w : Walked) →
+    passed_of w.state ≡ past_stretch doc top nothing (first_items doc.blocks from) →
+    w.greatest ≡ first_reach doc top from →
+    w.is_quiet ≡ is_quiet doc.style (passed_along doc top nothing (first_items doc.blocks from)) →
+    w.is_quiet ≡ true → TellsQuiet doc top from w
+tells_quiet doc top from w past reach quiet-is is =
+    let items = first_items doc.blocks from in
+    let still = sym quiet-is ∙ is in
+    record {
+      greatest = reach ∙ sym (quiet_reach doc top nothing items still (first_front doc.blocks from));
+      stops = λ none. quiet_stops doc top nothing items still (sym past ∙ none);
+    }
+
+pub first_quiet : {E : Type 0} (r : Result Walked E) (doc : Document) (top z : ℤ) → z ≡ top → (from : Place) →
+    (p : Passed) → p ≡ nothing → (xs : List FlatItem) → xs ≡ first_items doc.blocks from →
+    (b : ℕ) → b ≡ first_front doc.blocks from →
+    IfOk r (λ w. passed_of w.state ≡ past_stretch doc z p xs) →
+    IfOk r (λ w. w.greatest ≡ reach_along doc z b p xs) →
+    IfOk r (λ w. w.is_quiet ≡ is_quiet doc.style (passed_along doc z p xs)) →
+    IfOk r (λ w. w.is_quiet ≡ true → TellsQuiet doc top from w)
+first_quiet (Err e) doc top z t from p pe xs xe b be past reach quiet-is = tt
+first_quiet (Ok w) doc top z t from p pe xs xe b be past reach quiet-is =
+    tells_quiet doc top from w
+    (past ∙ at_first (λ (y : ℤ) (q : Passed) (ys : List FlatItem) (c : ℕ). past_stretch doc y q ys)
+    doc top z t from p pe xs xe b be)
+    (reach ∙ at_first (λ (y : ℤ) (q : Passed) (ys : List FlatItem) (c : ℕ). reach_along doc y c q ys)
+    doc top z t from p pe xs xe b be)
+    (quiet-is ∙ at_first (λ (y : ℤ) (q : Passed) (ys : List FlatItem) (c : ℕ).
+    is_quiet doc.style (passed_along doc y q ys)) doc top z t from p pe xs xe b be)
+
+pub told_alone : (doc : Document) (top z : ℤ) → z ≡ top → (from : Place) (w : Walked) (o : Option ℕ) →
+    o ≡ (if w.is_quiet then Some w.greatest else None) → (w.is_quiet ≡ true → TellsQuiet doc z from w) →
+    (passed_of w.state ≡ None) ⊎ (variants_at doc.blocks (first_front doc.blocks from) ≡ []) →
+    IfSome o (IsAlone (quiet doc) top from)
+told_alone doc top z t from w o is tells last =
+    subst (λ (a : Option ℕ). IfSome a (IsAlone (quiet doc) top from)) (sym is) (by w.is_quiet tells)
+  where
+    by : (b : Bool) → (b ≡ true → TellsQuiet doc z from w) →
+        IfSome (if b then Some w.greatest else None) (IsAlone (quiet doc) top from)
+    by false tells = tt
+    by true tells =
+        let told = subst (λ (y : ℤ). TellsQuiet doc y from w) t (tells refl) in
+        record {
+          is = told.greatest;
+          last = elim last [
+            | inl none ↦ inl (told.stops none)
+            | inr none ↦ inr none
+          ];
+        }
 
 -- ---- what suffices
 

@@ -85,16 +85,14 @@ module _ (doc : Document) (labels : LabelsTellReach doc) (stretch : StretchTells
       (lifted (quiet doc) (tallest doc.style) b.start b.goes.es b.goes.table)
       (is_greatest (quiet doc) (tallest doc.style) from b.goes.es n b.goes.furthest)
 
--- the same where the style and the room are told by equations
-pub reach_tells : (galley : GalleyValue) (style other : StyleValue) (z : ℤ) →
-    other ≡ record style { classes = []; max_looseness = 100 } → z ≡ tallest style →
-    LabelsTellReach (document galley style) → StretchTellsReach (document galley style) → (from : Place) →
-    IsPlace galley.blocks from → (n : ℕ) → IsGreatestFrom (document galley other) z from n →
-    IsReach (document galley style) from (n + 1)
-reach_tells galley style other z e t labels stretch from at n g =
-    tells (document galley style) labels stretch from at n
-    (subst (λ (s : StyleValue). IsGreatestFrom (document galley s) (tallest style) from n) e
-    (subst (λ (y : ℤ). IsGreatestFrom (document galley other) y from n) t g))
+-- where the style and the room are told by equations
+pub greatest_quiet : (galley : GalleyValue) (style other : StyleValue) (z : ℤ) →
+    other ≡ record style { classes = []; max_looseness = 100 } → z ≡ tallest style → (from : Place) → (n : ℕ) →
+    IsGreatestFrom (document galley other) z from n →
+    IsGreatestFrom (quiet (document galley style)) (tallest style) from n
+greatest_quiet galley style other z e t from n g =
+    subst (λ (s : StyleValue). IsGreatestFrom (document galley s) (tallest style) from n) e
+    (subst (λ (y : ℤ). IsGreatestFrom (document galley other) y from n) t g)
 
 -- ---- behind the first stretch
 

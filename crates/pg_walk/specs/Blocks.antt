@@ -7,7 +7,9 @@ use Rattle.pg_stretch.specs.View.{view}
 use Rattle.pg_stretch.specs.declared.passed.Passed.{Passed}
 use Rattle.pg_stretch.specs.declared.passing.State.{State}
 use Rattle.pg_walk_labels.specs.Furthest.{GoesTo}
-use Rattle.pg_walk_laws.specs.Reached.{first_reach}
+use Rattle.pg_candidates.specs.View.{passed_of}
+use Rattle.pg_candidates.specs.declared.along.Walked.{Walked}
+use Rattle.pg_walk_laws.specs.Reached.{first_reach, quiet}
 use Rattle.pg_walk_laws.specs.Walk.{first_front, first_items, past_stretch, variants_at}
 
 -- before a front with what was passed
@@ -19,6 +21,12 @@ pub record IsAlone (doc : Document) (top : ℤ) (from : Place) (n : ℕ) : Type 
   pub is : n ≡ first_reach doc top from
   pub last : (past_stretch doc top nothing (first_items doc.blocks from) ≡ None)
       ⊎ (variants_at doc.blocks (first_front doc.blocks from) ≡ [])
+
+-- a walk along the first stretch tells the greatest block of one without notes, which stops where it stops
+pub record TellsQuiet (doc : Document) (top : ℤ) (from : Place) (walked : Walked) : Type 0 where
+  pub greatest : walked.greatest ≡ first_reach (quiet doc) top from
+  pub stops : passed_of walked.state ≡ None →
+      past_stretch (quiet doc) top nothing (first_items doc.blocks from) ≡ None
 
 -- the greatest block along the first stretch and along the picks at the fronts behind it
 pub record IsByPicks (doc : Document) (top : ℤ) (from : Place) (n : ℕ) : Type 0 where

@@ -5,7 +5,8 @@
 //! height, keeps the rules on one column, with its numbers and its best picks, in order, and nothing else (`AreEnds` of
 //! pg_ends); `ends_many` does so for several rooms from one walk; `reach_of` tells how far columns from a place may go
 //! (`IsReach` of pg_rules); `walk_from` does both from one place for all rooms, and gives the candidates with what no
-//! room changes (`AreNearFrom` of pg_candidates). This holds for every galley and style.
+//! room changes (`AreNearFrom` of pg_candidates). Where no choice is reached and the notes on the way take no room, the
+//! walk for the candidates tells the reach too. This holds for every galley and style.
 #![tactic(auto)]
 
 mod place;

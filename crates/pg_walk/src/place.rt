@@ -6,9 +6,9 @@ ghost use Rattle.pg_rules.specs.Reach.{IsReach};
 ghost use Rattle.pg_walk_laws.specs.Reached.{tallest as tallest_of};
 ghost use Rattle.pg_candidates.specs.Nears.{AreNearFrom};
 
-use crate::reach::{reach_of, tallest};
-use crate::walking::candidates;
-use pg_candidates::NearList;
+use crate::reach::{reach_told, tallest};
+use crate::walking::{candidates, collect_from};
+use pg_candidates::{CandidateList, NearList};
 use pg_list::{Galley, Place};
 use pg_style::Style;
 use std::alloc::{AllocError, Global};
@@ -50,7 +50,9 @@ pub fn walk_from(
         AreNearFrom (document galley.now style.now) from (tallest_of style.now) walk.near) }
     ensures reach { IfOk result (λ walk. IsReach (document galley.now style.now) from walk.reach) }
 {
-    let reach = reach_of(alloc, galley, style, from)?;
-    let near = near_from(alloc, galley, style, from, tallest(style))?;
+    let mut found = CandidateList::with_room(alloc)?;
+    let told = collect_from(alloc, galley, style, from, tallest(style), &mut found)?;
+    let reach = reach_told(alloc, galley, style, from, told)?;
+    let near = found.into_near(alloc, galley, style)?;
     Ok(PlaceWalk { near, reach })
 }

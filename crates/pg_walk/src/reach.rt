@@ -1,10 +1,10 @@
 //! How far columns from a place may go.
-ghost use Rattle.std.specs.Prelude.{◌≡◌, [], IfOk, option_map};
+ghost use Rattle.std.specs.Prelude.{◌≡◌, [], IfOk, IfSome, option_map};
 ghost use Rattle.pg_rules.specs.IsState.{IsPlace};
 ghost use Rattle.pg_rules.specs.Legal.{document};
 ghost use Rattle.pg_rules.specs.Reach.{IsReach, greatest_extra as greatest_extra_of};
-ghost use Rattle.pg_walk_laws.specs.Reached.{tallest as tallest_of};
-ghost use Rattle.pg_walk.specs.Blocks.{IsGreatestFrom, state};
+ghost use Rattle.pg_walk_laws.specs.Reached.{quiet, tallest as tallest_of};
+ghost use Rattle.pg_walk.specs.Blocks.{IsAlone, IsGreatestFrom, state};
 
 use pg_list::{Galley, Place};
 use pg_stretch::{Cursor, Passed, State, pass_on};
@@ -116,6 +116,18 @@ fn greatest_block(
     furthest(alloc, galley, style, top, start, first)
 }
 
+// One more than the greatest block that columns without notes come to in the tallest room.
+fn one_more(galley: &Galley, style: &Style, from: Place, block: u32) -> u32
+    requires place { IsPlace galley.now.blocks from }
+    requires greatest { IsGreatestFrom (quiet (document galley.now style.now)) (tallest_of style.now) from block }
+    ensures { IsReach (document galley.now style.now) from result }
+{
+    style.stays_in_range();
+    let _ = galley.blocks().as_slice();
+    walk_tells_reach(galley, style);
+    block + 1
+}
+
 /// One more than the greatest block of a place that a column of text from a place may reach: in the tallest room,
 /// whatever is picked, without notes. One straight walk up to the first choice; where there are choices, the table over
 /// their fronts.
@@ -130,10 +142,25 @@ pub fn reach_of(
     requires { IsPlace galley.now.blocks from }
     ensures { IfOk result (IsReach (document galley.now style.now) from) }
 {
-    style.stays_in_range();
-    let _ = galley.blocks().as_slice();
-    walk_tells_reach(galley, style);
     let quiet = quiet_style(alloc, style);
     let block = greatest_block(alloc, galley, &quiet, tallest(style), from)?;
-    Ok(block + 1)
+    Ok(one_more(galley, style, from, block))
+}
+
+// How far columns from a place may go, where the first stretch alone may have told the greatest block.
+pub(crate) fn reach_told(
+    alloc: Global,
+    galley: &Galley,
+    style: &Style,
+    from: Place,
+    told: Option<u32>,
+) -> Result<u32, AllocError>
+    requires place { IsPlace galley.now.blocks from }
+    requires told { IfSome told (IsAlone (quiet (document galley.now style.now)) (tallest_of style.now) from) }
+    ensures { IfOk result (IsReach (document galley.now style.now) from) }
+{
+    match told {
+        Some(block) => Ok(one_more(galley, style, from, block)),
+        None => reach_of(alloc, galley, style, from),
+    }
 }

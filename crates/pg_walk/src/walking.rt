@@ -1,15 +1,17 @@
 //! The candidates of a place.
-ghost use Rattle.std.specs.Prelude.{◌≡◌, ◌++◌, ◌<◌, ◌≤◌, ◌^◌, IfOk, IfSome, OnOk, length};
+ghost use Rattle.std.specs.Prelude.{◌≡◌, ◌++◌, [], true, if◌then◌else◌, None, Some, IfOk, IfSome, OnOk};
 ghost use Rattle.pg_rules.specs.IsState.{IsPlace};
 ghost use Rattle.pg_rules.specs.Legal.{document};
 ghost use Rattle.pg_column.specs.Passed.{nothing};
 ghost use Rattle.pg_walk_laws.specs.Candidates.{AreCandidates};
+ghost use Rattle.pg_walk_laws.specs.Reached.{quiet};
 ghost use Rattle.pg_walk_laws.specs.Space.{first_ends};
 ghost use Rattle.pg_walk_laws.specs.Walk.{first_front, first_items, past_stretch};
 ghost use Rattle.pg_candidates.specs.View.{passed_of};
 ghost use Rattle.pg_walk_space.specs.Meaning.{IsOwn};
+ghost use Rattle.pg_walk.specs.Blocks.{IsAlone, TellsQuiet};
 
-use pg_candidates::{CandidateList, ends_on};
+use pg_candidates::{CandidateList, Walked, walk_on};
 use pg_list::{Galley, Place};
 use pg_plan::Picks;
 use pg_stretch::{Cursor, Passed, State};
@@ -19,7 +21,8 @@ use pg_walk_laws::laws::walk_is_a_space;
 use pg_walk_space::variants_at;
 use std::alloc::{AllocError, Global};
 
-// Adds the ends along the first stretch, and answers the state behind it where it is passed.
+// Adds the ends along the first stretch, and answers what the walk along it tells; where the notes passed take no room,
+// it tells of a walk without notes.
 fn first_stretch(
     alloc: Global,
     galley: &Galley,
@@ -27,18 +30,19 @@ fn first_stretch(
     from: Place,
     top: i64,
     found: &mut CandidateList,
-) -> Result<Option<State>, AllocError>
+) -> Result<Walked, AllocError>
     requires place { IsPlace galley.now.blocks from }
     ensures ends { OnOk result (found.new ≡ found.old ++ first_ends (document galley.now style.now) top from) }
-    ensures past { IfOk result (λ o. passed_of o
+    ensures past { IfOk result (λ w. passed_of w.state
         ≡ past_stretch (document galley.now style.now) top nothing (first_items galley.now.blocks from)) }
-    ensures front { IfOk result (λ o. IfSome o (λ s. s.block ≡ first_front galley.now.blocks from)) }
-    ensures own { IfOk result (λ o. IfSome o (IsOwn (document galley.now style.now) top)) }
+    ensures front { IfOk result (λ w. IfSome w.state (λ s. s.block ≡ first_front galley.now.blocks from)) }
+    ensures own { IfOk result (λ w. IfSome w.state (IsOwn (document galley.now style.now) top)) }
+    ensures quiet { IfOk result (λ w. w.is_quiet ≡ true → TellsQuiet (document galley.now style.now) top from w) }
 {
     let _ = galley.blocks().as_slice();
     let ahead = Cursor::first(galley, from);
     let picks = Picks::new(alloc);
-    ends_on(
+    walk_on(
         galley,
         style,
         top,
@@ -48,6 +52,53 @@ fn first_stretch(
         0,
         found,
     )
+}
+
+// The greatest block of a walk in which the notes passed take no room.
+fn quiet_greatest(walked: &Walked) -> Option<u32>
+    ensures { result ≡ (if walked.now.is_quiet then Some walked.now.greatest else None) }
+{
+    if walked.is_quiet {
+        Some(walked.greatest)
+    } else {
+        None
+    }
+}
+
+// The state behind the first stretch, where it is passed.
+fn state_behind(walked: &Walked) -> Option<State>
+    ensures { result ≡ walked.now.state }
+{
+    walked.state
+}
+
+// Finds the candidates of a place, and answers the greatest block of columns without notes, where the first stretch is
+// all there is and tells it.
+pub(crate) fn collect_from(
+    alloc: Global,
+    galley: &Galley,
+    style: &Style,
+    from: Place,
+    top: i64,
+    found: &mut CandidateList,
+) -> Result<Option<u32>, AllocError>
+    requires place { IsPlace galley.now.blocks from }
+    requires none { found.old ≡ [] }
+    ensures found { OnOk result (AreCandidates (document galley.now style.now) from top found.new) }
+    ensures told { IfOk result (λ told. IfSome told (IsAlone (quiet (document galley.now style.now)) top from)) }
+{
+    let _ = galley.blocks().as_slice();
+    walk_is_a_space(galley, style);
+    let walked = first_stretch(alloc, galley, style, from, top, found)?;
+    let told = quiet_greatest(&walked);
+    let Some(start) = state_behind(&walked) else {
+        return Ok(told);
+    };
+    if variants_at(galley, start.block).is_empty() {
+        return Ok(told);
+    }
+    collect(alloc, galley, style, top, start, found)?;
+    Ok(None)
 }
 
 /// Where columns of text from a place may end in some room up to a greatest one, in scaled points, with what they pass
@@ -65,15 +116,7 @@ pub fn candidates(
     requires { IsPlace galley.now.blocks from }
     ensures { IfOk result (AreCandidates (document galley.now style.now) from top) }
 {
-    let _ = galley.blocks().as_slice();
-    walk_is_a_space(galley, style);
-    let mut found = CandidateList::new(alloc);
-    let Some(start) = first_stretch(alloc, galley, style, from, top, &mut found)? else {
-        return Ok(found);
-    };
-    if variants_at(galley, start.block).is_empty() {
-        return Ok(found);
-    }
-    collect(alloc, galley, style, top, start, &mut found)?;
+    let mut found = CandidateList::with_room(alloc)?;
+    collect_from(alloc, galley, style, from, top, &mut found)?;
     Ok(found)
 }

@@ -7,10 +7,10 @@ pub covers_step-requires-clause-to : goal.covers_step-requires-clause-to
 covers_step-requires-clause-to g c =
     own_behind _ _ _ _ _ _ _ _ c.in-Some.ensures.steps c.loop-step.invariant c.requires.steps
 
-pub loop-step-preserved-in_ok-covers_step : goal.loop-step-preserved-in_ok-covers_step
-loop-step-preserved-in_ok-covers_step g c = subst (LeastBehind _ _ _ _ _) (sym c.least_place-least.ensures)
-    (behind_more _ _ _ _ _ _ _ _ _ c.in-Some.ensures.steps c.in_ok-covers_step.ensures c.loop-step.invariant)
+pub loop-step-preserved-in_ok-is_covered : goal.loop-step-preserved-in_ok-is_covered
+loop-step-preserved-in_ok-is_covered g c = subst (LeastBehind _ _ _ _ _) (sym c.least_by-least.ensures)
+    (behind_more _ _ _ _ _ _ _ _ _ c.in-Some.ensures.steps c.in_ok-is_covered.ensures c.loop-step.invariant)
 
 pub loop-step-preserved : goal.loop-step-preserved
-loop-step-preserved g c = subst (LeastBehind _ _ _ _ _) (sym c.least_place-least.ensures)
-    (behind_more _ _ _ _ _ _ _ _ _ c.in-Some.ensures.steps c.in_ok-covers_step.ensures c.loop-step.invariant)
+loop-step-preserved g c = subst (LeastBehind _ _ _ _ _) (sym c.least_by-least.ensures)
+    (behind_more _ _ _ _ _ _ _ _ _ c.in-Some.ensures.steps c.in_ok-is_covered.ensures c.loop-step.invariant)

@@ -3,8 +3,8 @@ use Rattle.pg_cover.proofs.cover.open_of.Goals as goal
 
 pub least_open-requires-clause-steps : goal.least_open-requires-clause-steps
 least_open-requires-clause-steps g c = own_steps _ c.args.labels.now c.args.label.now _
-    (g.met.S.Space.lawful c.args.space.now) c.requires.label _ c.in_ok-opened.ensures.moves
+    (g.met.S.Space.lawful c.args.space.now) c.requires.label _ c.in_ok-opened.ensures
 
 pub returns : goal.returns
 returns g c = if_ok c.least_open.result c.least_open.ensures
-    (λ least l. open_least _ _ _ _ least c.in_ok-opened.ensures.moves l)
+    (λ least l. open_least _ _ _ _ least c.in_ok-opened.ensures l)

@@ -6,7 +6,7 @@ use Rattle.pg_list.proofs.Sizes.{blocks_le}
 use Rattle.pg_rules.specs.Legal.{document}
 use Rattle.pg_stretch.specs.View.{view}
 use Rattle.pg_stretch.proofs.Left.{first_left}
-use Rattle.pg_walk.proofs.First.{first_owned, place_within}
+use Rattle.pg_walk.proofs.First.{first_owned, first_quiet, place_within}
 use Rattle.pg_walk.proofs.walking.first_stretch.Goals as goal
 
 pub first-ahead-requires : goal.first-ahead-requires
@@ -17,8 +17,8 @@ first-ahead-requires c =
     let at = place_within c.args.galley.now.blocks c.args.from c.requires.place in
     omega (arith, long, limit, at)
 
-pub ends_on-requires-clause-few : goal.ends_on-requires-clause-few
-ends_on-requires-clause-few c =
+pub walk_on-requires-clause-few : goal.walk_on-requires-clause-few
+walk_on-requires-clause-few c =
     let left = first_left c.args.galley.now.blocks c.args.from in
     let same = ap length c.first-ahead.ensures.items in
     let limit = c.blocks-2.ensures.limit in
@@ -28,9 +28,16 @@ ends_on-requires-clause-few c =
 pub returns-clause-own : goal.returns-clause-own
 returns-clause-own c =
     let all = subst (AllByRecursion IsBlock) c.blocks-2.ensures.blocks c.as_slice.ensures.shape in
-    first_owned c.ends_on.result (document c.args.galley.now c.args.style.now) c.args.top _
+    first_owned c.walk_on.result (document c.args.galley.now c.args.style.now) c.args.top _
     (to_z-of_z w64 c.args.top (record { sfits = c.ranges.top.sfits })) all c.blocks-2.ensures.limit c.args.from
     c.requires.place (view c.nothing.result) c.nothing.ensures.value _ c.first-ahead.ensures.items _
     c.first-ahead.ensures.front c.nothing.result.sums.count c.nothing.result.notes.count c.nothing.ensures.counts.0
-    c.nothing.ensures.counts.1 c.ends_on.ensures.past c.ends_on.ensures.front c.ends_on.ensures.style
-    c.ends_on.ensures.counts
+    c.nothing.ensures.counts.1 c.walk_on.ensures.past c.walk_on.ensures.front c.walk_on.ensures.style
+    c.walk_on.ensures.counts
+
+pub returns-clause-quiet : goal.returns-clause-quiet
+returns-clause-quiet c =
+    first_quiet c.walk_on.result (document c.args.galley.now c.args.style.now) c.args.top _
+    (to_z-of_z w64 c.args.top (record { sfits = c.ranges.top.sfits })) c.args.from (view c.nothing.result)
+    c.nothing.ensures.value _ c.first-ahead.ensures.items _ c.first-ahead.ensures.front c.walk_on.ensures.past
+    c.walk_on.ensures.reach c.walk_on.ensures.quiet

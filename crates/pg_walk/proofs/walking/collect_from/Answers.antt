@@ -1,4 +1,4 @@
-use Rattle.std.proofs.Common.{◌≡◌, ◌∙◌, ap, sym, subst, length, List, [], ◌++◌, Some, Option, IfSome, arith, ℕ, ℤ, inr, w64, to_z, of_z}
+use Rattle.std.proofs.Common.{◌≡◌, ◌∙◌, ap, sym, subst, length, List, [], ◌++◌, Some, Option, IfSome, arith, ℕ, ℤ, inl, inr, w64, to_z, of_z}
 use Rattle.std.specs.List.{AllByRecursion}
 use Rattle.std.proofs.lemmas.Int.{to_z-of_z}
 use Rattle.pg_list.specs.Shapes.{IsBlock}
@@ -14,8 +14,8 @@ use Rattle.pg_walk_laws.specs.Candidates.{AreCandidates, Candidate}
 use Rattle.pg_walk_laws.specs.Space.{first_ends}
 use Rattle.pg_walk_laws.specs.Walk.{first_front, first_items, past_stretch, variants_at}
 use Rattle.pg_walk_labels.specs.Collected.{Collects}
-use Rattle.pg_walk.proofs.First.{labels_do}
-use Rattle.pg_walk.proofs.walking.candidates.Goals as goal
+use Rattle.pg_walk.proofs.First.{labels_do, told_alone}
+use Rattle.pg_walk.proofs.walking.collect_from.Goals as goal
 
 pub walk_is_a_space-requires-clause-few : goal.walk_is_a_space-requires-clause-few
 walk_is_a_space-requires-clause-few c =
@@ -24,43 +24,66 @@ walk_is_a_space-requires-clause-few c =
     let limit = c.blocks-2.ensures.limit in
     omega (arith, long, limit)
 
-pub returns-then-is_empty : goal.returns-then-is_empty
-returns-then-is_empty c =
+pub returns-then-is_empty-clause-found : goal.returns-then-is_empty-clause-found
+returns-then-is_empty-clause-found c =
     let doc = document c.args.galley.now c.args.style.now in
     let top = to_z-of_z w64 c.args.top (record { sfits = c.ranges.top.sfits }) in
     let front : c.in-Some.start.block ≡ first_front doc.blocks c.args.from =
-    subst (λ (o : Option State). IfSome o (λ s. s.block ≡ first_front doc.blocks c.args.from)) c.in-Some.is
-    c.in_ok-start.ensures.front in
+    subst (λ (o : Option State). IfSome o (λ s. s.block ≡ first_front doc.blocks c.args.from))
+    (sym c.state_behind.ensures ∙ c.in-Some.is)
+    c.in_ok-walked.ensures.front in
     let empty : length c.variants_at.result.now ≡ 0 = eqb-true _ _ (sym c.is_empty.ensures ∙ c.if-is_empty.true) in
     let none : variants_at doc.blocks c.in-Some.start.block ≡ [] =
     sym c.variants_at.ensures.variants ∙ no_items c.variants_at.result.now empty in
     let found : c.first_stretch.new.found ≡ first_ends doc c.args.top c.args.from =
-    c.in_ok-start.ensures.ends
+    c.in_ok-walked.ensures.ends
     ∙ ap (λ (xs : List Candidate). xs ++ first_ends doc (to_z w64 (of_z w64 c.args.top)) c.args.from)
-    c.new-found.ensures
+    c.requires.none
     ∙ ap (λ (z : ℤ). first_ends doc z c.args.from) top in
     subst (AreCandidates doc c.args.from c.args.top) (sym found)
-    (c.walk_is_a_space.ensures.stretch c.args.from c.args.top c.requires
+    (c.walk_is_a_space.ensures.stretch c.args.from c.args.top c.requires.place
     (inr (subst (λ (b : ℕ). variants_at doc.blocks b ≡ []) front none)))
 
-pub returns : goal.returns
-returns c =
+pub returns-clause-found : goal.returns-clause-found
+returns-clause-found c =
     let doc = document c.args.galley.now c.args.style.now in
     let top = to_z-of_z w64 c.args.top (record { sfits = c.ranges.top.sfits }) in
     let front : c.in-Some.start.block ≡ first_front doc.blocks c.args.from =
-    subst (λ (o : Option State). IfSome o (λ s. s.block ≡ first_front doc.blocks c.args.from)) c.in-Some.is
-    c.in_ok-start.ensures.front in
+    subst (λ (o : Option State). IfSome o (λ s. s.block ≡ first_front doc.blocks c.args.from))
+    (sym c.state_behind.ensures ∙ c.in-Some.is)
+    c.in_ok-walked.ensures.front in
     let past : Some (view c.in-Some.start.passed)
     ≡ past_stretch doc c.args.top nothing (first_items doc.blocks c.args.from) =
-    ap passed_of (sym c.in-Some.is) ∙ (c.in_ok-start.ensures.past
+    ap passed_of (sym c.in-Some.is ∙ c.state_behind.ensures) ∙ (c.in_ok-walked.ensures.past
     ∙ ap (λ (z : ℤ). past_stretch doc z nothing (first_items doc.blocks c.args.from)) top) in
     let found : c.first_stretch.new.found ≡ first_ends doc c.args.top c.args.from =
-    c.in_ok-start.ensures.ends
+    c.in_ok-walked.ensures.ends
     ∙ ap (λ (xs : List Candidate). xs ++ first_ends doc (to_z w64 (of_z w64 c.args.top)) c.args.from)
-    c.new-found.ensures
+    c.requires.none
     ∙ ap (λ (z : ℤ). first_ends doc z c.args.from) top in
-    labels_do doc c.args.top c.walk_is_a_space.ensures.labels c.args.from c.requires c.in-Some.start
+    labels_do doc c.args.top c.walk_is_a_space.ensures.labels c.args.from c.requires.place c.in-Some.start
     c.collect.new.found front past
     (subst (λ (xs : List Candidate). Collects doc c.args.top c.in-Some.start xs c.collect.new.found) found
     (subst (λ (z : ℤ). Collects doc z c.in-Some.start c.first_stretch.new.found c.collect.new.found) top
     c.in_ok-collect.ensures))
+
+pub returns-in_default-clause-told : goal.returns-in_default-clause-told
+returns-in_default-clause-told c =
+    told_alone (document c.args.galley.now c.args.style.now) c.args.top _
+    (to_z-of_z w64 c.args.top (record { sfits = c.ranges.top.sfits })) c.args.from c.in_ok-walked.walked
+    c.quiet_greatest-told.result c.quiet_greatest-told.ensures c.in_ok-walked.ensures.quiet
+    (inl (ap passed_of (sym c.state_behind.ensures ∙ c.in_default.is)))
+
+pub returns-then-is_empty-clause-told : goal.returns-then-is_empty-clause-told
+returns-then-is_empty-clause-told c =
+    let doc = document c.args.galley.now c.args.style.now in
+    let front : c.in-Some.start.block ≡ first_front doc.blocks c.args.from =
+    subst (λ (o : Option State). IfSome o (λ s. s.block ≡ first_front doc.blocks c.args.from))
+    (sym c.state_behind.ensures ∙ c.in-Some.is)
+    c.in_ok-walked.ensures.front in
+    let empty : length c.variants_at.result.now ≡ 0 = eqb-true _ _ (sym c.is_empty.ensures ∙ c.if-is_empty.true) in
+    let none : variants_at doc.blocks c.in-Some.start.block ≡ [] =
+    sym c.variants_at.ensures.variants ∙ no_items c.variants_at.result.now empty in
+    told_alone doc c.args.top _ (to_z-of_z w64 c.args.top (record { sfits = c.ranges.top.sfits })) c.args.from
+    c.in_ok-walked.walked c.quiet_greatest-told.result c.quiet_greatest-told.ensures c.in_ok-walked.ensures.quiet
+    (inr (subst (λ (b : ℕ). variants_at doc.blocks b ≡ []) front none))

@@ -2,7 +2,7 @@ use Rattle.std.proofs.Common.{◌∙◌, ap, ℕ}
 use Rattle.std.specs.Prelude.{replicate}
 use Rattle.pg_sources.specs.Document.{doc_of}
 use Rattle.pg_states.proofs.FirstState.{start_is}
-use Rattle.pg_states.proofs.beginning.start.Goals as goal
+use Rattle.pg_states.proofs.beginning.first_state.Goals as goal
 
 pub returns : goal.returns
 returns c =

@@ -1,11 +1,14 @@
 use Rattle.std.proofs.Common.{◌≡◌, ◌+◌, ◌++◌, length, true}
 use Rattle.pg_list.specs.Places.{place}
+use Rattle.std.specs.Prelude.{max}
 use Rattle.pg_rules.specs.Legal.{document}
 use Rattle.pg_column.specs.Passed.{fits}
+use Rattle.pg_walk_laws.specs.Reached.{reach_along}
 use Rattle.pg_walk_laws.specs.Walk.{ends_along, past_stretch}
 use Rattle.pg_stretch.specs.Ahead.{IsSettled, front_ahead, items_ahead}
+use Rattle.pg_stretch.specs.Quiet.{passed_along}
 use Rattle.pg_stretch.specs.View.{IsFor, view}
-use Rattle.pg_candidates.proofs.along.ends_on.Given as goal
+use Rattle.pg_candidates.proofs.along.walk_on.Given as goal
 
 abbrev pub invariant-ahead : goal.invariant-ahead
 invariant-ahead l = record {
@@ -23,6 +26,12 @@ invariant-ahead l = record {
       (place (front_ahead l.galley.blocks l.at) 0 0) (view l.passed) (items_ahead l.galley.blocks l.at)
       ≡ l.initial.found ++ ends_along (document l.galley l.style) l.top l.picks l.demerits
       (place (front_ahead l.galley.blocks l.fn.start) 0 0) (view l.fn.before) (items_ahead l.galley.blocks l.fn.start);
+  reach : max l.greatest (reach_along (document l.galley l.style) l.top (front_ahead l.galley.blocks l.at)
+      (view l.passed) (items_ahead l.galley.blocks l.at))
+      ≡ reach_along (document l.galley l.style) l.top (front_ahead l.galley.blocks l.fn.start) (view l.fn.before)
+      (items_ahead l.galley.blocks l.fn.start);
+  along : passed_along (document l.galley l.style) l.top (view l.passed) (items_ahead l.galley.blocks l.at)
+      ≡ passed_along (document l.galley l.style) l.top (view l.fn.before) (items_ahead l.galley.blocks l.fn.start);
 }
 
 abbrev pub decreases-ahead : goal.decreases-ahead

@@ -1,0 +1,27 @@
+-- What a column stands for, kept in few bytes or on the heap.
+use Rattle.std.specs.Prelude.{ℕ, List, take}
+use Rattle.pg_plan.specs.declared.pages.PageMove.{PageMove}
+use Rattle.pg_small.specs.declared.moves.Kept.{Kept}
+use Rattle.pg_small.specs.declared.moves.Kept.TheVariants.{Few, Many}
+use Rattle.pg_small.specs.declared.picks.PickView.{PickView}
+use Rattle.pg_small.specs.declared.picks.PickView.TheVariants.{Bytes, Words}
+
+-- the column as a step of a pagination
+abbrev pub move_kept : Kept → PageMove
+move_kept (Few run classes count from to top bottom wide picks) = record {
+  column = record {
+    from = from;
+    to = to;
+    top = take classes top;
+    bottom = take classes bottom;
+    picks = take count picks;
+  };
+  run = run;
+  wide = take classes wide;
+}
+move_kept (Many step) = step.value
+
+-- the picks that are seen
+abbrev pub picks_seen : PickView → List ℕ
+picks_seen (Bytes picks) = picks.now
+picks_seen (Words picks) = picks.now

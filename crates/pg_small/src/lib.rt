@@ -1,0 +1,23 @@
+//! States, labels and columns in few bytes, for a search that keeps hundreds of thousands of them.
+//!
+//! A state takes 40 bytes, a column 64. What does not fit stands on the heap, so that nothing is refused. Proved: each
+//! stands for exactly the state, label or column that it was made of, and a change or a comparison is that of theirs.
+#![tactic(auto)]
+
+mod labels;
+mod lists;
+mod moves;
+mod picks;
+mod rest;
+mod states;
+
+pub use labels::{SmallLabel, small_labels};
+pub use moves::SmallMove;
+pub use states::SmallState;
+
+// The sizes for which this crate is there.
+const _: () = prove_eq!(std::mem::size_of::<SmallState>(), 40);
+
+const _: () = prove_eq!(std::mem::size_of::<SmallMove>(), 64);
+
+const _: () = prove_eq!(std::mem::size_of::<SmallLabel>(), 64);

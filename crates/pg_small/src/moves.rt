@@ -1,0 +1,258 @@
+//! Columns in few bytes.
+ghost use Rattle.std.specs.Prelude.{◌≡◌, IfOk, IfSome};
+ghost use Rattle.std.specs.Cmp.Lexicographic.{slice_cmp};
+ghost use Rattle.pg_plan.specs.Order.{column_cmp, counts_cmp};
+ghost use Rattle.pg_small.specs.Columns.{move_kept, picks_seen};
+
+use crate::lists::{counts_from, few_counts, first_bytes, first_counts};
+use crate::picks::{PickView, compare_picks, few_picks};
+use pg_list::Place;
+use pg_plan::{Column, Counts, PageMove, Picks, compare_places};
+use std::alloc::{AllocError, Global};
+use std::cmp::Ordering;
+use std::marker::Model;
+
+// The first `classes` of `top`, `bottom` and `wide`, and the first `count` of `picks`.
+#[derive(Drop)]
+pub(crate) enum Kept {
+    Few {
+        run: u8,
+        classes: u8,
+        count: u8,
+        from: Place,
+        to: Place,
+        top: [u16; 3],
+        bottom: [u16; 3],
+        wide: [u16; 3],
+        picks: [u8; 18],
+    },
+    Many(Box<PageMove>),
+}
+
+/// A column as one step of a pagination, in 64 bytes. One whose three lists of counts are not of one length, or that has
+/// more than three counts, more than 18 picks or a pick above 255, stands on the heap.
+#[derive(Drop)]
+pub struct SmallMove {
+    kept: Kept,
+}
+
+impl Model for SmallMove {
+    ghost use Rattle.pg_plan.specs.declared.pages.PageMove.{PageMove};
+    ghost use Rattle.pg_small.specs.Columns.{move_kept};
+
+    ghost Value = { PageMove };
+
+    ghost view = { λ a. move_kept a.kept };
+}
+
+// This column in few bytes, if it fits.
+fn few_move(
+    from: Place,
+    to: Place,
+    run: u8,
+    top: &[u16],
+    bottom: &[u16],
+    wide: &[u16],
+    picks: &[u32],
+) -> Option<Kept>
+    ensures { IfSome result (λ it. move_kept it ≡ record {
+      column = record { from = from; to = to; top = top.now; bottom = bottom.now; picks = picks.now };
+      run = run;
+      wide = wide.now;
+    }) }
+{
+    let (classes, top) = few_counts(top)?;
+    let (bottoms, bottom) = few_counts(bottom)?;
+    let (wides, wide) = few_counts(wide)?;
+    if bottoms != classes || wides != classes {
+        return None;
+    }
+    let (count, picks) = few_picks(picks)?;
+    Some(Kept::Few {
+        run,
+        classes,
+        count,
+        from,
+        to,
+        top,
+        bottom,
+        wide,
+        picks,
+    })
+}
+
+#[cold]
+#[inline(never)]
+fn many_move(
+    alloc: Global,
+    from: Place,
+    to: Place,
+    run: u8,
+    top: &Counts,
+    bottom: &Counts,
+    wide: &Counts,
+    picks: &Picks,
+) -> Result<Kept, AllocError>
+    ensures { IfOk result (λ it. move_kept it ≡ record {
+      column = record { from = from; to = to; top = top.now; bottom = bottom.now; picks = picks.now };
+      run = run;
+      wide = wide.now;
+    }) }
+{
+    let column = Column {
+        from,
+        to,
+        top: top.copy()?,
+        bottom: bottom.copy()?,
+        picks: picks.copy()?,
+    };
+    let wide = wide.copy()?;
+    Ok(Kept::Many(Box::new(alloc, PageMove { column, run, wide })?))
+}
+
+fn compare_counts(a: &[u16], b: &[u16]) -> Ordering
+    ensures { result ≡ counts_cmp a.now b.now }
+{
+    a.cmp(b)
+}
+
+impl SmallMove {
+    /// A column from a place to another, in this run, with these counts and picks. It fails where memory runs out.
+    pub fn of(
+        alloc: Global,
+        from: Place,
+        to: Place,
+        run: u8,
+        top: &Counts,
+        bottom: &Counts,
+        wide: &Counts,
+        picks: &Picks,
+    ) -> Result<SmallMove, AllocError>
+        ensures { IfOk result (λ it. it ≡ record {
+          column = record { from = from; to = to; top = top.now; bottom = bottom.now; picks = picks.now };
+          run = run;
+          wide = wide.now;
+        }) }
+    {
+        let few = few_move(
+            from,
+            to,
+            run,
+            top.as_slice(),
+            bottom.as_slice(),
+            wide.as_slice(),
+            picks.as_slice(),
+        );
+        match few {
+            Some(kept) => Ok(SmallMove { kept }),
+            None => Ok(SmallMove {
+                kept: many_move(alloc, from, to, run, top, bottom, wide, picks)?,
+            }),
+        }
+    }
+
+    /// The column that this stands for. It fails where memory runs out.
+    pub fn to_move(&self, alloc: Global) -> Result<PageMove, AllocError>
+        ensures { IfOk result (λ it. it ≡ self.now) }
+    {
+        Ok(PageMove {
+            column: Column {
+                from: self.from(),
+                to: self.to(),
+                top: counts_from(alloc, self.top())?,
+                bottom: counts_from(alloc, self.bottom())?,
+                picks: self.picks().to_picks(alloc)?,
+            },
+            run: self.run(),
+            wide: counts_from(alloc, self.wide())?,
+        })
+    }
+
+    /// Where the column begins.
+    pub fn from(&self) -> Place
+        ensures { result ≡ self.now.column.from }
+    {
+        match &self.kept {
+            Kept::Few { from, .. } => *from,
+            Kept::Many(step) => step.column.from,
+        }
+    }
+
+    /// Where the column ends.
+    pub fn to(&self) -> Place
+        ensures { result ≡ self.now.column.to }
+    {
+        match &self.kept {
+            Kept::Few { to, .. } => *to,
+            Kept::Many(step) => step.column.to,
+        }
+    }
+
+    /// The run of the column's page.
+    pub fn run(&self) -> u8
+        ensures { result ≡ self.now.run }
+    {
+        match &self.kept {
+            Kept::Few { run, .. } => *run,
+            Kept::Many(step) => step.run,
+        }
+    }
+
+    // How many floats of each class stand above the text.
+    fn top(&self) -> &[u16]
+        ensures { result.now ≡ self.now.column.top }
+    {
+        match &self.kept {
+            Kept::Few { classes, top, .. } => first_counts(top, *classes),
+            Kept::Many(step) => step.column.top.as_slice(),
+        }
+    }
+
+    // How many floats of each class stand below the text.
+    fn bottom(&self) -> &[u16]
+        ensures { result.now ≡ self.now.column.bottom }
+    {
+        match &self.kept {
+            Kept::Few {
+                classes,
+                bottom,
+                ..
+            } => first_counts(bottom, *classes),
+            Kept::Many(step) => step.column.bottom.as_slice(),
+        }
+    }
+
+    // How many wide floats of each class the page has.
+    fn wide(&self) -> &[u16]
+        ensures { result.now ≡ self.now.wide }
+    {
+        match &self.kept {
+            Kept::Few { classes, wide, .. } => first_counts(wide, *classes),
+            Kept::Many(step) => step.wide.as_slice(),
+        }
+    }
+
+    fn picks(&self) -> PickView<'_>
+        ensures { picks_seen result ≡ self.now.column.picks }
+    {
+        match &self.kept {
+            Kept::Few { count, picks, .. } => PickView::Bytes(first_bytes(picks, *count)),
+            Kept::Many(step) => PickView::Words(step.column.picks.as_slice()),
+        }
+    }
+
+    /// The order among columns: by `to`, `from`, run, wide counts, bottom counts, top counts and picks, these from the
+    /// last. No memory is taken.
+    pub fn compare(&self, other: &SmallMove) -> Ordering
+        ensures { result ≡ column_cmp self.now other.now }
+    {
+        let to = compare_places(&self.to(), &other.to());
+        let from = compare_places(&self.from(), &other.from());
+        let run = self.run().cmp(&other.run());
+        let wide = compare_counts(self.wide(), other.wide());
+        let bottom = compare_counts(self.bottom(), other.bottom());
+        let top = compare_counts(self.top(), other.top());
+        let picks = compare_picks(&self.picks(), &other.picks());
+        to.then(from.then(run.then(wide.then(bottom.then(top.then(picks))))))
+    }
+}

@@ -1,0 +1,129 @@
+//! What a state holds beside numbers: a wide area, counts and ages.
+ghost use Rattle.std.specs.Prelude.{◌≡◌, IfOk, IfSome, None, take};
+ghost use Rattle.pg_small.specs.Seen.{wide_kept, placed_kept, ages_kept};
+
+use crate::lists::{few_ages, few_counts, first_bytes, first_counts};
+use pg_plan::{Ages, Counts};
+use std::alloc::{AllocError, Global};
+
+// No wide area, the first `count` counts and the first `waiting` ages.
+#[derive(Clone, Copy)]
+pub(crate) struct FewRest {
+    placed: [u16; 3],
+    count: u8,
+    ages: [u8; 6],
+    waiting: u8,
+}
+
+#[derive(Drop)]
+pub(crate) struct ManyRest {
+    wide: Option<i64>,
+    placed: Counts,
+    ages: Ages,
+}
+
+#[derive(Drop)]
+pub(crate) enum Rest {
+    Few(FewRest),
+    Many(Box<ManyRest>),
+}
+
+// These in few bytes, if they fit.
+fn few_rest(wide: Option<i64>, placed: &[u16], ages: &[u8]) -> Option<FewRest>
+    ensures wide { IfSome result (λ few. wide ≡ None) }
+    ensures placed { IfSome result (λ few. take few.count few.placed ≡ placed.now) }
+    ensures ages { IfSome result (λ few. take few.waiting few.ages ≡ ages.now) }
+{
+    if wide.is_some() {
+        return None;
+    }
+    let (count, placed) = few_counts(placed)?;
+    let (waiting, ages) = few_ages(ages)?;
+    Some(FewRest {
+        placed,
+        count,
+        ages,
+        waiting,
+    })
+}
+
+#[cold]
+#[inline(never)]
+fn many_rest(
+    alloc: Global,
+    wide: Option<i64>,
+    placed: Counts,
+    ages: Ages,
+) -> Result<Rest, AllocError>
+    ensures wide { IfOk result (λ it. wide_kept it ≡ wide) }
+    ensures placed { IfOk result (λ it. placed_kept it ≡ placed) }
+    ensures ages { IfOk result (λ it. ages_kept it ≡ ages) }
+{
+    Ok(Rest::Many(Box::new(alloc, ManyRest { wide, placed, ages })?))
+}
+
+#[cold]
+#[inline(never)]
+fn copy_many(alloc: Global, many: &ManyRest) -> Result<Rest, AllocError>
+    ensures wide { IfOk result (λ it. wide_kept it ≡ many.now.wide) }
+    ensures placed { IfOk result (λ it. placed_kept it ≡ many.now.placed) }
+    ensures ages { IfOk result (λ it. ages_kept it ≡ many.now.ages) }
+{
+    many_rest(alloc, many.wide, many.placed.copy()?, many.ages.copy()?)
+}
+
+impl Rest {
+    pub(crate) fn of(
+        alloc: Global,
+        wide: Option<i64>,
+        placed: Counts,
+        ages: Ages,
+    ) -> Result<Rest, AllocError>
+        ensures wide { IfOk result (λ it. wide_kept it ≡ wide) }
+        ensures placed { IfOk result (λ it. placed_kept it ≡ placed) }
+        ensures ages { IfOk result (λ it. ages_kept it ≡ ages) }
+    {
+        match few_rest(wide, placed.as_slice(), ages.as_slice()) {
+            Some(few) => Ok(Rest::Few(few)),
+            None => many_rest(alloc, wide, placed, ages),
+        }
+    }
+
+    pub(crate) fn copy(&self, alloc: Global) -> Result<Rest, AllocError>
+        ensures wide { IfOk result (λ it. wide_kept it ≡ wide_kept self.now) }
+        ensures placed { IfOk result (λ it. placed_kept it ≡ placed_kept self.now) }
+        ensures ages { IfOk result (λ it. ages_kept it ≡ ages_kept self.now) }
+    {
+        match self {
+            Rest::Few(few) => Ok(Rest::Few(*few)),
+            Rest::Many(many) => copy_many(alloc, many),
+        }
+    }
+
+    pub(crate) fn wide(&self) -> Option<i64>
+        ensures { result ≡ wide_kept self.now }
+    {
+        match self {
+            Rest::Few(_) => None,
+            Rest::Many(many) => many.wide,
+        }
+    }
+
+    pub(crate) fn placed(&self) -> &[u16]
+        ensures { result.now ≡ placed_kept self.now }
+    {
+        match self {
+            Rest::Few(few) => first_counts(&few.placed, few.count),
+            Rest::Many(many) => many.placed.as_slice(),
+        }
+    }
+
+    pub(crate) fn ages(&self) -> &[u8]
+        ensures { result.now ≡ ages_kept self.now }
+    {
+        match self {
+            Rest::Few(few) => first_bytes(&few.ages, few.waiting),
+            Rest::Many(many) => many.ages.as_slice(),
+        }
+    }
+}

@@ -1,0 +1,171 @@
+//! States in few bytes.
+ghost use Rattle.std.specs.Prelude.{◌≡◌, IfOk};
+
+use crate::lists::{ages_from, counts_from};
+use crate::rest::Rest;
+use pg_list::Place;
+use pg_plan::{PageKey, Side, State};
+use std::alloc::{AllocError, Global};
+use std::marker::Model;
+
+/// A state in 40 bytes. A state with a wide area, more than three counts or more than six ages keeps these on the heap.
+#[derive(Drop)]
+pub struct SmallState {
+    place: Place,
+    column: u8,
+    side: Side,
+    run: Option<u8>,
+    fitness: Option<u8>,
+    rest: Rest,
+}
+
+impl Model for SmallState {
+    ghost use Rattle.pg_plan.specs.declared.states.State.{State};
+    ghost use Rattle.pg_small.specs.Seen.{wide_kept, placed_kept, ages_kept};
+
+    ghost Value = { State };
+
+    ghost view = { λ a. record {
+      place = a.place;
+      column = a.column;
+      side = a.side;
+      run = a.run;
+      wide = wide_kept a.rest;
+      fitness = a.fitness;
+      placed = placed_kept a.rest;
+      ages = ages_kept a.rest;
+    } };
+}
+
+impl SmallState {
+    /// The state in few bytes. It fails where memory runs out.
+    pub fn of(alloc: Global, state: State) -> Result<SmallState, AllocError>
+        ensures { IfOk result (λ it. it ≡ state) }
+    {
+        Ok(SmallState {
+            place: state.place,
+            column: state.column,
+            side: state.side,
+            run: state.run,
+            fitness: state.fitness,
+            rest: Rest::of(alloc, state.wide, state.placed, state.ages)?,
+        })
+    }
+
+    /// The state that this stands for. It fails where memory runs out.
+    pub fn to_state(&self, alloc: Global) -> Result<State, AllocError>
+        ensures { IfOk result (λ it. it ≡ self.now) }
+    {
+        Ok(State {
+            place: self.place,
+            column: self.column,
+            side: self.side,
+            run: self.run,
+            wide: self.rest.wide(),
+            fitness: self.fitness,
+            placed: counts_from(alloc, self.rest.placed())?,
+            ages: ages_from(alloc, self.rest.ages())?,
+        })
+    }
+
+    /// A state that equals this one. It fails where memory runs out, in the rare case alone that it needs some.
+    pub fn copy(&self, alloc: Global) -> Result<SmallState, AllocError>
+        ensures { IfOk result (λ it. it ≡ self.now) }
+    {
+        Ok(SmallState {
+            place: self.place,
+            column: self.column,
+            side: self.side,
+            run: self.run,
+            fitness: self.fitness,
+            rest: self.rest.copy(alloc)?,
+        })
+    }
+
+    /// The state but for its ages. It fails where memory runs out.
+    pub fn key(&self, alloc: Global) -> Result<PageKey, AllocError>
+        ensures { IfOk result (λ it. it ≡ record {
+          place = self.now.place;
+          column = self.now.column;
+          side = self.now.side;
+          run = self.now.run;
+          wide = self.now.wide;
+          fitness = self.now.fitness;
+          placed = self.now.placed;
+        }) }
+    {
+        Ok(PageKey {
+            place: self.place(),
+            column: self.column(),
+            side: self.side(),
+            run: self.run(),
+            wide: self.wide(),
+            fitness: self.fitness(),
+            placed: counts_from(alloc, self.placed())?,
+        })
+    }
+
+    /// Where the next column begins.
+    pub fn place(&self) -> Place
+        ensures { result ≡ self.now.place }
+    {
+        self.place
+    }
+
+    /// Which column of its page comes next; 1 is the first.
+    pub fn column(&self) -> u8
+        ensures { result ≡ self.now.column }
+    {
+        self.column
+    }
+
+    /// Which page of a spread the next column stands on.
+    pub fn side(&self) -> Side
+        ensures { result ≡ self.now.side }
+    {
+        self.side
+    }
+
+    /// The run that the page of the next column must have, if it must have one.
+    pub fn run(&self) -> Option<u8>
+        ensures { result ≡ self.now.run }
+    {
+        self.run
+    }
+
+    /// The height of the wide area of the page that is begun, in scaled points, if there is one.
+    pub fn wide(&self) -> Option<i64>
+        ensures { result ≡ self.now.wide }
+    {
+        self.rest.wide()
+    }
+
+    /// The fitness that the next column is compared with, if there is one.
+    pub fn fitness(&self) -> Option<u8>
+        ensures { result ≡ self.now.fitness }
+    {
+        self.fitness
+    }
+
+    /// How many floats of each class are placed. No memory is taken.
+    pub fn placed(&self) -> &[u16]
+        ensures { result.now ≡ self.now.placed }
+    {
+        self.rest.placed()
+    }
+
+    /// The ages of the waiting floats. No memory is taken.
+    pub fn ages(&self) -> &[u8]
+        ensures { result.now ≡ self.now.ages }
+    {
+        self.rest.ages()
+    }
+
+    /// Lets the column before it end at a place, with a fitness. No memory is taken.
+    pub fn end_at(&mut self, place: Place, fitness: Option<u8>)
+        ensures { self.new ≡ record self.old { place = place; fitness = fitness } }
+    {
+        self.place = place;
+        self.fitness = fitness;
+    }
+}
