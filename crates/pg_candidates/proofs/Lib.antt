@@ -5,3 +5,4 @@ pub mod Short
 pub mod Beside
 pub mod Needed
 pub mod Nears
+pub mod TooLow

@@ -17,13 +17,14 @@ use Rattle.pg_candidates.specs.declared.kind.EndKind.{EndKind}
 
 -- ---- what no room changes
 
--- what callers see of it: which candidate it is of, the height of its notes, what its end is, and the room from which on
--- that end is not needed, if there is one
+-- what callers see of it: which candidate it is of, the height of its notes, what its end is, the room from which on that
+-- end is not needed, if there is one, and the least room that is worth asking
 pub record NearValue : Type 0 where
   pub at : ℕ
   pub notes : ℤ
   pub kind : EndKind
   pub until : Option ℤ
+  pub least : ℤ
 
 -- candidates, and what no room changes of each
 pub record NearsValue : Type 0 where
@@ -38,10 +39,15 @@ kind_at blocks at = record {
   is_spent = place_spent blocks at;
 }
 
--- the height of a candidate's notes, and what its end is
+-- in no room below this one a column to a candidate's end keeps the rules
+abbrev pub IsHopelessBelow : Document → Candidate → ℤ → Type 0
+IsHopelessBelow doc c least = (room : ℤ) → room <ℤ least → keeps_in doc room c ≡ false
+
+-- the height of a candidate's notes, what its end is, and a room below which no column to it keeps the rules
 pub record IsNear (doc : Document) (c : Candidate) (near : NearValue) : Type 0 where
   pub notes : near.notes ≡ note_height doc.style c.passed
   pub kind : near.kind ≡ kind_at doc.blocks c.to
+  pub least : IsHopelessBelow doc c near.least
 
 -- of the candidate at its index
 abbrev pub IsNearIn : Document → List Candidate → NearValue → Type 0

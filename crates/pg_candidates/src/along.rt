@@ -106,9 +106,9 @@ pub fn walk_on(
     'ahead: while let Some(item) = at.item(galley) {
         let here = at.place();
         greatest = greatest.max(here.block);
-        let is_end = passed.is_end(galley, here);
+        let is_end = passed.ends_at(galley, at, here, item);
         end_at(style, here, is_end, &passed, picks, demerits, found)?;
-        if !passed.pass_at(galley, style, here, is_end, item) {
+        if !passed.pass(galley, style, here, is_end, item) {
             return Ok(stopped(style, &passed, greatest));
         }
         if !passed.fits(top) {

@@ -3,15 +3,17 @@
 //!
 //! Proved: `walk_on` finds the ends along a stretch (`ends_along` of pg_walk_laws, `specs/Walk`), and tells how far it came
 //! (`reach_along`) and whether the notes passed take room; `ends_on` finds the ends alone;
-//! `CandidateList::into_near` works out of candidates what no room changes, and from which room on the end of each is
-//! not needed (`AreNear`: in each room the ends of those that are needed there suffice); `NearList::ends_in` gives the
-//! best ends in a room (`AreBest`), and so, of candidates that suffice (`AreCandidates`), all ends in it (`AreEnds`).
+//! `CandidateList::into_near` works out of candidates what no room changes, below which room no column to the end of each
+//! keeps the rules, and from which room on that end is not needed (`AreNear`: in each room the ends of those that are
+//! needed there suffice); `NearList::ends_in` gives the best ends in a room (`AreBest`), and so, of candidates that
+//! suffice (`AreCandidates`), all ends in it (`AreEnds`).
 #![tactic(auto)]
 
 mod along;
 mod best;
 mod candidate;
 mod kind;
+mod least;
 mod making;
 mod near;
 mod order;

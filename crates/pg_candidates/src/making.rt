@@ -9,6 +9,7 @@ ghost use Rattle.pg_candidates.specs.View.{candidate_of};
 
 use crate::candidate::Candidate;
 use crate::kind::{EndKind, kind_at};
+use crate::least::least_of;
 use crate::near::Near;
 use crate::order::Ranked;
 use crate::until::{until_alone, until_beside, worst_from};
@@ -60,6 +61,7 @@ fn near_first(style: &Style, first: First, candidate: &Candidate) -> Near
         notes: candidate.passed.notes.height(style),
         kind: first.kind,
         until: until_alone(style, first.kind, first.worst),
+        least: least_of(style, candidate),
     }
 }
 
@@ -101,6 +103,7 @@ fn near_behind(
         notes: candidate.passed.notes.height(style),
         kind: first.kind,
         until: until_behind(style, candidates, first, candidate),
+        least: least_of(style, candidate),
     }
 }
 

@@ -1,5 +1,5 @@
 //! What the rooms of a place share of its candidates.
-ghost use Rattle.std.specs.Prelude.{◌≡◌};
+ghost use Rattle.std.specs.Prelude.{◌≡◌, int_lt};
 ghost use Rattle.pg_candidates.specs.Nears.{is_needed as is_needed_of};
 
 use crate::candidate::CandidateList;
@@ -7,13 +7,15 @@ use crate::kind::EndKind;
 use std::marker::Model;
 
 /// What no room changes of a candidate: which one of the list it is, the height of its notes in scaled points, the kind
-/// of its end, and the room from which on that end is not needed, if there is one.
+/// of its end, the room from which on that end is not needed, if there is one, and the least room worth asking: in none
+/// below it a column to that end keeps the rules.
 #[derive(Drop)]
 pub struct Near {
     pub at: usize,
     pub notes: i64,
     pub kind: EndKind,
     pub until: Option<i64>,
+    pub least: i64,
 }
 
 impl Model for Near {
@@ -27,6 +29,7 @@ impl Model for Near {
       notes = a.notes;
       kind = a.kind;
       until = a.until;
+      least = a.least;
     } };
 
     ghost invariant = { λ a. nat_abs a.notes < 2 ^ 51 };
@@ -41,6 +44,13 @@ impl Near {
             Some(from) => room < from,
             None => true,
         }
+    }
+
+    // Whether a room is below the least one worth asking.
+    pub(crate) fn is_too_low(&self, room: i64) -> bool
+        ensures { result ≡ int_lt room self.now.least }
+    {
+        room < self.least
     }
 }
 

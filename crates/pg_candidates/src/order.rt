@@ -8,10 +8,11 @@ use pg_plan::compare_picks;
 use std::alloc::{AllocError, Global};
 use std::cmp::Ordering;
 
-/// Which candidate of a list, with a number that rises with its place.
+/// Which candidate of a list, with a number that rises with its place, and with the demerits of its picks.
 #[derive(Clone, Copy, Debug)]
 pub struct Ranked {
     rank: u64,
+    pick_demerits: i64,
     pub at: usize,
 }
 
@@ -20,28 +21,25 @@ fn rank_of(place: Place) -> u64 {
     (u64::from(place.block) << 32) | (u64::from(place.variant) << 28) | u64::from(place.index)
 }
 
-// Compares two candidates by the demerits of their picks, and by the picks.
-fn compare_picked(a: &Candidate, b: &Candidate) -> Ordering {
-    match a.pick_demerits.cmp(&b.pick_demerits) {
-        Ordering::Equal => compare_picks(a.picks.as_slice(), b.picks.as_slice()),
-        first => first,
-    }
-}
-
-// Compares the candidates at two indices by their picks.
+// Compares the picks of the candidates at two indices.
 fn compare_at(candidates: &[Candidate], a: usize, b: usize) -> Ordering {
     match candidates.get(a) {
         Some(one) => match candidates.get(b) {
-            Some(other) => compare_picked(one, other),
+            Some(other) => compare_picks(one.picks.as_slice(), other.picks.as_slice()),
             None => Ordering::Less,
         },
         None => Ordering::Greater,
     }
 }
 
-// Compares two candidates by their places, and at one place by their picks.
+// Compares two candidates by their places, at one place by the demerits of their picks, and then by the picks. The
+// candidates themselves are seldom looked at.
 fn compare(candidates: &[Candidate], a: &Ranked, b: &Ranked) -> Ordering {
-    match a.rank.cmp(&b.rank) {
+    match a
+        .rank
+        .cmp(&b.rank)
+        .then(a.pick_demerits.cmp(&b.pick_demerits))
+    {
         Ordering::Equal => compare_at(candidates, a.at, b.at),
         first => first,
     }
@@ -54,8 +52,12 @@ fn with_ranks(alloc: Global, candidates: &[Candidate]) -> Result<Vec<Ranked>, Al
 {
     let mut order = Vec::with_capacity(alloc, candidates.len())?;
     for at in 0..candidates.len() {
-        let rank = rank_of(candidates[at].to);
-        order.push(Ranked { rank, at })?;
+        let candidate = &candidates[at];
+        order.push(Ranked {
+            rank: rank_of(candidate.to),
+            pick_demerits: candidate.pick_demerits,
+            at,
+        })?;
     }
     Ok(order)
 }

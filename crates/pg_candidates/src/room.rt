@@ -29,6 +29,9 @@ use pg_walk_laws::laws::candidates_give_ends;
 use pg_whole::minus;
 use std::alloc::{AllocError, Global};
 
+// For how many ends there is room at once: few rooms have more.
+const ROOM: usize = 64;
+
 // What the notes of a candidate leave of a room.
 fn goal_of(room: i64, near: &Near) -> i64
     requires { nat_abs room < 2 ^ 40 }
@@ -133,6 +136,9 @@ fn keep_near(
         AreBest (kept_ends (document g style.now) room
         (cs ++ needed_of room (map candidate_of candidates.now) near.now)) ends.new) }
 {
+    if near.is_too_low(room) {
+        return Ok(hint);
+    }
     if !near.is_needed(room) {
         return Ok(hint);
     }
@@ -169,7 +175,7 @@ impl NearList {
         let _ = galley.blocks().as_slice();
         candidates_give_ends(galley, style);
         let candidates = self.candidates.as_slice();
-        let mut ends = EndList::new(alloc);
+        let mut ends = EndList::with_room(alloc, self.nears.len().min(ROOM))?;
         let mut hint = 0usize;
         'each: for near in self.nears.as_slice() {
             hint = keep_near(style, room, candidates, near, hint, &mut ends)?;

@@ -1,5 +1,5 @@
 //! The room from which on the end of a candidate is not needed.
-ghost use Rattle.std.specs.Prelude.{◌≡◌, ◌<◌, ◌^◌, ◌≤ℤ◌, ◌<ℤ◌, IfSome, false, nat_abs, true};
+ghost use Rattle.std.specs.Prelude.{◌≡◌, ◌<◌, ◌^◌, ◌≤ℤ◌, ◌<ℤ◌, IfSome, false, nat_abs, true, ℤ};
 ghost use Rattle.pg_breaks.specs.Near.{place_spent};
 ghost use Rattle.pg_column.specs.Passed.{fits};
 ghost use Rattle.pg_list.specs.GalleyValue.{GalleyValue};
@@ -101,17 +101,19 @@ fn is_cheaper(one: &Candidate, other: &Candidate) -> bool
 }
 
 // The greater of two rooms.
-fn greater(a: i64, b: i64) -> i64
+pub(crate) fn greater(a: i64, b: i64) -> i64
     ensures first { a ≤ℤ result }
     ensures second { b ≤ℤ result }
+    ensures below { (z : ℤ) → z <ℤ result → a ≤ℤ z → z <ℤ b }
 {
     if a < b { b } else { a }
 }
 
-// A room that is not below another, and not below a bound.
-fn raised(bound: Option<i64>, room: i64) -> i64
+// The least room that is not below another, and not below a bound.
+pub(crate) fn raised(bound: Option<i64>, room: i64) -> i64
     ensures room { room ≤ℤ result }
     ensures fits { fits bound result ≡ true }
+    ensures below { (z : ℤ) → z <ℤ result → fits bound z ≡ true → z <ℤ room }
 {
     match bound {
         Some(least) => greater(least, room),

@@ -1,5 +1,5 @@
 //! An end of a column of text, with its numbers.
-ghost use Rattle.std.specs.Prelude.{◌≡◌, ◌<◌, ◌≤◌, OnOk, OnErr, ◌++◌, ◌∷◌, [], length, slice_set};
+ghost use Rattle.std.specs.Prelude.{◌≡◌, ◌<◌, ◌≤◌, IfOk, OnOk, OnErr, ◌++◌, ◌∷◌, [], length, slice_set};
 ghost use Rattle.std.specs.List.{insert};
 
 use pg_column::TextCost;
@@ -34,13 +34,13 @@ impl Model for EndList {
 }
 
 impl EndList {
-    /// No ends. No memory is taken.
-    pub fn new(alloc: Global) -> EndList
-        ensures { result ≡ [] }
+    /// No ends, with room for so many. The one refusal is want of memory.
+    pub fn with_room(alloc: Global, count: usize) -> Result<EndList, AllocError>
+        ensures { IfOk result (λ list. list ≡ []) }
     {
-        EndList {
-            ends: Vec::new(alloc),
-        }
+        Ok(EndList {
+            ends: Vec::with_capacity(alloc, count)?,
+        })
     }
 
     /// Adds an end behind the others.

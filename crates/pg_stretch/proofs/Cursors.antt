@@ -42,7 +42,7 @@ variant_left b v items (suc j) e = none_inside b v j items e
 
 -- ---- blocks of one item
 
-single_got : (blocks : List Block) (b : ℕ) (item : Item) → single_in (slice_get blocks b) ≡ Some item →
+pub single_got : (blocks : List Block) (b : ℕ) (item : Item) → single_in (slice_get blocks b) ≡ Some item →
     slice_get blocks b ≡ Some (One item)
 single_got blocks b item = by (slice_get blocks b)
   where
@@ -50,6 +50,11 @@ single_got blocks b item = by (slice_get blocks b)
     by None e = absurd cc
     by (Some (One x)) e = ap (λ (y : Item). Some (One y)) (same_Some x item e)
     by (Some (Choice variants)) e = absurd cc
+
+pub single_item : (blocks : List Block) (b : ℕ) (item : Item) → slice_get blocks b ≡ Some (One item) →
+    item_at blocks (place b 0 0) ≡ Some item
+single_item blocks b item e = ap (λ (o : Option Block).
+    slice_get (unwrap_or (option_map (λ (block : Block). picked_items block 0) o) []) 0) e
 
 single_none : (blocks : List Block) (b n : ℕ) → single_in (slice_get blocks b) ≡ None →
     (singles n (drop b blocks) ≡ []) × (next_front n (drop b blocks) ≡ n)
@@ -166,11 +171,6 @@ item_in_range blocks all c item e = by c.block c.variant c.index c.is_inner e
         item_ahead blocks (record { block = b; variant = v; index = i; is_inner = t }) ≡ Some item → IsItemInRange item
     by b v i true e = item_range blocks all (place b v i) item e
     by b v i false e = item_range blocks all (place b 0 0) item (single_item blocks b item (single_got blocks b item e))
-      where
-        single_item : (bs : List Block) (n : ℕ) (x : Item) → slice_get bs n ≡ Some (One x) →
-            item_at bs (place n 0 0) ≡ Some x
-        single_item bs n x g = ap (λ (o : Option Block).
-            slice_get (unwrap_or (option_map (λ (block : Block). picked_items block 0) o) []) 0) g
 
 pub few_blocks : (blocks : List Block) (b v i : ℕ) (item : Item) → item_at blocks (place b v i) ≡ Some item →
     b < length blocks

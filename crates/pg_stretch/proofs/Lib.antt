@@ -1,4 +1,5 @@
 pub mod Cursors
+pub mod Telling
 pub mod Along
 pub mod Left
 pub mod Quiet

@@ -1,3 +1,4 @@
 pub mod View
 pub mod Ahead
 pub mod Quiet
+pub mod Told

@@ -1,12 +1,17 @@
 //! The items along a stretch, one after another.
-ghost use Rattle.std.specs.Prelude.{◌≡◌, ◌<◌, ◌≤◌, ◌+◌, ◌^◌, true, false, Some, slice_get};
+ghost use Rattle.std.specs.Prelude.{◌≡◌, ◌<◌, ◌≤◌, ◌+◌, ◌^◌, true, false, Some, is_some, slice_get};
+ghost use Rattle.std.specs.List.{AllByRecursion};
 ghost use Rattle.std.specs.Option.{option_copied};
 ghost use Rattle.pg_list.specs.Places.{item_at as item_at_of, place as place_of};
 ghost use Rattle.pg_list.specs.Ranges.{IsItemInRange};
+ghost use Rattle.pg_list.specs.Shapes.{IsBlock};
 ghost use Rattle.pg_list.specs.declared.item.Item.{Item as AnItem};
+ghost use Rattle.pg_breaks.specs.Near.{place_penalty};
 ghost use Rattle.pg_walk_laws.specs.Walk.{first_front, first_items, picked_front, picked_stretch};
 ghost use Rattle.pg_stretch.specs.Ahead.{IsSettled, begun as begun_of, front_ahead, item_ahead, items_ahead, place_ahead, settled as settled_of, single_in, stepped as stepped_of};
+ghost use Rattle.pg_stretch.specs.Told.{told as told_of};
 
+use pg_breaks::break_cost;
 use pg_list::{Block, Galley, Item, Place, items_around};
 
 /// Where the next item of a stretch stands: in a variant of a choice, or behind it among the blocks of one item.
@@ -36,6 +41,25 @@ fn item_at(blocks: &[Block], at: Place) -> Option<&Item>
     ensures { option_copied result ≡ item_at_of blocks.now at }
 {
     items_around(blocks, at).get(at.index as usize)
+}
+
+// Whether an item is a break, where it alone tells.
+fn told(item: &Item) -> Option<bool>
+    ensures { result ≡ told_of item.now }
+{
+    match item {
+        Item::Glue { .. } => None,
+        Item::Kern { .. } => None,
+        Item::Penalty { value, .. } => Some(*value < 10000),
+        _ => Some(false),
+    }
+}
+
+// The blocks of a galley keep their shape.
+fn shaped(galley: &Galley)
+    ensures { AllByRecursion IsBlock galley.now.blocks }
+{
+    let _blocks = galley.blocks().as_slice();
 }
 
 impl Cursor {
@@ -167,6 +191,20 @@ impl Cursor {
                 variant: 0,
                 index: 0,
             }
+        }
+    }
+
+    /// Whether its place is a break. Most items tell it alone; only glue and kerns are looked at where they stand.
+    ///
+    /// Conditions: the item is the next one.
+    pub fn is_break(&self, galley: &Galley, item: &Item) -> bool
+        requires { item_ahead galley.now.blocks self.now ≡ Some item.now }
+        ensures { result ≡ is_some (place_penalty galley.now.blocks (place_ahead self.now)) }
+    {
+        shaped(galley);
+        match told(item) {
+            Some(is_break) => is_break,
+            None => break_cost(galley, self.place()).is_some(),
         }
     }
 

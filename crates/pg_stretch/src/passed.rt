@@ -4,9 +4,11 @@ ghost use Rattle.pg_list.specs.Ranges.{IsItemInRange};
 ghost use Rattle.pg_flat.specs.Flat.{FlatItem};
 ghost use Rattle.pg_rules.specs.Legal.{document};
 ghost use Rattle.pg_column.specs.Passed.{are_within as are_within_of, crossed, fits as fits_of, is_end_here, least_room as least_room_of, nothing, pass_item, raised as raised_of, with_next};
+ghost use Rattle.pg_stretch.specs.Ahead.{item_ahead, place_ahead};
 ghost use Rattle.pg_stretch.specs.Quiet.{is_quiet as is_quiet_of};
 ghost use Rattle.pg_stretch.specs.View.{IsFor, view};
 
+use crate::cursor::Cursor;
 use pg_breaks::{break_cost, is_forced};
 use pg_list::{Galley, Item, Place};
 use pg_notes::NoteSums;
@@ -89,6 +91,17 @@ impl Passed {
         self.sums.has_box() && break_cost(galley, place).is_some()
     }
 
+    /// The same as `is_end`, where the next item of a stretch is at hand.
+    ///
+    /// Conditions: the item is the cursor's next one, and the place is the cursor's.
+    pub fn ends_at(&self, galley: &Galley, at: Cursor, place: Place, item: &Item) -> bool
+        requires item { item_ahead galley.now.blocks at ≡ Some item.now }
+        requires place { place ≡ place_ahead at }
+        ensures { result ≡ is_end_here galley.now.blocks (view self.now) place }
+    {
+        self.sums.has_box() && at.is_break(galley, item)
+    }
+
     // Past a break that is not over.
     fn cross(&mut self, style: &Style)
         requires { IsFor style.now self.old }
@@ -114,26 +127,9 @@ impl Passed {
         self.notes.add(style, item);
     }
 
-    /// Past an item at a place, and past the break before it, if one is there behind a box. Answers false exactly where
-    /// that break is forced; what is kept is then as it was.
-    pub fn pass(&mut self, galley: &Galley, style: &Style, place: Place, item: &Item) -> bool
-        requires style { IsFor style.now self.old }
-        requires range { IsItemInRange item.now }
-        requires few { (self.old.sums.count < 2 ^ 20) × (self.old.notes.count < 2 ^ 20) }
-        ensures goes { (is_front : Bool) → result ≡ true → pass_item (document galley.now style.now) (view self.old)
-            (record { place = place; item = item.now; is_front = is_front }) ≡ Some (view self.new) }
-        ensures stops { (is_front : Bool) → result ≡ false → (pass_item (document galley.now style.now) (view self.old)
-            (record { place = place; item = item.now; is_front = is_front }) ≡ None) × (self.new ≡ self.old) }
-        ensures style { IsFor style.now self.new }
-        ensures counts { result ≡ true →
-            (self.new.sums.count ≡ self.old.sums.count + 1) × (self.new.notes.count ≡ self.old.notes.count + 1) }
-    {
-        let is_end = self.is_end(galley, place);
-        self.pass_at(galley, style, place, is_end, item)
-    }
-
-    /// The same as `pass`, where the answer of `is_end` at the place is at hand.
-    pub fn pass_at(
+    /// Past an item at a place, and past the break before it, if one is there behind a box, which is told. Answers false
+    /// exactly where that break is forced; what is kept is then as it was.
+    pub fn pass(
         &mut self,
         galley: &Galley,
         style: &Style,

@@ -61,7 +61,8 @@ pub fn pass_on(galley: &Galley, style: &Style, top: i64, start: Cursor, before: 
     'ahead: while let Some(item) = at.item(galley) {
         let here = at.place();
         greatest = greater(greatest, here.block);
-        if !passed.pass(galley, style, here, item) {
+        let is_end = passed.ends_at(galley, at, here, item);
+        if !passed.pass(galley, style, here, is_end, item) {
             return Passing {
                 passed: None,
                 front: here.block,

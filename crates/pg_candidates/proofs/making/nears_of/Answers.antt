@@ -1,4 +1,4 @@
-use Rattle.std.proofs.Common.{ap, ◌∙◌, [], ◌∷◌, List, map, subst, sym, take, ℕ}
+use Rattle.std.proofs.Common.{ap, ◌∙◌, [], ◌∷◌, List, map, subst, sym, take, ℕ, pos}
 use Rattle.std.proofs.lemmas.List.{map-append, take_all}
 use Rattle.pg_rules.specs.Legal.{document}
 use Rattle.pg_candidates.specs.Seen.{AreSeen, AreServed}
@@ -14,7 +14,8 @@ each-preserved c =
     record {
       seen = subst (λ (is : List ℕ). AreSeen (document c.args.galley.now c.args.style.now)
           (map candidate_of c.args.candidates.now) is c.in_ok-first.first c.add_near.new.nears.items)
-          (sym (ap (map at) (next_at c.args.order.now c.each.it-index (record { rank = 0; at = 0 }) c.each-test.true)
+          (sym (ap (map at) (next_at c.args.order.now c.each.it-index
+          (record { rank = 0; pick_demerits = pos 0; at = 0 }) c.each-test.true)
           ∙ map-append at done (_ ∷ [])))
           (c.in_ok-first.ensures (map at done) c.each.invariant.seen);
     }

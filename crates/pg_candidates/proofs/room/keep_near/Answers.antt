@@ -1,13 +1,22 @@
-use Rattle.std.proofs.Common.{◌≡◌, ◌∙◌, ◌∷◌, [], ap, map, sym, arith, w64, to_z, of_z, ◌≤◌, length, Some, None}
+use Rattle.std.proofs.Common.{◌≡◌, ◌∙◌, ◌∷◌, [], ap, map, sym, arith, w64, to_z, of_z, ◌≤◌, ◌<ℤ◌, length, Some, None}
 use Rattle.std.specs.Prelude.{slice_get}
-use Rattle.std.proofs.lemmas.Int.{to_z-of_z}
+use Rattle.std.proofs.lemmas.Int.{ints, to_z-of_z}
 use Rattle.std.proofs.lemmas.Result.{on_ok_weaker}
 use Rattle.pg_rules.specs.Legal.{document}
 use Rattle.pg_candidates.specs.Nears.{NearValue}
 use Rattle.pg_candidates.specs.View.{candidate_of}
 use Rattle.pg_candidates.proofs.Needed.{found_at, in_room, missing_at, not_in_list, not_in_room}
 use Rattle.pg_candidates.proofs.Nears.{best_same, best_with}
+use Rattle.pg_candidates.proofs.TooLow.{best_below}
 use Rattle.pg_candidates.proofs.room.keep_near.Goals as goal
+
+pub returns-then-is_too_low : goal.returns-then-is_too_low
+returns-then-is_too_low c = λ g cs is best.
+    let same = to_z-of_z w64 c.args.room (record { sfits = c.ranges.room.sfits }) in
+    let low : c.args.room <ℤ c.args.near.now.least =
+    grind (arith, ints, same, c.is_too_low.ensures, c.if-is_too_low.true) in
+    best_below (document g c.args.style.now) c.args.room cs (map candidate_of c.args.candidates.now) c.args.near.now
+    c.args.ends.now low is best
 
 pub returns-then-not-is_needed : goal.returns-then-not-is_needed
 returns-then-not-is_needed c = λ g cs is.
