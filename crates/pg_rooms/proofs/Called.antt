@@ -1,11 +1,12 @@
 -- Places before which the same floats are called.
-use Rattle.std.proofs.Common.{◌≡◌, sym, subst, ◌∙◌, ℕ, Option, Some, None, List, [], ◌∷◌, take, drop}
-use Rattle.std.specs.Prelude.{IfSome}
+use Rattle.std.proofs.Common.{◌≡◌, sym, ap, subst, ◌∙◌, ℕ, Option, Some, None, List, [], ◌∷◌, take, drop}
+use Rattle.std.specs.Prelude.{IfSome, length, map}
 use Rattle.std.specs.List.{AllByRecursion, insert}
 use Rattle.pg_ends.specs.declared.end.End.{End}
-use Rattle.pg_lemmas.proofs.Lists.{all_append, all_drop, all_take}
+use Rattle.pg_flat.specs.Flat.{items_before}
+use Rattle.pg_lemmas.proofs.Lists.{all_append, all_drop, all_take, no_items}
 use Rattle.pg_list.specs.declared.galley.Place.{Place}
-use Rattle.pg_rules.specs.Floats.{called}
+use Rattle.pg_rules.specs.Floats.{called, float_numbers, sizes_of}
 use Rattle.pg_rules.specs.Room.{Document}
 use Rattle.pg_rooms.specs.Calls.{AreCalls, IsLike}
 use Rattle.pg_rooms.specs.declared.calls.Call.{Call}
@@ -37,3 +38,13 @@ pub all_like : (doc : Document) (counts : List ℕ) (like : Place) (ends : List 
     AllByRecursion (λ (end : End). counts ≡ called doc.blocks doc.style end.to) ends
 all_like doc counts like [] e all = tt
 all_like doc counts like (end ∷ ends) e all = (e ∙ all.0.same, all_like doc counts like ends e all.1)
+
+-- where no class is of floats, nothing is called before any end
+pub none_called : (doc : Document) (ends : List End) → length (float_numbers doc.style) ≡ 0 →
+    AllByRecursion (λ (end : End). ◌≡◌ {A = List ℕ} [] (called doc.blocks doc.style end.to)) ends
+none_called doc [] none = tt
+none_called doc (end ∷ ends) none = (
+  sym (ap (map (λ (number : ℕ). length (sizes_of number (items_before doc.blocks end.to))))
+      (no_items (float_numbers doc.style) none)),
+  none_called doc ends none,
+)

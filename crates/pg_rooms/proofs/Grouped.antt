@@ -5,15 +5,16 @@ use Rattle.std.specs.Cmp.{unsigned_Decides}
 use Rattle.std.specs.Cmp.Lexicographic.{pointwise}
 use Rattle.std.specs.List.{AllByRecursion}
 use Rattle.std.proofs.Math.Seq.{take-length}
-use Rattle.std.proofs.lemmas.List.{append_assoc, append-nil, length-drop}
+use Rattle.std.proofs.lemmas.List.{append_assoc, append-nil, drop_all, length-drop}
 use Rattle.std.proofs.lemmas.Slice.Eq.{slice_eq-Decides}
 use Rattle.pg_ends.specs.declared.end.End.{End}
 use Rattle.pg_flat.proofs.Places.{same_place}
 use Rattle.pg_lemmas.proofs.Bools.{both, both_of}
-use Rattle.pg_lemmas.proofs.Lists.{all_append, no_items, one_more}
+use Rattle.pg_lemmas.proofs.Lists.{all_append, all_take, no_items, one_more}
 use Rattle.pg_list.specs.declared.galley.Place.{Place}
-use Rattle.pg_rules.specs.Floats.{called}
+use Rattle.pg_rules.specs.Floats.{called, float_numbers}
 use Rattle.pg_rules.specs.Room.{Document}
+use Rattle.pg_rooms.proofs.Called.{none_called}
 use Rattle.pg_rooms.specs.PlaceEnds.{AreGroups}
 use Rattle.pg_rooms.specs.declared.grouping.Group.{Group}
 
@@ -76,3 +77,22 @@ pub all_grouped : (doc : Document) (groups : List Group) (ends rest : List End) 
     AreGroups doc groups ends
 all_grouped doc groups ends rest old none =
     subst (λ (gs : List Group). AreGroups doc gs ends) (append-nil groups) (old [] (no_items rest none))
+
+-- all ends are one group, where no class is of floats
+pub group_of_all : (doc : Document) (old now : List Group) (ends : List End) (group : Group) →
+    length (float_numbers doc.style) ≡ 0 → group.called ≡ [] → group.count ≡ length ends → old ≡ [] →
+    now ≡ old ++ group ∷ [] → AreGroups doc now ends
+group_of_all doc old now ends group none nothing count new push =
+    let all = subst (λ (counts : List ℕ). AllByRecursion (λ (end : End).
+    counts ≡ called doc.blocks doc.style end.to) ends) (sym nothing) (none_called doc ends none) in
+    let few : length ends ≤ group.count = omega (arith, count) in
+    subst (λ (groups : List Group). AreGroups doc groups ends)
+    (sym (push ∙ ap (λ (groups : List Group). groups ++ group ∷ []) new)) (
+      all_take (λ (end : End). group.called ≡ called doc.blocks doc.style end.to) group.count ends all,
+      drop_all group.count ends few,
+    )
+
+-- no group is there where there are no ends
+pub no_groups : (doc : Document) (groups : List Group) (ends : List End) → groups ≡ [] → length ends ≡ 0 →
+    AreGroups doc groups ends
+no_groups doc groups ends new none = subst (λ (found : List Group). AreGroups doc found ends) (sym new) (no_items ends none)

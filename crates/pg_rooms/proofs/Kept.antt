@@ -1,11 +1,10 @@
 -- What is kept of a place.
 use Rattle.std.proofs.Common.{Ok, Err, Result, ◌≡◌, refl, sym, ap, subst, ◌∙◌, ℕ, zero, suc, ◌+◌, ◌<◌, true, false, Bool, ℤ, arith, get_or}
-use Rattle.std.specs.Prelude.{List, [], ◌∷◌, ◌++◌, ◌≤ℤ◌, length, take, if◌then◌else◌, Contains, OnOk}
+use Rattle.std.specs.Prelude.{List, [], ◌∷◌, ◌++◌, length, take, if◌then◌else◌, Contains, OnOk}
 use Rattle.std.specs.List.{AllByRecursion}
 use Rattle.std.specs.Ordering.{int_eq}
 use Rattle.std.proofs.Math.Seq.{take-length}
 use Rattle.std.proofs.lemmas.Bool.Decides.{Decides-int_eq}
-use Rattle.std.proofs.lemmas.Int.{ints}
 use Rattle.pg_ends.specs.Ends.{AreEnds}
 use Rattle.pg_ends.specs.declared.end.End.{End}
 use Rattle.pg_lemmas.proofs.Bools.{by_bool, if_false, if_true}
@@ -13,7 +12,6 @@ use Rattle.pg_lemmas.proofs.Lists.{all_append, none_among}
 use Rattle.pg_laid.specs.declared.laid.Laid.{Laid}
 use Rattle.pg_list.specs.declared.galley.Place.{Place}
 use Rattle.pg_rules.specs.Room.{Document}
-use Rattle.pg_style.specs.Values.{StyleValue}
 use Rattle.pg_walk.specs.declared.place.PlaceWalk.{PlaceWalk}
 use Rattle.pg_walk_laws.specs.Reached.{tallest}
 use Rattle.pg_candidates.specs.Nears.{AreNearFrom}

@@ -1,8 +1,8 @@
 //! Ends in groups before which the same floats are called.
-ghost use Rattle.std.specs.Prelude.{◌≡◌, ◌≤◌, IfOk, OnOk, length, take};
+ghost use Rattle.std.specs.Prelude.{◌≡◌, ◌≤◌, true, IfOk, OnOk, length, take};
 ghost use Rattle.std.specs.List.{AllByRecursion};
 ghost use Rattle.pg_ends.specs.declared.end.End.{End as AnEnd};
-ghost use Rattle.pg_rules.specs.Floats.{called};
+ghost use Rattle.pg_rules.specs.Floats.{called, float_numbers};
 ghost use Rattle.pg_sources.specs.Document.{doc_of};
 ghost use Rattle.pg_rooms.specs.Calls.{AreCalls, IsLike};
 ghost use Rattle.pg_rooms.specs.PlaceEnds.{AreGroups};
@@ -48,8 +48,32 @@ fn count_same(
     Ok(count)
 }
 
+// Whether so many classes of floats are none, so that nothing is ever called.
+fn has_no_class(slots: usize) -> bool
+    ensures { result ≡ true → slots ≡ 0 }
+{
+    slots == 0
+}
+
+// All ends as one group, where the style has no class of floats. No group where there are no ends.
+fn group_all(sources: &Sources<'_>, ends: &[End]) -> Result<Vec<Group>, AllocError>
+    requires { length (float_numbers sources.now.style.now) ≡ 0 }
+    ensures { IfOk result (λ groups. AreGroups (doc_of sources.now) groups.items ends.now) }
+{
+    let mut groups = Vec::new(sources.alloc);
+    if ends.is_empty() {
+        return Ok(groups);
+    }
+    groups.push(Group {
+        called: Counts::new(sources.alloc),
+        count: ends.len(),
+    })?;
+    Ok(groups)
+}
+
 /// Ends in groups: as many as follow one another with the same floats called before them are one. What is called before
-/// them is kept. The one refusal is want of memory.
+/// them is kept, but where the style has no class of floats: all ends are then one group, and nothing is counted. The
+/// one refusal is want of memory.
 pub(crate) fn group_ends(
     sources: &Sources<'_>,
     calls: &mut Calls,
@@ -60,6 +84,9 @@ pub(crate) fn group_ends(
     ensures calls { OnOk result (AreCalls (doc_of sources.now) calls.old.items.items →
         AreCalls (doc_of sources.now) calls.new.items.items) }
 {
+    if has_no_class(sources.slots()) {
+        return group_all(sources, ends);
+    }
     let mut groups = Vec::new(sources.alloc);
     let mut rest = ends;
     calls.at = 0;

@@ -1,6 +1,6 @@
 -- The greatest block along the labels in code is the one that the walk asks for.
-use Rattle.std.proofs.Common.{◌≡◌, refl, sym, ap, ◌∙◌, subst, ℕ, zero, suc, ◌+◌, ◌≤◌, ◌<◌, ◌-◌, ◌⊎◌, inl, inr, Some, List, [], ◌∷◌, ◌++◌, length, arith, ℤ}
-use Rattle.std.specs.Prelude.{max, slice_get}
+use Rattle.std.proofs.Common.{◌≡◌, refl, sym, ap, ◌∙◌, subst, ℕ, ◌+◌, ◌≤◌, ◌<◌, ◌-◌, ◌⊎◌, inl, inr, Some, List, [], ◌∷◌, ◌++◌, length, arith, ℤ}
+use Rattle.std.specs.Prelude.{◌==◌, false, max, slice_get}
 use Rattle.std.proofs.lemmas.Option.{slice_get_within}
 use Rattle.pg_lemmas.proofs.Lists.{none_among, some_at}
 use Rattle.pg_rules.specs.Room.{Document}
@@ -14,28 +14,36 @@ use Rattle.pg_walk_laws.specs.Space.{WalkState}
 use Rattle.pg_walk_laws.specs.Walk.{variants_at}
 use Rattle.pg_walk_laws.proofs.BestLaws.{among_contains, contains_among}
 use Rattle.pg_walk_laws.proofs.Reach.{greatest_at, least_of, of_greatest}
-use Rattle.pg_walk_space.specs.Meaning.{space_meaning, state_of}
+use Rattle.pg_walk_space.specs.Meaning.{greatest_behind, reach_by, space_meaning, state_of}
+use Rattle.pg_walk_space.specs.Reaching.{by_from}
 use Rattle.pg_walk_space.proofs.Lifted.{HasOrigin, among_map, entries_of, entry_of, origin_of}
 use Rattle.pg_walk_space.proofs.Moves.{among_cases, among_left, among_right}
-use Rattle.pg_walk_labels.specs.Furthest.{GoesTo, IsByLabel, IsFurthest, reach_by}
+use Rattle.pg_walk_space.proofs.Reach.{greatest_with}
+use Rattle.pg_walk_labels.specs.Furthest.{AreTold, GoesTo, IsByLabel, IsFurthest}
 
--- a greater block to begin with
-pub greatest_with : (f : ℕ → ℕ) (b m a n : ℕ) → greatest_from f (max b m) a n ≡ max m (greatest_from f b a n)
-greatest_with f b m a zero = omega arith
-greatest_with f b m a (suc n) =
-    ap (λ (k : ℕ). max (f a) k) (greatest_with f b m (a + 1) n) ∙ turned (f a) m (greatest_from f b (a + 1) n)
-  where
-    turned : (x y z : ℕ) → max x (max y z) ≡ max y (max x z)
-    turned x y z = omega arith
+-- ---- what a label tells
 
--- one pick more
-pub pick_more : (f : ℕ → ℕ) (g a n x all : ℕ) → a < n → x ≡ f a → greatest_from f g a (n - a) ≡ all →
-    greatest_from f (max g x) (a + 1) (n - (a + 1)) ≡ all
-pick_more f g a n x all h is e =
-    let left : suc (n - (a + 1)) ≡ n - a = omega (arith, h) in
-    greatest_with f g x (a + 1) (n - (a + 1))
-    ∙ (ap (λ (k : ℕ). max k (greatest_from f g (a + 1) (n - (a + 1)))) is
-    ∙ (ap (greatest_from f g a) left ∙ e))
+pub some_items : {X : Type 0} (xs : List X) → (length xs == 0) ≡ false → 0 < length xs
+some_items [] e = absurd cc
+some_items (x ∷ xs) e = omega arith
+
+module _ (doc : Document) (top : ℤ) (e : Entry State ℕ)
+    (told : e.reach ≡ greatest_behind doc top (state_of e.state) + 1) (least : ℕ) where
+  abbrev By : ℕ → ℕ
+  By = reach_by doc top (state_of e.state)
+
+  abbrev picks : ℕ
+  picks = length (variants_at doc.blocks e.state.block)
+
+  -- where there are picks, of which none ends before the front
+  pub some_picks : 0 < picks → max least (e.reach - 1) ≡ greatest_from By least 0 picks
+  some_picks some =
+      let first = by_from doc top (state_of e.state) 0 in
+      let at = greatest_at By least 0 0 picks e.state.block some first in
+      let more = greatest_with By e.state.block least 0 picks in
+      let less = greatest_with By least e.state.block 0 picks in
+      let turn : max e.state.block least ≡ max least e.state.block = omega arith in
+      let same = ap (λ (n : ℕ). greatest_from By n 0 picks) turn in omega (arith, told, at, more, less, same)
 
 -- ---- label by label
 
@@ -137,6 +145,12 @@ is_greatest doc top from es n h = record {
           is = l.is ∙ ap (λ (x : Entry WalkState ℕ). reach_by doc top x.state l.pick) (sym o.is);
         }
 
+pub are_told : (doc : Document) (top : ℤ) (start : State) (es : List (Entry State ℕ)) →
+    IsTable (space_meaning doc top start) es → AreTold doc top es
+are_told doc top start es table = record { told = table.reaches }
+
 pub goes_to : (doc : Document) (top : ℤ) (start : State) (es : List (Entry State ℕ)) (least n : ℕ) →
-    IsTable (space_meaning doc top start) es → IsFurthest doc top es least n → GoesTo doc top start least n
-goes_to doc top start es least n table h = record { es = es; table = table; furthest = h }
+    IsTable (space_meaning doc top start) es → (AreTold doc top es → IsFurthest doc top es least n) →
+    GoesTo doc top start least n
+goes_to doc top start es least n table h =
+    record { es = es; table = table; furthest = h (are_told doc top start es table) }

@@ -1,18 +1,11 @@
 -- The greatest block along the picks of labels.
-use Rattle.std.specs.Prelude.{◌≡◌, ◌⊎◌, ◌<◌, ◌≤◌, ℕ, List, length, Contains, ℤ}
+use Rattle.std.specs.Prelude.{◌≡◌, ◌⊎◌, ◌<◌, ◌≤◌, ℕ, ◌+◌, List, length, Contains, ℤ}
 use Rattle.pg_rules.specs.Room.{Document}
 use Rattle.pg_stretch.specs.declared.passing.State.{State}
 use Rattle.pg_table.specs.Label.{IsTable}
 use Rattle.pg_table.specs.declared.table.Entry.{Entry}
-use Rattle.pg_walk_laws.specs.Reached.{reach_along}
-use Rattle.pg_walk_laws.specs.Space.{WalkState}
-use Rattle.pg_walk_laws.specs.Walk.{picked_front, picked_stretch, variants_at}
-use Rattle.pg_walk_space.specs.Meaning.{space_meaning, state_of}
-
--- the greatest block along the stretch of a pick at a front
-abbrev pub reach_by : Document → ℤ → WalkState → ℕ → ℕ
-reach_by doc top u pick =
-    reach_along doc top (picked_front doc.blocks u.block) u.passed (picked_stretch doc.blocks u.block pick)
+use Rattle.pg_walk_laws.specs.Walk.{variants_at}
+use Rattle.pg_walk_space.specs.Meaning.{greatest_behind, reach_by, space_meaning, state_of}
 
 -- the greatest block along the stretch of a pick at the front of one of these labels
 pub record IsByLabel (doc : Document) (top : ℤ) (some : List (Entry State ℕ)) (n : ℕ) : Type 0 where
@@ -33,3 +26,7 @@ pub record GoesTo (doc : Document) (top : ℤ) (start : State) (least n : ℕ) :
   pub es : List (Entry State ℕ)
   pub table : IsTable (space_meaning doc top start) es
   pub furthest : IsFurthest doc top es least n
+
+-- the reach of each label is one more than the greatest block along the stretches of the picks at its front
+pub record AreTold (doc : Document) (top : ℤ) (es : List (Entry State ℕ)) : Type 0 where
+  pub told : (e : Entry State ℕ) → Contains es e → e.reach ≡ greatest_behind doc top (state_of e.state) + 1

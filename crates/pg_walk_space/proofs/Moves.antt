@@ -1,7 +1,8 @@
 -- The steps by all picks are the moves of a state.
 use Rattle.std.proofs.Common.{◌≡◌, refl, sym, ap, ◌∙◌, subst, ℕ, zero, suc, ◌+◌, ◌≤◌, ◌<◌, inl, inr, List, [], ◌∷◌, ◌++◌, length, arith, Bool, true, false, Option, Some, None, ℤ, pos}
-use Rattle.std.specs.Prelude.{◌≢◌, ◌⊎◌, if◌then◌else◌, option_map, get_or, slice_get, AllPairs}
+use Rattle.std.specs.Prelude.{◌≢◌, ◌⊎◌, if◌then◌else◌, option_map, get_or, slice_get, take, drop, ◌-◌, AllPairs}
 use Rattle.std.specs.Option.{option_map_or}
+use Rattle.std.proofs.lemmas.List.{append_assoc, take_all}
 use Rattle.std.proofs.lemmas.Option.{same_Some}
 use Rattle.pg_list.specs.declared.variants.Variant.{Variant}
 use Rattle.pg_column.specs.Judged.{is_loose_enough}
@@ -146,6 +147,21 @@ module _ (doc : Document) (top : ℤ) (u : State) where
               (get_among (steps_from doc top u (k + 1) vs) j d (omega (arith, within))) in
               omega (arith, later, e)
           cons (suc i) (suc j) d lt within = r i j d (omega (arith, lt)) (omega (arith, within))
+
+  -- ---- pick by pick
+
+  -- the steps up to and including those of the first of the picks that are left
+  pub steps_more : (k : ℕ) (v : Variant) (left : List Variant) (old new all : List (Step State ℕ)) →
+      1 ≤ length left → v ≡ get_or left 0 v → new ≡ old ++ steps_by doc top u k v →
+      old ++ steps_from doc top u k left ≡ all →
+      new ++ steps_from doc top u (k + 1) (take (length left - 1) (drop 1 left)) ≡ all
+  steps_more k v [] old new all h is added e = absurd (omega (arith, h))
+  steps_more k v (w ∷ ws) old new all h is added e =
+      let rest : take (length (w ∷ ws) - 1) ws ≡ ws = take_all (length (w ∷ ws) - 1) ws (omega arith) in
+      ap (λ (vs : List Variant). new ++ steps_from doc top u (k + 1) vs) rest
+      ∙ (ap (λ (ss : List (Step State ℕ)). ss ++ steps_from doc top u (k + 1) ws) added
+      ∙ (ap (λ (x : Variant). (old ++ steps_by doc top u k x) ++ steps_from doc top u (k + 1) ws) is
+      ∙ (append_assoc old (steps_by doc top u k w) (steps_from doc top u (k + 1) ws) ∙ e)))
 
   -- ---- moves
 

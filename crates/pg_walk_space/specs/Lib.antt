@@ -1,2 +1,3 @@
 pub mod Meaning
+pub mod Reaching
 pub mod WalkLawful

@@ -12,8 +12,9 @@ use Rattle.pg_stretch.specs.View.{IsFor, view}
 use Rattle.pg_stretch.specs.declared.passing.State.{State}
 use Rattle.pg_table.specs.Space.{Meaning}
 use Rattle.pg_table.specs.declared.step.Step.{Step}
+use Rattle.pg_walk_laws.specs.Reached.{greatest_from, reach_along}
 use Rattle.pg_walk_laws.specs.Space.{Picks, WalkState, is_no_worse}
-use Rattle.pg_walk_laws.specs.Walk.{past_stretch, picked_front, picked_stretch}
+use Rattle.pg_walk_laws.specs.Walk.{past_stretch, picked_front, picked_stretch, variants_at}
 use Rattle.pg_walk_space.specs.declared.space.Key.{Key}
 
 -- a state of the walk
@@ -43,6 +44,16 @@ pub record IsOwn (doc : Document) (top : ℤ) (u : State) : Type 0 where
 pub IsOwn_prop : (doc : Document) (top : ℤ) (u : State) → IsProp (IsOwn doc top u)
 IsOwn_prop doc top u = hlevel props
 
+-- the greatest block along the stretch of a pick at a front
+abbrev pub reach_by : Document → ℤ → WalkState → ℕ → ℕ
+reach_by doc top u pick =
+    reach_along doc top (picked_front doc.blocks u.block) u.passed (picked_stretch doc.blocks u.block pick)
+
+-- the greatest of a front and of the blocks along the stretches of all picks there, loose enough or not
+abbrev pub greatest_behind : Document → ℤ → WalkState → ℕ
+greatest_behind doc top u =
+    greatest_from (reach_by doc top u) u.block 0 (length (variants_at doc.blocks u.block))
+
 -- the walk from a state
 abbrev pub space_meaning : Document → ℤ → State → Meaning State ℕ Key
 space_meaning doc top start = record {
@@ -52,7 +63,7 @@ space_meaning doc top start = record {
   key = key_of;
   rank = λ u. u.block;
   block = λ u. u.block;
-  reach = λ u. length doc.blocks + 1;
+  reach = λ u. greatest_behind doc top (state_of u) + 1;
   is_done = λ u. false;
   no_worse = λ u v. is_no_worse (state_of u) (state_of v);
   order = nat_cmp;

@@ -27,6 +27,7 @@ use Rattle.pg_walk_space.specs.contracts.space.KeyPartialEq.TheImpl as key_impl
 use Rattle.pg_walk_laws.proofs.SpaceLaws.{past_parts, totals_itself, totals_same, walk_lawful}
 use Rattle.pg_walk_space.specs.declared.space.Key.{Key}
 use Rattle.pg_walk_space.specs.Meaning.{IsOwn, Leads, next_state, space_meaning, state_of}
+use Rattle.pg_walk_space.specs.Reaching.{behind_next, behind_own}
 use Rattle.pg_stretch.proofs.Left.{picked_left}
 
 -- ---- the derived tests
@@ -165,8 +166,8 @@ module _ (doc : Document) (top : ℤ) (all : AllByRecursion IsBlock doc.blocks) 
     order_equal = walk.order_equal;
     order_total = walk.order_total;
     onward = λ u m v c o f. walk.onward (state_of u) m (state_of v) c o.block f.picks;
-    reach_own = λ u o. walk.reach_own (state_of u) o.block;
-    reach_next = λ u m v c o f. walk.reach_next (state_of u) m (state_of v) c o.block f.picks;
+    reach_own = λ u o. let l = behind_own doc top (state_of u) in omega (arith, l);
+    reach_next = λ u m v c o f. let l = behind_next doc top (state_of u) m (state_of v) c f.picks in omega (arith, l);
     small_move = λ u m v c o f. walk.small_move (state_of u) m (state_of v) c o.block f.picks;
     small_run = λ ms u c r. walk.small_run ms (state_of u) c (run_down ms u c r);
     few_moves = λ ms u c r. walk.few_moves ms (state_of u) c (run_down ms u c r);

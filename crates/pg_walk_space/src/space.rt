@@ -1,5 +1,5 @@
 //! States at the fronts of choices, and the picks that lead from one to the next.
-ghost use Rattle.std.specs.Prelude.{◌≡◌, ◌≤◌, ◌+◌, ◌++◌, ◌==◌, ◌&&◌, ◌^◌, OnOk, IfOk, length};
+ghost use Rattle.std.specs.Prelude.{◌≡◌, ◌≤◌, ◌+◌, ◌++◌, ◌==◌, ◌&&◌, ◌^◌, OnOk, IfOk};
 ghost use Rattle.pg_notes.specs.declared.sums.NoteSum.{NoteSum as ANoteSum};
 ghost use Rattle.pg_rules.specs.Legal.{document};
 ghost use Rattle.pg_rules.specs.Ranges.{AreInRange, AreInRange_prop};
@@ -7,7 +7,7 @@ ghost use Rattle.pg_stretch.specs.declared.passing.State.{State as AState};
 ghost use Rattle.pg_table.specs.Space.{AreMoves};
 ghost use Rattle.pg_walk_laws.specs.Candidates.{is_no_greater as is_no_greater_of};
 ghost use Rattle.pg_walk_laws.specs.Space.{is_no_worse, key_of as walk_key, same_bool, same_key as same_key_of, same_notes as same_notes_of, same_totals as same_totals_of};
-ghost use Rattle.pg_walk_space.specs.Meaning.{IsOwn, IsOwn_prop, space_meaning, state_behind, state_of, steps_by};
+ghost use Rattle.pg_walk_space.specs.Meaning.{IsOwn, IsOwn_prop, greatest_behind, reach_by, space_meaning, state_behind, state_of, steps_by};
 
 use crate::picks::{is_loose_enough, variants_at};
 use pg_list::{Galley, Variant};
@@ -38,6 +38,13 @@ pub struct WalkSpace<'a> {
     alloc: Global,
     ghost in_range: { AreInRange galley.now style.now } by { AreInRange_prop galley.now style.now },
     ghost own: { IsOwn (document galley.now style.now) top start } by { IsOwn_prop (document galley.now style.now) top start },
+}
+
+// What is behind a pick: the state, where its stretch is passed, and the greatest block along the stretch.
+#[derive(Clone, Copy)]
+struct Behind {
+    to: Option<State>,
+    greatest: u32,
 }
 
 // Whether two notes are the same.
@@ -138,71 +145,82 @@ impl<'a> WalkSpace<'a> {
         }
     }
 
-    // The state behind a pick, where its stretch is passed.
-    fn next(&self, state: &State, pick: u32) -> Option<State>
+    // What is behind a pick at the front of a state.
+    fn behind(&self, state: &State, pick: u32) -> Behind
         requires { IsOwn (document self.now.galley.now self.now.style.now) self.now.top state.now }
-        ensures { result ≡ state_behind (document self.now.galley.now self.now.style.now) self.now.top state.now pick }
+        ensures to { result.to ≡ state_behind (document self.now.galley.now self.now.style.now) self.now.top state.now
+            pick }
+        ensures greatest { result.greatest ≡ reach_by (document self.now.galley.now self.now.style.now) self.now.top
+            (state_of state.now) pick }
     {
         let ahead = Cursor::picked(self.galley, state.block, pick);
         let passing = pass_on(self.galley, self.style, self.top, ahead, state.passed);
         let front = passing.front;
+        let greatest = passing.greatest;
         match passing.passed {
-            None => None,
-            Some(passed) => Some(State {
-                block: front,
-                passed,
-            }),
+            None => Behind { to: None, greatest },
+            Some(passed) => Behind {
+                to: Some(State {
+                    block: front,
+                    passed,
+                }),
+                greatest,
+            },
         }
     }
 
-    // Adds the step by a pick, where its variant is loose enough and its stretch is passed.
+    // Adds the step by a pick, where its variant is loose enough and its stretch is passed, and tells the greatest block
+    // along the stretch.
     fn add_step(
         &self,
         state: &State,
         pick: u32,
         variant: &Variant,
         found: &mut StepList<State, u32>,
-    ) -> Result<(), AllocError>
+    ) -> Result<u32, AllocError>
         requires { IsOwn (document self.now.galley.now self.now.style.now) self.now.top state.now }
-        ensures { OnOk result (found.new ≡ found.old
+        ensures steps { OnOk result (found.new ≡ found.old
             ++ steps_by (document self.now.galley.now self.now.style.now) self.now.top state.now pick variant.now) }
+        ensures greatest { IfOk result (λ n. n ≡ reach_by (document self.now.galley.now self.now.style.now)
+            self.now.top (state_of state.now) pick) }
     {
+        let Behind { to, greatest } = self.behind(state, pick);
         if !is_loose_enough(self.style, variant) {
-            return Ok(());
+            return Ok(greatest);
         }
-        if let Some(to) = self.next(state, pick) {
-            found.push(Step {
-                to,
-                by: pick,
-                cost: i128::from(variant.demerits),
-            })?;
-        }
-        Ok(())
+        let Some(to) = to else {
+            return Ok(greatest);
+        };
+        found.push(Step {
+            to,
+            by: pick,
+            cost: i128::from(variant.demerits),
+        })?;
+        Ok(greatest)
     }
 
-    // The steps from a state.
-    fn moves(&self, state: &State) -> Result<StepList<State, u32>, AllocError>
+    // The steps from a state, and one more than the greatest of its front and of the blocks along the stretches of all
+    // picks there.
+    fn opened(&self, state: &State) -> Result<Opened<State, u32>, AllocError>
         requires { IsOwn (document self.now.galley.now self.now.style.now) self.now.top state.now }
-        ensures { IfOk result (λ steps. AreMoves (space_meaning (document self.now.galley.now self.now.style.now)
-            self.now.top self.now.start) state.now steps) }
+        ensures moves { IfOk result (λ o. AreMoves (space_meaning (document self.now.galley.now self.now.style.now)
+            self.now.top self.now.start) state.now o.steps) }
+        ensures reach { IfOk result (λ o. o.reach ≡ greatest_behind (document self.now.galley.now self.now.style.now)
+            self.now.top (state_of state.now) + 1) }
     {
         let mut found = StepList::new(self.alloc);
         let mut left = variants_at(self.galley, state.block);
         let mut pick = 0u32;
+        let mut greatest = state.block;
         'picks: while let [variant, after @ ..] = left {
-            self.add_step(state, pick, variant, &mut found)?;
+            greatest = greatest.max(self.add_step(state, pick, variant, &mut found)?);
             left = after;
             pick += 1;
         }
-        Ok(found)
-    }
-
-    // One more than the number of blocks.
-    #[tactic(auto, using(pg_list::proofs::Sizes::blocks_le))]
-    fn reach(&self) -> u32
-        ensures { result ≡ length self.now.galley.now.blocks + 1 }
-    {
-        self.galley.blocks().len() as u32 + 1
+        Ok(Opened {
+            steps: found,
+            reach: greatest + 1,
+        })
     }
 }
 
@@ -258,9 +276,6 @@ impl Space for WalkSpace<'_> {
         steps: &mut Steps<L>,
     ) -> Result<Opened<State, u32>, AllocError> {
         steps.tick();
-        Ok(Opened {
-            steps: self.moves(state)?,
-            reach: self.reach(),
-        })
+        self.opened(state)
     }
 }

@@ -1,20 +1,15 @@
-use Rattle.std.proofs.Common.{◌∙◌, ◌+◌, ◌-◌, ap, arith, length, ℕ, to_z, of_z, w64}
+use Rattle.std.proofs.Common.{◌∙◌, ◌<◌, ap, sym, arith, ℕ, length}
+use Rattle.std.specs.Prelude.{max}
 use Rattle.pg_rules.specs.Legal.{document}
-use Rattle.pg_walk_laws.specs.Reached.{greatest_from}
-use Rattle.pg_walk_space.specs.Meaning.{state_of}
-use Rattle.pg_walk_labels.specs.Furthest.{reach_by}
-use Rattle.pg_walk_labels.proofs.Greatest.{pick_more}
+use Rattle.pg_walk_laws.specs.Walk.{variants_at}
+use Rattle.pg_walk_labels.proofs.Greatest.{some_items, some_picks}
 use Rattle.pg_walk_labels.proofs.reach.reach_of_label.Goals as goal
 
-pub picks-preserved : goal.picks-preserved
-picks-preserved c =
-    let by = reach_by (document c.args.galley.now c.args.style.now) (to_z w64 (of_z w64 c.args.top))
-    (state_of c.args.label.now.state) in
-    let count = length c.variants_at.result.now in
-    record {
-      within = omega (arith, c.picks-test.true);
-      few = c.picks.invariant.few;
-      greatest = ap (λ (n : ℕ). greatest_from by n (c.picks.pick + 1) (count - (c.picks.pick + 1))) c.max-greatest.ensures
-          ∙ pick_more by c.picks.greatest c.picks.pick count c.reach_of_pick.result _ c.picks-test.true
-          c.reach_of_pick.ensures c.picks.invariant.greatest;
-    }
+pub returns : goal.returns
+returns c = λ style top told.
+    let e = c.args.label.now in
+    let there = some_items c.variants_at.result.now (sym c.is_empty.ensures ∙ c.if-is_empty.false) in
+    let same = ap length c.variants_at.ensures.variants in
+    let some : 0 < length (variants_at c.args.galley.now.blocks e.state.block) = omega (arith, there, same) in
+    c.max.ensures ∙ (ap (λ (n : ℕ). max c.args.least n) c.saturating_sub.ensures
+    ∙ some_picks (document c.args.galley.now style) top e told c.args.least some)

@@ -1,7 +1,7 @@
 use Rattle.std.proofs.Common.{ap, arith, length}
 use Rattle.pg_list.proofs.Sizes.{blocks_le}
 use Rattle.pg_stretch.proofs.Left.{picked_left}
-use Rattle.pg_walk_space.proofs.space.WalkSpace.next.Goals as goal
+use Rattle.pg_walk_space.proofs.space.WalkSpace.behind.Goals as goal
 
 pub picked-ahead-requires : goal.picked-ahead-requires
 picked-ahead-requires c =
