@@ -1,3 +1,0 @@
-pub mod Breaks
-pub mod Crosses
-pub mod View
