@@ -9,3 +9,4 @@ mod breaks;
 mod near;
 
 pub use breaks::{break_cost, is_forced, is_spent};
+pub use near::is_forcing;

@@ -9,9 +9,11 @@ ghost use Rattle.pg_walk_laws.specs.Walk.{end_here, ends_along, past_stretch};
 ghost use Rattle.pg_stretch.specs.Ahead.{IsSettled, front_ahead, items_ahead};
 ghost use Rattle.pg_stretch.specs.Quiet.{is_quiet, passed_along};
 ghost use Rattle.pg_stretch.specs.View.{IsFor, view};
+ghost use Rattle.pg_hops.specs.Index.{AreHops};
 ghost use Rattle.pg_candidates.specs.View.{passed_of};
 
 use crate::candidate::{Candidate, CandidateList};
+use pg_hops::{BreakIndex, go, hop_ahead, is_end_ahead};
 use pg_list::{Galley, Place};
 use pg_plan::Picks;
 use pg_stretch::{Cursor, Passed, State};
@@ -66,13 +68,14 @@ fn stopped(style: &Style, passed: &Passed, greatest: u32) -> Walked
     }
 }
 
-/// Goes through the items ahead, and adds the ends on the way, with these picks at these demerits. Answers how far it
-/// came; where the notes passed take no room, a walk without notes comes as far.
+/// Goes through the items ahead, by hops where the index knows them, and adds the ends on the way, with these picks at these
+/// demerits. Answers how far it came; where the notes passed take no room, a walk without notes comes as far.
 ///
-/// Conditions: as for `pass_on` of pg_stretch.
+/// Conditions: as for `pass_on` of pg_hops.
 pub fn walk_on(
     galley: &Galley,
     style: &Style,
+    index: &BreakIndex,
     top: i64,
     start: Cursor,
     before: Passed,
@@ -80,6 +83,7 @@ pub fn walk_on(
     demerits: i64,
     found: &mut CandidateList,
 ) -> Result<Walked, AllocError>
+    requires hops { AreHops galley.now.blocks style.now.maxdepth index.now }
     requires settled { IsSettled galley.now.blocks start }
     requires style { IsFor style.now before }
     requires bound { fits before.bound top ≡ true }
@@ -106,15 +110,16 @@ pub fn walk_on(
     'ahead: while let Some(item) = at.item(galley) {
         let here = at.place();
         greatest = greatest.max(here.block);
-        let is_end = passed.ends_at(galley, at, here, item);
+        let hop = hop_ahead(index, &passed, at);
+        let is_end = is_end_ahead(galley, &passed, at, here, item, hop);
         end_at(style, here, is_end, &passed, picks, demerits, found)?;
-        if !passed.pass(galley, style, here, is_end, item) {
+        let Some(next) = go(galley, style, at, here, is_end, item, hop, &mut passed) else {
             return Ok(stopped(style, &passed, greatest));
-        }
+        };
         if !passed.fits(top) {
             return Ok(stopped(style, &passed, greatest));
         }
-        at = at.next(galley);
+        at = next;
     }
     let front = at.place();
     let is_end = passed.is_end(galley, front);
@@ -132,10 +137,11 @@ pub fn walk_on(
 /// Goes through the items ahead, and adds the ends on the way, with these picks at these demerits. Answers what was
 /// passed then with the front behind it, where some room up to the greatest one lets pass.
 ///
-/// Conditions: as for `pass_on` of pg_stretch.
+/// Conditions: as for `pass_on` of pg_hops.
 pub fn ends_on(
     galley: &Galley,
     style: &Style,
+    index: &BreakIndex,
     top: i64,
     start: Cursor,
     before: Passed,
@@ -143,6 +149,7 @@ pub fn ends_on(
     demerits: i64,
     found: &mut CandidateList,
 ) -> Result<Option<State>, AllocError>
+    requires hops { AreHops galley.now.blocks style.now.maxdepth index.now }
     requires settled { IsSettled galley.now.blocks start }
     requires style { IsFor style.now before }
     requires bound { fits before.bound top ≡ true }
@@ -159,6 +166,8 @@ pub fn ends_on(
         (s.passed.sums.count ≡ before.sums.count + length (items_ahead galley.now.blocks start))
         × (s.passed.notes.count ≡ before.notes.count + length (items_ahead galley.now.blocks start)))) }
 {
-    let walked = walk_on(galley, style, top, start, before, picks, demerits, found)?;
+    let walked = walk_on(
+        galley, style, index, top, start, before, picks, demerits, found,
+    )?;
     Ok(walked.state)
 }

@@ -11,6 +11,7 @@ use crate::firsts::{covers_start, first_final, first_no_state};
 use pg_check_laws::{No, best_picks_decide};
 use pg_cover::first_open;
 use pg_floats::FloatList;
+use pg_hops::BreakIndex;
 use pg_labels::{Output, Shown};
 use pg_list::Galley;
 use pg_small::{SmallLabel, small_labels};
@@ -194,7 +195,8 @@ pub(crate) fn test_labels<D: Document, L: Ledger>(
     requires before { PassesText galley.now style.now output.now }
     ensures { Tested (PassesAll galley.now style.now output.now) galley.now style.now output.now result }
 {
-    let space = KeptPages::<D>::new(alloc, galley, style, floats);
+    let index = BreakIndex::of(alloc, galley, style);
+    let space = KeptPages::<D>::new(alloc, galley, style, floats, &index);
     let mut steps = Steps::<L>::new(blank);
     test_in(alloc, &space, output, &mut steps)
 }

@@ -1,5 +1,6 @@
 //! All columns that may follow a state.
 ghost use Rattle.std.specs.Prelude.{◌≡◌, ◌++◌, length, min, IfOk, OnOk};
+ghost use Rattle.pg_hops.specs.Index.{AreHops};
 ghost use Rattle.pg_rules.specs.Floats.{called};
 ghost use Rattle.pg_rules.specs.IsState.{IsPlace, IsState};
 ghost use Rattle.pg_reach_laws.specs.ReachAt.{reach_at};
@@ -14,6 +15,7 @@ ghost use Rattle.pg_waiting.specs.Settling.{known_of};
 
 use crate::stays::add_stays;
 use crate::texts::text_steps;
+use pg_hops::BreakIndex;
 use pg_laid::lay_floats;
 use pg_list::{Galley, Place};
 use pg_move_laws::listed_steps_are_moves;
@@ -36,15 +38,20 @@ fn last_block(galley: &Galley, reach: u32) -> u32
 
 /// Where the columns of text from a place may end, and how far they may go.
 ///
-/// Condition: the place is the galley's. The one refusal is want of memory.
-pub fn walk_place(sources: &Sources<'_>, from: Place) -> Result<PlaceWalk, AllocError>
-    requires { IsPlace sources.now.galley.now.blocks from }
+/// Conditions: the place is the galley's, and the index is of the galley and style. The one refusal is want of memory.
+pub fn walk_place(
+    sources: &Sources<'_>,
+    index: &BreakIndex,
+    from: Place,
+) -> Result<PlaceWalk, AllocError>
+    requires hops { AreHops sources.now.galley.now.blocks sources.now.style.now.maxdepth index.now }
+    requires place { IsPlace sources.now.galley.now.blocks from }
     ensures near { IfOk result (λ walk.
         AreNearFrom (doc_of sources.now) from (tallest sources.now.style.now) walk.near) }
     ensures reach { IfOk result (λ walk. walk.reach ≡ reach_at (doc_of sources.now) from) }
 {
     reach_is_the_greatest(sources.galley, sources.style);
-    walk_from(sources.alloc, sources.galley, sources.style, from)
+    walk_from(sources.alloc, sources.galley, sources.style, index, from)
 }
 
 // How many floats of each class are called before all blocks that a column from a place does not reach.
@@ -113,7 +120,8 @@ pub fn open(
     ensures moves { IfOk result (λ it. AreMoves (page_meaning (doc_of sources.now)) state.now it.steps) }
     ensures reach { IfOk result (λ it. it.reach ≡ reach_at (doc_of sources.now) state.now.place) }
 {
-    let walk = walk_place(sources, state.place)?;
+    let index = BreakIndex::empty(sources.alloc);
+    let walk = walk_place(sources, &index, state.place)?;
     let mut kept = PlaceEnds::new(sources.alloc, walk);
     open_by(sources, state, &mut kept, &EveryMove::<SmallState>::new())
 }

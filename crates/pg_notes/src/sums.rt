@@ -196,6 +196,14 @@ impl NoteSums {
         self.count += 1;
     }
 
+    /// Counts so many more items, none of which is a note.
+    pub fn count_others(&mut self, more: u32)
+        requires { self.old.count + more ≤ 2 ^ 20 }
+        ensures { self.new ≡ record { sums = self.old.sums; count = self.old.count + more } }
+    {
+        self.count += more;
+    }
+
     /// The sum of each class.
     pub fn as_slice(&self) -> &[NoteSum]
         ensures { result.now ≡ self.now.sums }

@@ -1,5 +1,5 @@
 -- The steps of a script, show by show.
-use Rattle.std.proofs.Common.{◌≡◌, refl, sym, ap, subst, ◌∙◌, ℕ, ◌+◌, List, [], ◌∷◌, ◌++◌, length, take, Option, Some, None, arith}
+use Rattle.std.proofs.Common.{◌≡◌, refl, sym, ap, subst, ℕ, ◌+◌, List, [], ◌∷◌, ◌++◌, length, take, arith}
 use Rattle.pg_style.specs.Values.{StyleValue}
 use Rattle.pg_space.specs.declared.solving.Outcome.{Outcome}
 use Rattle.pg_session.specs.SessionValue.{SessionValue}

@@ -3,14 +3,13 @@ use Rattle.std.proofs.Common.{◌≡◌, sym, ap, subst, ◌∙◌, ℕ, inl, in
 use Rattle.std.specs.Prelude.{min}
 use Rattle.pg_floats.specs.AreFloats.{AreFloats}
 use Rattle.pg_floats.specs.FloatsValue.{ClassFloatsValue}
+use Rattle.pg_hops.specs.Index.{AreHops}
+use Rattle.pg_hops.specs.declared.index.Row.{Row}
 use Rattle.pg_list.specs.GalleyValue.{GalleyValue}
 use Rattle.pg_list.specs.declared.galley.Edit.{Edit}
 use Rattle.pg_style.specs.Values.{StyleValue}
-use Rattle.pg_rules.specs.Legal.{document}
 use Rattle.pg_rules.specs.Ranges.{AreInRange}
 use Rattle.pg_rules.specs.Reach.{touched}
-use Rattle.pg_space_laws.specs.PageSpace.{page_meaning}
-use Rattle.pg_table.specs.Below.{IsRightBelow}
 use Rattle.pg_session.specs.Edits.{edited}
 use Rattle.pg_session.specs.Kept.{IsRight, IsSession, StaysRight}
 use Rattle.pg_session.specs.SessionValue.{SessionValue}
@@ -47,10 +46,12 @@ module _ (g n : GalleyValue) (s : StyleValue) (old floats : List ClassFloatsValu
       by (inr low) = inr (stays kept.touched kept.table low)
 
   -- its fields keep what they have to
-  pub session_edited : IsSession g s old kept → AreInRange n s → StaysRight g s edit → IsSession n s floats left
-  session_edited was range stays = record {
+  pub session_edited : (rows mended : List Row) → IsSession g s old rows kept → AreInRange n s → StaysRight g s edit →
+      (AreHops g.blocks s.maxdepth rows → AreHops n.blocks s.maxdepth mended) → IsSession n s floats mended left
+  session_edited rows mended was range stays mends = record {
     range = range;
     floats_are = listed;
+    hops = mends was.hops;
     right = right_left was.right stays;
     known = λ e. absurd (let f = ap (λ (k : Kept). k.solved) left_is in cc);
   }

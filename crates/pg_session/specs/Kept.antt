@@ -2,6 +2,8 @@
 use Rattle.std.specs.Prelude.{◌≡◌, ℕ, ◌⊎◌, min, true, List}
 use Rattle.pg_floats.specs.AreFloats.{AreFloats}
 use Rattle.pg_floats.specs.FloatsValue.{ClassFloatsValue}
+use Rattle.pg_hops.specs.Index.{AreHops}
+use Rattle.pg_hops.specs.declared.index.Row.{Row}
 use Rattle.pg_list.specs.GalleyValue.{GalleyValue}
 use Rattle.pg_list.specs.declared.galley.Edit.{Edit}
 use Rattle.pg_plan.specs.declared.pages.PageMove.{PageMove}
@@ -37,11 +39,12 @@ StaysRight galley style edit = (block : ℕ) (table : List (Entry State PageMove
     IsRightBelow (page_meaning (document galley style)) block table →
     IsRightBelow (page_meaning (document (edited galley edit) style)) (min block (touched galley.blocks edit)) table
 
--- the floats are the galley's, the table is right below the touched block, and where the session is solved all of it is
+-- the floats and the hops are the galley's, the table is right below the touched block, and where the session is solved all of it is
 -- known
 pub record IsSession (galley : GalleyValue) (style : StyleValue) (floats : List ClassFloatsValue)
-    (kept : Kept) : Type 0 where
+    (rows : List Row) (kept : Kept) : Type 0 where
   pub range : AreInRange galley style
   pub floats_are : AreFloats galley.blocks style floats
+  pub hops : AreHops galley.blocks style.maxdepth rows
   pub right : IsRight galley style kept
   pub known : kept.solved ≡ true → IsKnown galley style kept

@@ -1,5 +1,5 @@
 //! The steps of an edit: the galley that it makes, its floats, the block that it touches, and what stays right.
-ghost use Rattle.std.specs.Prelude.{◌≡◌, IfOk};
+ghost use Rattle.std.specs.Prelude.{◌≡◌, take, IfOk};
 ghost use Rattle.pg_floats.specs.AreFloats.{AreFloats};
 ghost use Rattle.pg_list.specs.declared.galley.Edit.{Edit as AnEdit};
 ghost use Rattle.pg_rules.specs.Ranges.{AreInRange};
@@ -59,9 +59,11 @@ pub fn stay_in_range(galley: &Galley, style: &Style)
     let _ = galley.blocks().as_slice();
 }
 
-/// What is kept of a galley is right for the edited one below what the edit touches.
+/// What is kept of a galley is right for the edited one below what the edit touches, and its blocks there are the same.
 pub fn edits_leave_right(galley: &Galley, new: &Galley, style: &Style)
-    ensures { (edit : AnEdit) → new.now ≡ edited galley.now edit → StaysRight galley.now style.now edit }
+    ensures right { (edit : AnEdit) → new.now ≡ edited galley.now edit → StaysRight galley.now style.now edit }
+    ensures front { (edit : AnEdit) → new.now ≡ edited galley.now edit →
+        take (touched galley.now.blocks edit) galley.now.blocks ≡ take (touched galley.now.blocks edit) new.now.blocks }
 {
     stay_in_range(galley, style);
     stay_in_range(new, style);

@@ -10,6 +10,7 @@ use crate::parts::{edited_galley, edits_leave_right, floats_of, stay_in_range, t
 use crate::solving::solve_kept;
 use pg_edits::EditFault;
 use pg_floats::{FloatFault, FloatList};
+use pg_hops::BreakIndex;
 use pg_list::{Edit, Galley};
 use pg_plan::LabelList;
 use pg_space::Outcome;
@@ -19,12 +20,13 @@ use std::alloc::{AllocError, Global};
 use std::marker::Model;
 use std::sync::ledger::Ledger;
 
-/// A galley under a style, with the labels that its edits leave right.
+/// A galley under a style, with the hops of its breaks, and the labels that its edits leave right.
 #[derive(Drop)]
 pub struct Session {
     galley: Galley,
     style: Style,
     floats: FloatList,
+    index: BreakIndex,
     kept: Kept,
     alloc: Global,
 }
@@ -44,7 +46,7 @@ impl Model for Session {
       touched = a.kept.touched;
     } };
 
-    ghost invariant = { λ a. IsSession a.galley a.style a.floats a.kept };
+    ghost invariant = { λ a. IsSession a.galley a.style a.floats a.index a.kept };
 }
 
 impl Session {
@@ -58,10 +60,12 @@ impl Session {
     {
         stay_in_range(&galley, &style);
         let floats = FloatList::of(alloc, &galley, &style)?;
+        let index = BreakIndex::of(alloc, &galley, &style);
         Ok(Session {
             galley,
             style,
             floats,
+            index,
             kept: Kept::new(alloc),
             alloc,
         })
@@ -123,6 +127,7 @@ impl Session {
         edits_leave_right(&self.galley, &galley, &self.style);
         let block = touched_block(&self.galley, edit, &galley);
         self.kept.touch(self.alloc, block);
+        self.index.mend(&galley, &self.style, block);
         self.galley = galley;
         self.floats = floats;
         Ok(())
@@ -141,6 +146,7 @@ impl Session {
             &self.galley,
             &self.style,
             &self.floats,
+            &self.index,
             &mut self.kept,
             steps,
         ) {

@@ -1,6 +1,7 @@
 //! What a session keeps, brought up to the galley as it stands, and what it then tells.
 ghost use Rattle.std.specs.Prelude.{◌≡◌, ◌+◌, ◌≤◌, true, IfOk, OnOk};
 ghost use Rattle.pg_floats.specs.AreFloats.{AreFloats};
+ghost use Rattle.pg_hops.specs.Index.{AreHops};
 ghost use Rattle.pg_rules.specs.Ranges.{AreInRange};
 ghost use Rattle.pg_space.specs.Solves.{Solves};
 ghost use Rattle.pg_session.specs.Kept.{IsKnown, IsRight};
@@ -9,6 +10,7 @@ ghost use Rattle.pg_session.specs.Sessions.{labels_reaching};
 use crate::kept::Kept;
 use pg_floats::FloatList;
 use pg_frontier::frontier_of;
+use pg_hops::BreakIndex;
 use pg_list::Galley;
 use pg_space::{Outcome, PageSpace, outcome_of, refill_pages};
 use pg_space_laws::filled_table_tells_all;
@@ -23,9 +25,11 @@ fn renew<L: Ledger>(
     galley: &Galley,
     style: &Style,
     floats: &FloatList,
+    index: &BreakIndex,
     kept: &mut Kept,
     steps: &mut Steps<L>,
 ) -> Result<(), AllocError>
+    requires hops { AreHops galley.now.blocks style.now.maxdepth index.now }
     requires range { AreInRange galley.now style.now }
     requires floats { AreFloats galley.now.blocks style.now floats.now }
     requires right { IsRight galley.now style.now kept.old }
@@ -38,6 +42,7 @@ fn renew<L: Ledger>(
         galley,
         style,
         floats,
+        index,
         &mut kept.table,
         kept.touched,
         steps,
@@ -55,9 +60,11 @@ fn bring_up<L: Ledger>(
     galley: &Galley,
     style: &Style,
     floats: &FloatList,
+    index: &BreakIndex,
     kept: &mut Kept,
     steps: &mut Steps<L>,
 ) -> Result<(), AllocError>
+    requires hops { AreHops galley.now.blocks style.now.maxdepth index.now }
     requires range { AreInRange galley.now style.now }
     requires floats { AreFloats galley.now.blocks style.now floats.now }
     requires right { IsRight galley.now style.now kept.old }
@@ -70,7 +77,7 @@ fn bring_up<L: Ledger>(
     if kept.solved {
         return Ok(());
     }
-    renew(alloc, galley, style, floats, kept, steps)
+    renew(alloc, galley, style, floats, index, kept, steps)
 }
 
 // What the table of a galley tells.
@@ -95,9 +102,11 @@ pub fn solve_kept<L: Ledger>(
     galley: &Galley,
     style: &Style,
     floats: &FloatList,
+    index: &BreakIndex,
     kept: &mut Kept,
     steps: &mut Steps<L>,
 ) -> Result<Outcome, AllocError>
+    requires hops { AreHops galley.now.blocks style.now.maxdepth index.now }
     requires range { AreInRange galley.now style.now }
     requires floats { AreFloats galley.now.blocks style.now floats.now }
     requires right { IsRight galley.now style.now kept.old }
@@ -108,6 +117,6 @@ pub fn solve_kept<L: Ledger>(
     ensures bounded { OnOk result (steps.new ≤ steps.old + labels_reaching kept.old.touched galley.now style.now
         kept.new.labels) }
 {
-    bring_up(alloc, galley, style, floats, kept, steps)?;
+    bring_up(alloc, galley, style, floats, index, kept, steps)?;
     tell(alloc, galley, style, floats, kept)
 }

@@ -1,30 +1,23 @@
 -- What is merely known of the wanted columns that follow a state is known.
-use Rattle.std.proofs.Common.{◌≡◌, refl, sym, subst, ◌∙◌, ◌⊎◌, inl, inr, List, Bool, true, false, ap, arith}
-use Rattle.std.specs.Prelude.{ℤ, Contains, ◌<ℤ◌, Result, Ok, Err, IfOk}
+use Rattle.std.proofs.Common.{◌≡◌, sym, subst, ◌∙◌, ◌⊎◌, inl, inr, List, Bool, true, false}
+use Rattle.std.specs.Prelude.{ℤ, Contains, Result, Ok, Err, IfOk}
 use Rattle.std.specs.List.{list_any}
 use Rattle.std.specs.Coded.{Coded-set}
-use Rattle.std.specs.Ordering.{is_eq, ordering_reverse}
-use Rattle.std.specs.declared.cmp.Ordering.{Ordering}
-use Rattle.std.specs.declared.cmp.Ordering.TheVariants.{Equal, Greater, Less}
-use Rattle.std.proofs.Props.{props}
+use Rattle.std.specs.declared.cmp.Ordering.TheVariants.{Equal}
 use Rattle.std.proofs.Math.Logic.{∥∥₁_elim}
-use Rattle.std.proofs.lemmas.Int.{ints}
 use Rattle.std.proofs.lemmas.List.Folds.{Any-from_list_any, list_any-from_Any}
 use Rattle.pg_plan.specs.contracts.states.State as state_row
 use Rattle.pg_plan.specs.declared.pages.PageMove.{PageMove}
 use Rattle.pg_plan.specs.declared.states.State.{State}
-use Rattle.pg_plan.specs.Order.{column_cmp}
 use Rattle.pg_plan.proofs.OrderLaws.{column_equal}
-use Rattle.pg_rules.specs.BestPicks.{IsLeast}
-use Rattle.pg_rules.specs.Room.{ColumnContext, Document}
+use Rattle.pg_rules.specs.Room.{Document}
 use Rattle.pg_table.specs.Space.{AreMoves, AreWanted, Meaning}
 use Rattle.pg_table.specs.declared.step.Opened.{Opened}
 use Rattle.pg_table.specs.declared.step.Step.{Step}
 use Rattle.pg_table.proofs.Spared.{all_wanted}
 use Rattle.pg_lemmas.proofs.Bools.{by_bool}
-use Rattle.pg_beginning_laws.proofs.Order.{columns_total}
-use Rattle.pg_space_laws.specs.PageSpace.{FollowBest, page_meaning}
-use Rattle.pg_space_laws.proofs.Merely.{alike_columns, best_prop, cheaper_prop, equal, is_by, itself, step_is}
+use Rattle.pg_space_laws.specs.PageSpace.{page_meaning}
+use Rattle.pg_space_laws.proofs.Merely.{alike_columns, best_prop, equal, is_by, itself, step_is}
 
 -- ---- any space
 

@@ -1,6 +1,8 @@
 //! The space of pages of one document, which keeps the walk of the place that was opened last.
 ghost use Rattle.std.specs.Prelude.{◌≡◌, [], pos, IfOk};
 ghost use Rattle.pg_floats.specs.AreFloats.{AreFloats};
+ghost use Rattle.pg_hops.specs.Index.{AreHops};
+ghost use Rattle.pg_hops.specs.OneProof.{AreHops_prop};
 ghost use Rattle.pg_list.specs.GalleyValue.{GalleyValue};
 ghost use Rattle.pg_sources.specs.Document.{doc_of};
 ghost use Rattle.pg_reach_laws.specs.ReachAt.{reach_at};
@@ -15,6 +17,7 @@ ghost use Rattle.pg_space.specs.OneProof.{galley_set, style_set};
 
 use crate::space::PageSpace;
 use pg_floats::FloatList;
+use pg_hops::BreakIndex;
 use pg_list::{Galley, Place};
 use pg_moves::{open_by, walk_place};
 use pg_plan::{PageKey, State};
@@ -65,19 +68,24 @@ struct OpenedBy<D: Document> {
 #[derive(Drop)]
 pub struct KeptPages<'a, D: Document> {
     pub pages: PageSpace<'a>,
+    index: &'a BreakIndex,
     kept: RefCell<Option<Kept<D>>>,
+    ghost hops: { AreHops D.galley.blocks D.style.maxdepth index.now } by { AreHops_prop D.galley.blocks D.style.maxdepth index.now },
     ghost galley: { pages.sources.galley.now ≡ D.galley } by { galley_set pages.sources.galley.now D.galley },
     ghost style: { pages.sources.style.now ≡ D.style } by { style_set pages.sources.style.now D.style },
 }
 
 impl<'a, D: Document> KeptPages<'a, D> {
-    /// The space of a galley and the list of its floats, under a style, with nothing kept. No memory is taken.
+    /// The space of a galley, the list of its floats and the index of its breaks, under a style, with nothing kept. No memory
+    /// is taken.
     pub fn new(
         alloc: Global,
         galley: &'a Galley,
         style: &'a Style,
         floats: &'a FloatList,
+        index: &'a BreakIndex,
     ) -> KeptPages<'a, D>
+        requires hops { AreHops galley.now.blocks style.now.maxdepth index.now }
         requires floats { AreFloats galley.now.blocks style.now floats.now }
         requires galley { galley.now ≡ D.galley }
         requires style { style.now ≡ D.style }
@@ -86,6 +94,7 @@ impl<'a, D: Document> KeptPages<'a, D> {
     {
         KeptPages {
             pages: PageSpace::new(alloc, galley, style, floats),
+            index,
             kept: RefCell::new(None),
         }
     }
@@ -96,7 +105,7 @@ impl<'a, D: Document> KeptPages<'a, D> {
         ensures { IfOk result (λ kept. kept.from ≡ from) }
     {
         let sources = &self.pages.sources;
-        let walk = walk_place(sources, from)?;
+        let walk = walk_place(sources, self.index, from)?;
         Ok(Kept {
             from,
             ends: PlaceEnds::new(sources.alloc, walk),

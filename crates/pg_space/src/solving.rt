@@ -4,6 +4,7 @@ ghost use Rattle.pg_plan.specs.declared.pages.PageMove.{PageMove as AMove};
 ghost use Rattle.pg_plan.specs.declared.states.State.{State as AState};
 ghost use Rattle.pg_table.specs.declared.table.Entry.{Entry as AnEntry};
 ghost use Rattle.pg_floats.specs.AreFloats.{AreFloats};
+ghost use Rattle.pg_hops.specs.Index.{AreHops};
 ghost use Rattle.pg_rules.specs.Legal.{document};
 ghost use Rattle.pg_sources.specs.Document.{doc_of};
 ghost use Rattle.pg_space_laws.specs.PageSpace.{page_meaning};
@@ -16,6 +17,7 @@ use crate::kept::{Document, KeptPages};
 use crate::runs::moves_of;
 use crate::space::PageSpace;
 use pg_floats::FloatList;
+use pg_hops::BreakIndex;
 use pg_list::Galley;
 use pg_plan::{PageKey, Pagination};
 use pg_small::{SmallMove, SmallState};
@@ -41,17 +43,19 @@ pub fn refill_pages<L: Ledger>(
     galley: &Galley,
     style: &Style,
     floats: &FloatList,
+    index: &BreakIndex,
     table: &mut Table<SmallState, SmallMove, PageKey>,
     below: u32,
     steps: &mut Steps<L>,
 ) -> Result<(), AllocError>
+    requires hops { AreHops galley.now.blocks style.now.maxdepth index.now }
     requires floats { AreFloats galley.now.blocks style.now floats.now }
     requires right { (below ≡ 0) ⊎ IsRightBelow (page_meaning (document galley.now style.now)) below table.old }
     ensures table { OnOk result (IsTable (page_meaning (document galley.now style.now)) table.new) }
     ensures err { OnErr result (table.new ≡ []) }
     ensures counted { OnOk result (steps.new ≡ steps.old + count_reaching below table.new) }
 {
-    refill_kept::<Brand, L>(alloc, galley, style, floats, table, below, steps)
+    refill_kept::<Brand, L>(alloc, galley, style, floats, index, table, below, steps)
 }
 
 // The same of one document, where states of one place share a walk.
@@ -60,10 +64,12 @@ fn refill_kept<D: Document, L: Ledger>(
     galley: &Galley,
     style: &Style,
     floats: &FloatList,
+    index: &BreakIndex,
     table: &mut Table<SmallState, SmallMove, PageKey>,
     below: u32,
     steps: &mut Steps<L>,
 ) -> Result<(), AllocError>
+    requires hops { AreHops galley.now.blocks style.now.maxdepth index.now }
     requires floats { AreFloats galley.now.blocks style.now floats.now }
     requires galley { galley.now ≡ D.galley }
     requires style { style.now ≡ D.style }
@@ -72,7 +78,7 @@ fn refill_kept<D: Document, L: Ledger>(
     ensures err { OnErr result (table.new ≡ []) }
     ensures counted { OnOk result (steps.new ≡ steps.old + count_reaching below table.new) }
 {
-    let space = KeptPages::<D>::new(alloc, galley, style, floats);
+    let space = KeptPages::<D>::new(alloc, galley, style, floats, index);
     table.refill_offered(&space, below, steps)?;
     Ok(())
 }

@@ -1,11 +1,11 @@
 -- One item more along a stretch.
-use Rattle.std.proofs.Common.{◌≡◌, refl, sym, ap, ◌∙◌, List, ◌∷◌, length, arith, Bool, true, false, Option, Some, None, ℤ, ℕ, suc}
+use Rattle.std.proofs.Common.{◌≡◌, refl, sym, ap, ◌∙◌, List, ◌∷◌, length, Bool, true, false, Option, Some, None, ℤ, ℕ, suc}
 use Rattle.std.specs.Prelude.{◌&&◌, ◌==◌, if◌then◌else◌, max}
 use Rattle.std.specs.Option.{option_map_or}
 use Rattle.pg_list.specs.declared.item.Item.{Item}
 use Rattle.pg_list.specs.declared.galley.Place.{Place}
 use Rattle.pg_flat.specs.Flat.{FlatItem}
-use Rattle.pg_lemmas.proofs.Bools.{if_false, if_true}
+use Rattle.pg_lemmas.proofs.Bools.{if_true}
 use Rattle.pg_rules.specs.Room.{Document}
 use Rattle.pg_column.specs.Passed.{Passed, fits, pass_item, pass_items}
 use Rattle.pg_walk_laws.specs.Reached.{reach_along}
@@ -43,31 +43,7 @@ module _ (doc : Document) (top : ℤ) (p : Passed) (x : FlatItem) (xs : List Fla
       past_stretch doc top p (x ∷ xs) ≡ None
   past_over q e f = past_on q e ∙ over_none doc top q xs f
 
-  -- the greatest block along the items is that of the first or of one behind it
-  abbrev reached : ℕ → Option Passed → ℕ
-  reached b o = max x.place.block
-      (option_map_or (λ (q : Passed). if fits q.bound top then reach_along doc top b q xs else 0) o 0)
-
-  pub reach_on : (b : ℕ) (q : Passed) → pass_item doc p x ≡ Some q → fits q.bound top ≡ true →
-      reach_along doc top b p (x ∷ xs) ≡ max x.place.block (reach_along doc top b q xs)
-  reach_on b q e f = ap (reached b) e ∙
-      ap (max x.place.block) (if_true (fits q.bound top) (reach_along doc top b q xs) 0 f)
-
-  pub reach_stopped : (b : ℕ) → pass_item doc p x ≡ None → reach_along doc top b p (x ∷ xs) ≡ max x.place.block 0
-  reach_stopped b e = ap (reached b) e
-
-  pub reach_over : (b : ℕ) (q : Passed) → pass_item doc p x ≡ Some q → fits q.bound top ≡ false →
-      reach_along doc top b p (x ∷ xs) ≡ max x.place.block 0
-  reach_over b q e f = ap (reached b) e ∙
-      ap (max x.place.block) (if_false (fits q.bound top) (reach_along doc top b q xs) 0 f)
-
 -- ---- at a cursor
-
-more_of : (g a r : ℕ) → max (max g a) r ≡ max g (max a r)
-more_of g a r = omega arith
-
-none_more : (g a : ℕ) → max g a ≡ max g (max a 0)
-none_more g a = omega arith
 
 module _ (doc : Document) (top : ℤ) (c : Cursor) (item : Item) (ahead : Some item ≡ item_ahead doc.blocks c)
     (at : Place)
@@ -98,29 +74,6 @@ module _ (doc : Document) (top : ℤ) (c : Cursor) (item : Item) (ahead : Some i
   pub go_past : (q : Passed) → pass_item doc p here ≡ Some q →
       past_stretch doc top q (items_ahead doc.blocks next) ≡ past_stretch doc top p (items_ahead doc.blocks c)
   go_past q e = sym (ap (past_stretch doc top p) listed ∙ past_on doc top p here (items_ahead doc.blocks next) q e)
-
-  module _ (b g g' : ℕ) (more : g' ≡ max g at.block) where
-    abbrev pub Reached : ℕ → Type 0
-    Reached n = n ≡ max g (reach_along doc top b p (items_ahead doc.blocks c))
-
-    opened : (r : ℕ) → reach_along doc top b p (here ∷ items_ahead doc.blocks next) ≡ r →
-        max g (reach_along doc top b p (items_ahead doc.blocks c)) ≡ max g r
-    opened r e = ap (λ xs. max g (reach_along doc top b p xs)) listed ∙ ap (max g) e
-
-    pub stop_reach : pass_item doc p here ≡ None → Reached g'
-    stop_reach e = more ∙ (none_more g at.block
-        ∙ sym (opened (max at.block 0) (reach_stopped doc top p here (items_ahead doc.blocks next) b e)))
-
-    pub over_reach : (q : Passed) → pass_item doc p here ≡ Some q → fits q.bound top ≡ false → Reached g'
-    over_reach q e f = more ∙ (none_more g at.block
-        ∙ sym (opened (max at.block 0) (reach_over doc top p here (items_ahead doc.blocks next) b q e f)))
-
-    pub go_reach : (q : Passed) → pass_item doc p here ≡ Some q → fits q.bound top ≡ true →
-        Reached (max g' (reach_along doc top b q (items_ahead doc.blocks next)))
-    go_reach q e f =
-        let r = reach_along doc top b q (items_ahead doc.blocks next) in
-        ap (λ (n : ℕ). max n r) more ∙ (more_of g at.block r
-        ∙ sym (opened (max at.block r) (reach_on doc top p here (items_ahead doc.blocks next) b q e f)))
 
 -- ---- behind the last item
 

@@ -1,5 +1,5 @@
 -- Where notes take no room, a walk without notes goes the same way.
-use Rattle.std.proofs.Common.{◌≡◌, refl, sym, ap, ◌∙◌, subst, ℕ, zero, suc, ◌+◌, ◌≤◌, List, [], ◌∷◌, arith, Bool, true, false, Option, Some, None, ℤ, pos, ◌+ℤ◌, ◌-ℤ◌}
+use Rattle.std.proofs.Common.{◌≡◌, refl, sym, ap, subst, ℕ, zero, suc, ◌+◌, ◌≤◌, List, [], ◌∷◌, arith, Bool, true, false, Option, Some, None, ℤ, pos, ◌+ℤ◌, ◌-ℤ◌}
 use Rattle.std.specs.Prelude.{◌==◌, if◌then◌else◌, max, nat_abs, set, slice_index_or, unsigned_abs}
 use Rattle.std.specs.Int.{int_min}
 use Rattle.std.specs.List.{position}
@@ -7,26 +7,24 @@ use Rattle.std.specs.Option.{option_map_or}
 use Rattle.std.proofs.lemmas.Bool.Decides.{Decides-int_eq}
 use Rattle.pg_list.specs.declared.item.Item.{Item}
 use Rattle.pg_list.specs.declared.item.Item.TheVariants.{BoxItem, Rule, Glue, Kern, Penalty, Insert, Carry}
-use Rattle.pg_list.specs.declared.galley.Place.{Place}
 use Rattle.pg_flat.specs.Flat.{FlatItem}
 use Rattle.pg_style.specs.declared.style.Class.{Class}
 use Rattle.pg_style.specs.declared.style.Kind.{Kind}
 use Rattle.pg_style.specs.declared.style.Kind.TheVariants.{Note, Float}
 use Rattle.pg_breaks.specs.Near.{place_forced}
-use Rattle.pg_lemmas.proofs.Bools.{if_false, if_true}
 use Rattle.pg_rules.specs.Room.{Document}
 use Rattle.pg_sums.specs.declared.totals.Totals.{Totals}
 use Rattle.pg_sums.specs.Step.{counted}
 use Rattle.pg_notes.specs.declared.sums.NoteSum.{NoteSum}
 use Rattle.pg_notes.specs.NotesValue.{heights, note_height as class_height}
 use Rattle.pg_notes.specs.Step.{grown, no_note, with_insert, with_note}
-use Rattle.pg_column.specs.Passed.{Passed, fits, is_end_here, least_room, pass_item, pass_items, raised}
+use Rattle.pg_column.specs.Passed.{Passed, fits, is_end_here, least_room, pass_items, raised}
 use Rattle.pg_walk_laws.specs.Reached.{quiet, reach_along}
 use Rattle.pg_walk_laws.specs.Walk.{past_stretch}
 use Rattle.pg_stretch.specs.declared.cursor.Cursor.{Cursor}
-use Rattle.pg_stretch.specs.Ahead.{IsSettled, item_ahead, items_ahead, place_ahead, settled, stepped}
+use Rattle.pg_stretch.specs.Ahead.{IsSettled, item_ahead, items_ahead}
 use Rattle.pg_stretch.specs.Quiet.{is_quiet, passed_along}
-use Rattle.pg_stretch.proofs.Along.{here, last, listed, over_none}
+use Rattle.pg_stretch.proofs.Along.{last, over_none}
 
 -- ---- the height of notes does not fall
 
@@ -220,35 +218,7 @@ module _ (doc : Document) (top : ℤ) where
     pub quiet_stops : past_stretch doc top p xs ≡ None → past_stretch (quiet doc) top p xs ≡ None
     quiet_stops = (the_same 0 xs p.totals p.notes p.notes p.bound (is_none (passed_along doc top p xs) quiet-is)).1
 
--- ---- one item more
-
-module _ (doc : Document) (top : ℤ) (c : Cursor) (item : Item) (ahead : Some item ≡ item_ahead doc.blocks c)
-    (at : Place)
-    (at-is : at ≡ place_ahead c) (p : Passed) where
-  abbrev one : FlatItem
-  one = here doc top c item ahead at at-is p
-
-  abbrev next : Cursor
-  next = settled doc.blocks (stepped c)
-
-  opened : (o : Option Passed) → pass_item doc p one ≡ o →
-      passed_along doc top p (items_ahead doc.blocks c)
-      ≡ option_map_or (on doc top (items_ahead doc.blocks next)) o p
-  opened o e = ap (passed_along doc top p) (listed doc top c item ahead at at-is p)
-      ∙ ap (λ (w : Option Passed). option_map_or (on doc top (items_ahead doc.blocks next)) w p) e
-
-  pub stop_along : pass_item doc p one ≡ None → p ≡ passed_along doc top p (items_ahead doc.blocks c)
-  stop_along e = sym (opened None e)
-
-  pub over_along : (q : Passed) → pass_item doc p one ≡ Some q → fits q.bound top ≡ false →
-      q ≡ passed_along doc top p (items_ahead doc.blocks c)
-  over_along q e f = sym (opened (Some q) e
-      ∙ if_false (fits q.bound top) (passed_along doc top q (items_ahead doc.blocks next)) q f)
-
-  pub go_along : (q : Passed) → pass_item doc p one ≡ Some q → fits q.bound top ≡ true →
-      passed_along doc top q (items_ahead doc.blocks next) ≡ passed_along doc top p (items_ahead doc.blocks c)
-  go_along q e f = sym (opened (Some q) e
-      ∙ if_true (fits q.bound top) (passed_along doc top q (items_ahead doc.blocks next)) q f)
+-- ---- behind the last item
 
 module _ (doc : Document) (top : ℤ) (c : Cursor) (is : IsSettled doc.blocks c) (none : None ≡ item_ahead doc.blocks c)
     (p : Passed) where

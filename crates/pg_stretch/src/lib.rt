@@ -3,8 +3,7 @@
 //!
 //! Proved: a `Cursor` goes through the items of the stretches of pg_walk_laws (`specs/Ahead`), and tells of each whether
 //! its place is a break, of most from the item alone (`specs/Told`); `Passed::pass` goes past one item, and past the break
-//! before it, as `specs/Passed` of pg_column says; `pass_on` goes through a stretch, and answers what was passed and the
-//! greatest block on the way. Where the notes passed take no room (`specs/Quiet`), a walk without notes goes the same way.
+//! before it, as `specs/Passed` of pg_column says. Where the notes passed take no room (`specs/Quiet`), a walk without notes goes the same way.
 #![tactic(auto)]
 
 mod cursor;
@@ -13,4 +12,4 @@ mod passing;
 
 pub use cursor::Cursor;
 pub use passed::Passed;
-pub use passing::{Passing, State, pass_on};
+pub use passing::State;

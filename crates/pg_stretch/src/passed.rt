@@ -102,8 +102,8 @@ impl Passed {
         self.sums.has_box() && at.is_break(galley, item)
     }
 
-    // Past a break that is not over.
-    fn cross(&mut self, style: &Style)
+    /// Past a break that is not over.
+    pub fn cross(&mut self, style: &Style)
         requires { IsFor style.now self.old }
         ensures value { view self.new ≡ crossed style.now (view self.old) }
         ensures style { IsFor style.now self.new }

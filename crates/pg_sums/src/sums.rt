@@ -9,6 +9,7 @@ ghost use Rattle.pg_flat.specs.Totals.{total, shrink, stretch, trimmed};
 ghost use Rattle.pg_flat.specs.Badness.{badness as badness_of, is_over, page_badness, has_infinite as has_infinite_of};
 ghost use Rattle.pg_list.specs.declared.item.Order.TheVariants.{Finite};
 ghost use Rattle.pg_sums.specs.AreSums.{AreSums};
+ghost use Rattle.pg_sums.specs.SumsValue.{IsBounded};
 ghost use Rattle.pg_sums.specs.Step.{badness_by, counted, has_infinite as has_infinite_by, no_totals};
 
 use crate::totals::Totals;
@@ -90,6 +91,28 @@ impl Sums {
         ensures { result ≡ self.now.totals }
     {
         self.totals
+    }
+
+    /// The sums keep their bounds.
+    pub fn stays_bounded(&self)
+        ensures { IsBounded self.now.totals self.now.count }
+    {
+        let _totals = self.totals;
+    }
+
+    /// Takes other totals, as those of so many more items.
+    pub fn take_totals(&mut self, totals: Totals, more: u32)
+        requires few { self.old.count + more ≤ 2 ^ 20 }
+        requires bounded { IsBounded totals (self.old.count + more) }
+        ensures { self.new ≡ record {
+          topskip = self.old.topskip;
+          maxdepth = self.old.maxdepth;
+          count = self.old.count + more;
+          totals = totals;
+        } }
+    {
+        self.totals = totals;
+        self.count += more;
     }
 
     /// The natural size: the glue above the first box, all widths, heights and depths, less the depth that hangs.

@@ -37,8 +37,8 @@ pub fn lift(topskip: i32, height: i32) -> i64
     if room > 0 { room } else { 0 }
 }
 
-// The part of a depth that hangs below the total; what passes the limit counts (§1003).
-fn hanging_depth(depth: i32, maxdepth: i32) -> i64
+/// The part of a depth that hangs below the total; what passes the limit counts (TeX: The Program, §1003).
+pub fn hanging_depth(depth: i32, maxdepth: i32) -> i64
     requires depth { IsScaled depth }
     requires maxdepth { IsScaled maxdepth }
     ensures value { result ≡ int_min maxdepth depth }

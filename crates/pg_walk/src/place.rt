@@ -1,5 +1,6 @@
 //! One walk for all columns of text from a place.
 ghost use Rattle.std.specs.Prelude.{IfOk};
+ghost use Rattle.pg_hops.specs.Index.{AreHops};
 ghost use Rattle.pg_rules.specs.IsState.{IsPlace};
 ghost use Rattle.pg_rules.specs.Legal.{document};
 ghost use Rattle.pg_rules.specs.Reach.{IsReach};
@@ -9,6 +10,7 @@ ghost use Rattle.pg_candidates.specs.Nears.{AreNearFrom};
 use crate::reach::{reach_told, tallest};
 use crate::walking::{candidates, collect_from};
 use pg_candidates::{CandidateList, NearList};
+use pg_hops::BreakIndex;
 use pg_list::{Galley, Place};
 use pg_style::Style;
 use std::alloc::{AllocError, Global};
@@ -38,21 +40,31 @@ pub(crate) fn near_from(
 /// What one walk from a place tells of the columns of text that begin there, in every room up to that of the tallest run,
 /// and how far they may go.
 ///
-/// Condition: the place is the galley's. The one refusal is want of memory.
+/// Conditions: the place is the galley's, and the index is of the galley and style. The one refusal is want of memory.
 pub fn walk_from(
     alloc: Global,
     galley: &Galley,
     style: &Style,
+    index: &BreakIndex,
     from: Place,
 ) -> Result<PlaceWalk, AllocError>
-    requires { IsPlace galley.now.blocks from }
+    requires hops { AreHops galley.now.blocks style.now.maxdepth index.now }
+    requires place { IsPlace galley.now.blocks from }
     ensures near { IfOk result (λ walk.
         AreNearFrom (document galley.now style.now) from (tallest_of style.now) walk.near) }
     ensures reach { IfOk result (λ walk. IsReach (document galley.now style.now) from walk.reach) }
 {
     let mut found = CandidateList::with_room(alloc)?;
-    let told = collect_from(alloc, galley, style, from, tallest(style), &mut found)?;
-    let reach = reach_told(alloc, galley, style, from, told)?;
+    let told = collect_from(
+        alloc,
+        galley,
+        style,
+        index,
+        from,
+        tallest(style),
+        &mut found,
+    )?;
+    let reach = reach_told(alloc, galley, style, index, from, told)?;
     let near = found.into_near(alloc, galley, style)?;
     Ok(PlaceWalk { near, reach })
 }

@@ -1,13 +1,15 @@
 //! How far columns from a place may go.
 ghost use Rattle.std.specs.Prelude.{◌≡◌, [], IfOk, IfSome, option_map};
+ghost use Rattle.pg_hops.specs.Index.{AreHops};
 ghost use Rattle.pg_rules.specs.IsState.{IsPlace};
 ghost use Rattle.pg_rules.specs.Legal.{document};
 ghost use Rattle.pg_rules.specs.Reach.{IsReach, greatest_extra as greatest_extra_of};
 ghost use Rattle.pg_walk_laws.specs.Reached.{quiet, tallest as tallest_of};
 ghost use Rattle.pg_walk.specs.Blocks.{IsAlone, IsGreatestFrom, state};
 
+use pg_hops::{BreakIndex, pass_on};
 use pg_list::{Galley, Place};
-use pg_stretch::{Cursor, Passed, State, pass_on};
+use pg_stretch::{Cursor, Passed, State};
 use pg_style::{Classes, Run, Runs, Style};
 use pg_walk_labels::furthest;
 use pg_walk_laws::laws::walk_tells_reach;
@@ -97,15 +99,17 @@ fn greatest_block(
     alloc: Global,
     galley: &Galley,
     style: &Style,
+    index: &BreakIndex,
     top: i64,
     from: Place,
 ) -> Result<u32, AllocError>
-    requires { IsPlace galley.now.blocks from }
+    requires hops { AreHops galley.now.blocks style.now.maxdepth index.now }
+    requires place { IsPlace galley.now.blocks from }
     ensures { IfOk result (IsGreatestFrom (document galley.now style.now) top from) }
 {
     let _ = galley.blocks().as_slice();
     let ahead = Cursor::first(galley, from);
-    let passing = pass_on(galley, style, top, ahead, Passed::nothing(style));
+    let passing = pass_on(galley, style, index, top, ahead, Passed::nothing(style));
     let first = passing.greatest;
     let Some(start) = state_at(passing.front, passing.passed) else {
         return Ok(first);
@@ -113,7 +117,7 @@ fn greatest_block(
     if variants_at(galley, start.block).is_empty() {
         return Ok(first);
     }
-    furthest(alloc, galley, style, top, start, first)
+    furthest(alloc, galley, style, index, top, start, first)
 }
 
 // One more than the greatest block that columns without notes come to in the tallest room.
@@ -126,6 +130,23 @@ fn one_more(galley: &Galley, style: &Style, from: Place, block: u32) -> u32
     let _ = galley.blocks().as_slice();
     walk_tells_reach(galley, style);
     block + 1
+}
+
+// One more than the greatest block of a place that a column of text from a place may reach.
+fn reach_by(
+    alloc: Global,
+    galley: &Galley,
+    style: &Style,
+    index: &BreakIndex,
+    from: Place,
+) -> Result<u32, AllocError>
+    requires hops { AreHops galley.now.blocks style.now.maxdepth index.now }
+    requires place { IsPlace galley.now.blocks from }
+    ensures { IfOk result (IsReach (document galley.now style.now) from) }
+{
+    let quiet = quiet_style(alloc, style);
+    let block = greatest_block(alloc, galley, &quiet, index, tallest(style), from)?;
+    Ok(one_more(galley, style, from, block))
 }
 
 /// One more than the greatest block of a place that a column of text from a place may reach: in the tallest room,
@@ -142,9 +163,8 @@ pub fn reach_of(
     requires { IsPlace galley.now.blocks from }
     ensures { IfOk result (IsReach (document galley.now style.now) from) }
 {
-    let quiet = quiet_style(alloc, style);
-    let block = greatest_block(alloc, galley, &quiet, tallest(style), from)?;
-    Ok(one_more(galley, style, from, block))
+    let index = BreakIndex::empty(alloc);
+    reach_by(alloc, galley, style, &index, from)
 }
 
 // How far columns from a place may go, where the first stretch alone may have told the greatest block.
@@ -152,15 +172,17 @@ pub(crate) fn reach_told(
     alloc: Global,
     galley: &Galley,
     style: &Style,
+    index: &BreakIndex,
     from: Place,
     told: Option<u32>,
 ) -> Result<u32, AllocError>
+    requires hops { AreHops galley.now.blocks style.now.maxdepth index.now }
     requires place { IsPlace galley.now.blocks from }
     requires told { IfSome told (IsAlone (quiet (document galley.now style.now)) (tallest_of style.now) from) }
     ensures { IfOk result (IsReach (document galley.now style.now) from) }
 {
     match told {
         Some(block) => Ok(one_more(galley, style, from, block)),
-        None => reach_of(alloc, galley, style, from),
+        None => reach_by(alloc, galley, style, index, from),
     }
 }

@@ -1,5 +1,6 @@
 //! The candidates of a place.
 ghost use Rattle.std.specs.Prelude.{◌≡◌, ◌++◌, [], true, if◌then◌else◌, None, Some, IfOk, IfSome, OnOk};
+ghost use Rattle.pg_hops.specs.Index.{AreHops};
 ghost use Rattle.pg_rules.specs.IsState.{IsPlace};
 ghost use Rattle.pg_rules.specs.Legal.{document};
 ghost use Rattle.pg_column.specs.Passed.{nothing};
@@ -12,6 +13,7 @@ ghost use Rattle.pg_walk_space.specs.Meaning.{IsOwn};
 ghost use Rattle.pg_walk.specs.Blocks.{IsAlone, TellsQuiet};
 
 use pg_candidates::{CandidateList, Walked, walk_on};
+use pg_hops::BreakIndex;
 use pg_list::{Galley, Place};
 use pg_plan::Picks;
 use pg_stretch::{Cursor, Passed, State};
@@ -27,10 +29,12 @@ fn first_stretch(
     alloc: Global,
     galley: &Galley,
     style: &Style,
+    index: &BreakIndex,
     from: Place,
     top: i64,
     found: &mut CandidateList,
 ) -> Result<Walked, AllocError>
+    requires hops { AreHops galley.now.blocks style.now.maxdepth index.now }
     requires place { IsPlace galley.now.blocks from }
     ensures ends { OnOk result (found.new ≡ found.old ++ first_ends (document galley.now style.now) top from) }
     ensures past { IfOk result (λ w. passed_of w.state
@@ -45,6 +49,7 @@ fn first_stretch(
     walk_on(
         galley,
         style,
+        index,
         top,
         ahead,
         Passed::nothing(style),
@@ -78,10 +83,12 @@ pub(crate) fn collect_from(
     alloc: Global,
     galley: &Galley,
     style: &Style,
+    index: &BreakIndex,
     from: Place,
     top: i64,
     found: &mut CandidateList,
 ) -> Result<Option<u32>, AllocError>
+    requires hops { AreHops galley.now.blocks style.now.maxdepth index.now }
     requires place { IsPlace galley.now.blocks from }
     requires none { found.old ≡ [] }
     ensures found { OnOk result (AreCandidates (document galley.now style.now) from top found.new) }
@@ -89,7 +96,7 @@ pub(crate) fn collect_from(
 {
     let _ = galley.blocks().as_slice();
     walk_is_a_space(galley, style);
-    let walked = first_stretch(alloc, galley, style, from, top, found)?;
+    let walked = first_stretch(alloc, galley, style, index, from, top, found)?;
     let told = quiet_greatest(&walked);
     let Some(start) = state_behind(&walked) else {
         return Ok(told);
@@ -97,7 +104,7 @@ pub(crate) fn collect_from(
     if variants_at(galley, start.block).is_empty() {
         return Ok(told);
     }
-    collect(alloc, galley, style, top, start, found)?;
+    collect(alloc, galley, style, index, top, start, found)?;
     Ok(None)
 }
 
@@ -116,7 +123,8 @@ pub fn candidates(
     requires { IsPlace galley.now.blocks from }
     ensures { IfOk result (AreCandidates (document galley.now style.now) from top) }
 {
+    let index = BreakIndex::empty(alloc);
     let mut found = CandidateList::with_room(alloc)?;
-    collect_from(alloc, galley, style, from, top, &mut found)?;
+    collect_from(alloc, galley, style, &index, from, top, &mut found)?;
     Ok(found)
 }

@@ -1,10 +1,12 @@
 //! The table of the walk.
 ghost use Rattle.std.specs.Prelude.{◌≡◌, ◌≤◌, ◌^◌, IfOk, length};
+ghost use Rattle.pg_hops.specs.Index.{AreHops};
 ghost use Rattle.pg_rules.specs.Legal.{document};
 ghost use Rattle.pg_table.specs.Label.{IsTable};
 ghost use Rattle.pg_walk_space.specs.Meaning.{IsOwn, space_meaning};
 ghost use Rattle.pg_walk_labels.specs.Collected.{AreSmall};
 
+use pg_hops::BreakIndex;
 use pg_list::Galley;
 use pg_steps::Steps;
 use pg_stretch::State;
@@ -40,16 +42,18 @@ pub fn filled_from(
     alloc: Global,
     galley: &Galley,
     style: &Style,
+    index: &BreakIndex,
     top: i64,
     start: State,
 ) -> Result<Table<State, u32, Key>, AllocError>
-    requires { IsOwn (document galley.now style.now) top start }
+    requires hops { AreHops galley.now.blocks style.now.maxdepth index.now }
+    requires own { IsOwn (document galley.now style.now) top start }
     ensures table { IfOk result (IsTable (space_meaning (document galley.now style.now) top start)) }
     ensures small { IfOk result (AreSmall (document galley.now style.now) top) }
     ensures few { length galley.now.blocks ≤ 2 ^ 20 }
 {
     style.stays_in_range();
     let _ = galley.blocks().as_slice();
-    let space = WalkSpace::new(alloc, galley, style, top, start);
+    let space = WalkSpace::new(alloc, galley, style, index, top, start);
     filled::<Brand>(alloc, &space, Blank::new(1))
 }

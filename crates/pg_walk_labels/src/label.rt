@@ -1,10 +1,12 @@
 //! The ends along the picks of one label.
 ghost use Rattle.std.specs.Prelude.{◌≡◌, ◌<◌, ◌++◌, ◌+ℤ◌, ◌^◌, ◌≤◌, ℤ, pos, length, nat_abs, OnOk};
+ghost use Rattle.pg_hops.specs.Index.{AreHops};
 ghost use Rattle.pg_rules.specs.Legal.{document};
 ghost use Rattle.pg_walk_space.specs.Meaning.{IsOwn, state_of};
 ghost use Rattle.pg_walk_labels.specs.Collected.{label_ends, pick_ends};
 
 use pg_candidates::{CandidateList, ends_on};
+use pg_hops::BreakIndex;
 use pg_list::{Galley, Variant};
 use pg_plan::Picks;
 use pg_stretch::{Cursor, State};
@@ -25,6 +27,7 @@ fn price(cost: i128, variant: &Variant) -> i64
 fn add_pick(
     galley: &Galley,
     style: &Style,
+    index: &BreakIndex,
     top: i64,
     label: &Entry<State, u32>,
     picks: &Picks,
@@ -32,6 +35,7 @@ fn add_pick(
     variant: &Variant,
     found: &mut CandidateList,
 ) -> Result<(), AllocError>
+    requires hops { AreHops galley.now.blocks style.now.maxdepth index.now }
     requires few { length galley.now.blocks ≤ 2 ^ 20 }
     requires own { IsOwn (document galley.now style.now) top label.now.state }
     requires small { nat_abs label.now.cost < 2 ^ 62 }
@@ -48,6 +52,7 @@ fn add_pick(
     ends_on(
         galley,
         style,
+        index,
         top,
         ahead,
         label.state.passed,
@@ -62,11 +67,13 @@ fn add_pick(
 pub fn add_label(
     galley: &Galley,
     style: &Style,
+    index: &BreakIndex,
     top: i64,
     label: &Entry<State, u32>,
     picks: &Picks,
     found: &mut CandidateList,
 ) -> Result<(), AllocError>
+    requires hops { AreHops galley.now.blocks style.now.maxdepth index.now }
     requires few { length galley.now.blocks ≤ 2 ^ 20 }
     requires own { IsOwn (document galley.now style.now) top label.now.state }
     requires small { nat_abs label.now.cost < 2 ^ 62 }
@@ -76,7 +83,9 @@ pub fn add_label(
     let mut left = variants_at(galley, label.state.block);
     let mut pick = 0u32;
     'picks: while let [variant, after @ ..] = left {
-        add_pick(galley, style, top, label, picks, pick, variant, found)?;
+        add_pick(
+            galley, style, index, top, label, picks, pick, variant, found,
+        )?;
         left = after;
         pick += 1;
     }

@@ -1,5 +1,6 @@
 //! How far the picks of the labels of a filled table go.
 ghost use Rattle.std.specs.Prelude.{◌≡◌, ◌+◌, IfOk, length, ℤ};
+ghost use Rattle.pg_hops.specs.Index.{AreHops};
 ghost use Rattle.pg_rules.specs.Legal.{document};
 ghost use Rattle.pg_style.specs.Values.{StyleValue};
 ghost use Rattle.pg_walk_laws.specs.Reached.{greatest_from};
@@ -8,6 +9,7 @@ ghost use Rattle.pg_walk_space.specs.Meaning.{IsOwn, greatest_behind, reach_by, 
 ghost use Rattle.pg_walk_labels.specs.Furthest.{AreTold, GoesTo, IsFurthest};
 
 use crate::filling::filled_from;
+use pg_hops::BreakIndex;
 use pg_list::Galley;
 use pg_stretch::State;
 use pg_style::Style;
@@ -50,13 +52,15 @@ pub fn furthest(
     alloc: Global,
     galley: &Galley,
     style: &Style,
+    index: &BreakIndex,
     top: i64,
     start: State,
     least: u32,
 ) -> Result<u32, AllocError>
-    requires { IsOwn (document galley.now style.now) top start }
+    requires hops { AreHops galley.now.blocks style.now.maxdepth index.now }
+    requires own { IsOwn (document galley.now style.now) top start }
     ensures { IfOk result (GoesTo (document galley.now style.now) top start least) }
 {
-    let table = filled_from(alloc, galley, style, top, start)?;
+    let table = filled_from(alloc, galley, style, index, top, start)?;
     Ok(reach_of_labels(galley, table.labels(), least))
 }

@@ -1,5 +1,6 @@
 //! The ends of the labels of a filled table, one label after another.
 ghost use Rattle.std.specs.Prelude.{◌≡◌, ◌<◌, ◌≤◌, ◌^◌, Contains, OnOk, length, nat_abs, ℕ};
+ghost use Rattle.pg_hops.specs.Index.{AreHops};
 ghost use Rattle.pg_rules.specs.Legal.{document};
 ghost use Rattle.pg_stretch.specs.declared.passing.State.{State as AState};
 ghost use Rattle.pg_table.specs.Label.{Grounded};
@@ -11,6 +12,7 @@ use crate::filling::filled_from;
 use crate::label::add_label;
 use crate::runs::picks_of;
 use pg_candidates::CandidateList;
+use pg_hops::BreakIndex;
 use pg_list::Galley;
 use pg_stretch::State;
 use pg_style::Style;
@@ -22,20 +24,22 @@ fn add_labels(
     alloc: Global,
     galley: &Galley,
     style: &Style,
+    index: &BreakIndex,
     top: i64,
     labels: &[Entry<State, u32>],
     found: &mut CandidateList,
 ) -> Result<(), AllocError>
+    requires hops { AreHops galley.now.blocks style.now.maxdepth index.now }
     requires few { length galley.now.blocks ≤ 2 ^ 20 }
     requires grounded { Grounded labels.now }
     requires small { AreSmall (document galley.now style.now) top labels.now }
     ensures { OnOk result (HasEnds (document galley.now style.now) top labels.now labels.now found.old found.new) }
 {
-    let mut index = 0usize;
-    'labels: while index < labels.len() {
-        let picks = picks_of(alloc, labels, index)?;
-        add_label(galley, style, top, &labels[index], &picks, found)?;
-        index += 1;
+    let mut at = 0usize;
+    'labels: while at < labels.len() {
+        let picks = picks_of(alloc, labels, at)?;
+        add_label(galley, style, index, top, &labels[at], &picks, found)?;
+        at += 1;
     }
     Ok(())
 }
@@ -49,13 +53,15 @@ pub fn collect(
     alloc: Global,
     galley: &Galley,
     style: &Style,
+    index: &BreakIndex,
     top: i64,
     start: State,
     found: &mut CandidateList,
 ) -> Result<(), AllocError>
-    requires { IsOwn (document galley.now style.now) top start }
+    requires hops { AreHops galley.now.blocks style.now.maxdepth index.now }
+    requires own { IsOwn (document galley.now style.now) top start }
     ensures { OnOk result (Collects (document galley.now style.now) top start found.old found.new) }
 {
-    let table = filled_from(alloc, galley, style, top, start)?;
-    add_labels(alloc, galley, style, top, table.labels(), found)
+    let table = filled_from(alloc, galley, style, index, top, start)?;
+    add_labels(alloc, galley, style, index, top, table.labels(), found)
 }

@@ -1,5 +1,7 @@
 //! States at the fronts of choices, and the picks that lead from one to the next.
 ghost use Rattle.std.specs.Prelude.{◌≡◌, ◌≤◌, ◌+◌, ◌++◌, ◌==◌, ◌&&◌, ◌^◌, OnOk, IfOk};
+ghost use Rattle.pg_hops.specs.Index.{AreHops};
+ghost use Rattle.pg_hops.specs.OneProof.{AreHops_prop};
 ghost use Rattle.pg_notes.specs.declared.sums.NoteSum.{NoteSum as ANoteSum};
 ghost use Rattle.pg_rules.specs.Legal.{document};
 ghost use Rattle.pg_rules.specs.Ranges.{AreInRange, AreInRange_prop};
@@ -10,10 +12,11 @@ ghost use Rattle.pg_walk_laws.specs.Space.{is_no_worse, key_of as walk_key, same
 ghost use Rattle.pg_walk_space.specs.Meaning.{IsOwn, IsOwn_prop, greatest_behind, reach_by, space_meaning, state_behind, state_of, steps_by};
 
 use crate::picks::{is_loose_enough, variants_at};
+use pg_hops::{BreakIndex, pass_on};
 use pg_list::{Galley, Variant};
 use pg_notes::NoteSum;
 use pg_steps::Steps;
-use pg_stretch::{Cursor, State, pass_on};
+use pg_stretch::{Cursor, State};
 use pg_style::Style;
 use pg_sums::Totals;
 use pg_table::{Opened, Space, Step, StepList};
@@ -33,10 +36,12 @@ pub struct Key {
 pub struct WalkSpace<'a> {
     pub galley: &'a Galley,
     pub style: &'a Style,
+    index: &'a BreakIndex,
     pub top: i64,
     pub start: State,
     alloc: Global,
     ghost in_range: { AreInRange galley.now style.now } by { AreInRange_prop galley.now style.now },
+    ghost hops: { AreHops galley.now.blocks style.now.maxdepth index.now } by { AreHops_prop galley.now.blocks style.now.maxdepth index.now },
     ghost own: { IsOwn (document galley.now style.now) top start } by { IsOwn_prop (document galley.now style.now) top start },
 }
 
@@ -125,10 +130,12 @@ impl<'a> WalkSpace<'a> {
         alloc: Global,
         galley: &'a Galley,
         style: &'a Style,
+        index: &'a BreakIndex,
         top: i64,
         start: State,
     ) -> WalkSpace<'a>
-        requires { IsOwn (document galley.now style.now) top start }
+        requires hops { AreHops galley.now.blocks style.now.maxdepth index.now }
+        requires own { IsOwn (document galley.now style.now) top start }
         ensures galley { result.galley.now ≡ galley.now }
         ensures style { result.style.now ≡ style.now }
         ensures top { result.top ≡ top }
@@ -139,6 +146,7 @@ impl<'a> WalkSpace<'a> {
         WalkSpace {
             galley,
             style,
+            index,
             top,
             start,
             alloc,
@@ -154,7 +162,14 @@ impl<'a> WalkSpace<'a> {
             (state_of state.now) pick }
     {
         let ahead = Cursor::picked(self.galley, state.block, pick);
-        let passing = pass_on(self.galley, self.style, self.top, ahead, state.passed);
+        let passing = pass_on(
+            self.galley,
+            self.style,
+            self.index,
+            self.top,
+            ahead,
+            state.passed,
+        );
         let front = passing.front;
         let greatest = passing.greatest;
         match passing.passed {

@@ -6,7 +6,7 @@ use Rattle.pg_column.specs.Passed.{fits}
 use Rattle.pg_walk_laws.specs.Reached.{reach_along}
 use Rattle.pg_walk_laws.specs.Walk.{ends_along, past_stretch}
 use Rattle.pg_stretch.specs.Ahead.{IsSettled, front_ahead, items_ahead}
-use Rattle.pg_stretch.specs.Quiet.{passed_along}
+use Rattle.pg_stretch.specs.Quiet.{is_quiet, passed_along}
 use Rattle.pg_stretch.specs.View.{IsFor, view}
 use Rattle.pg_candidates.proofs.along.walk_on.Given as goal
 
@@ -30,8 +30,10 @@ invariant-ahead l = record {
       (view l.passed) (items_ahead l.galley.blocks l.at))
       ≡ reach_along (document l.galley l.style) l.top (front_ahead l.galley.blocks l.fn.start) (view l.fn.before)
       (items_ahead l.galley.blocks l.fn.start);
-  along : passed_along (document l.galley l.style) l.top (view l.passed) (items_ahead l.galley.blocks l.at)
-      ≡ passed_along (document l.galley l.style) l.top (view l.fn.before) (items_ahead l.galley.blocks l.fn.start);
+  quiet : is_quiet l.style (passed_along (document l.galley l.style) l.top (view l.passed)
+      (items_ahead l.galley.blocks l.at))
+      ≡ is_quiet l.style (passed_along (document l.galley l.style) l.top (view l.fn.before)
+      (items_ahead l.galley.blocks l.fn.start));
 }
 
 abbrev pub decreases-ahead : goal.decreases-ahead

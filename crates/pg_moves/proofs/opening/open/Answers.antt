@@ -8,3 +8,7 @@ returns-clause-moves c = all_made (doc_of c.args.sources.now) c.args.state.now c
     (begun (doc_of c.args.sources.now) c.args.state.now.place c.new-kept.result c.in_ok-walk.walk
     c.new-kept.ensures.walk c.new-kept.ensures.rooms c.new-kept.ensures.calls c.in_ok-walk.ensures.near)
     c.open_by.ensures.moves
+
+pub walk_place-requires-clause-hops : goal.walk_place-requires-clause-hops
+walk_place-requires-clause-hops c =
+    c.empty-index.ensures c.args.sources.now.galley.now.blocks c.args.sources.now.style.now.maxdepth

@@ -7,4 +7,4 @@ reach_is_the_greatest-requires c = c.args.sources.now.in_range.blocks
 
 pub returns-clause-reach : goal.returns-clause-reach
 returns-clause-reach c = on_reach (λ walk. walk.reach) (doc_of c.args.sources.now) c.args.from c.walk_from.result
-    c.reach_is_the_greatest.ensures c.requires c.walk_from.ensures.reach
+    c.reach_is_the_greatest.ensures c.requires.place c.walk_from.ensures.reach

@@ -19,7 +19,7 @@ first-ahead-requires c =
     let all = subst (AllByRecursion IsBlock) c.blocks-2.ensures.blocks c.as_slice.ensures.shape in
     let long = blocks_le c.args.galley.now.blocks all in
     let limit = c.blocks-2.ensures.limit in
-    let at = place_within c.args.galley.now.blocks c.args.from c.requires in
+    let at = place_within c.args.galley.now.blocks c.args.from c.requires.place in
     omega (arith, long, limit, at)
 
 pub pass_on-passing-requires-clause-few : goal.pass_on-passing-requires-clause-few
@@ -50,8 +50,8 @@ returns-then-is_empty c =
     c.pass_on-passing.ensures.past c.pass_on-passing.ensures.front c.in-Some.start
     (sym c.state_at.ensures ∙ c.in-Some.is) none
 
-pub furthest-requires : goal.furthest-requires
-furthest-requires c =
+pub furthest-requires-clause-own : goal.furthest-requires-clause-own
+furthest-requires-clause-own c =
     let top = to_z-of_z w64 c.args.top (record { sfits = c.ranges.top.sfits }) in
     let is : IsBegun (document c.args.galley.now c.args.style.now) c.args.top c.args.from c.in-Some.start =
     begun (document c.args.galley.now c.args.style.now) c.args.top _
@@ -60,7 +60,7 @@ furthest-requires c =
     c.pass_on-passing.result.front c.pass_on-passing.result.greatest c.pass_on-passing.ensures.reach
     c.pass_on-passing.ensures.past c.pass_on-passing.ensures.front
     (subst (AllByRecursion IsBlock) c.blocks-2.ensures.blocks c.as_slice.ensures.shape) c.blocks-2.ensures.limit
-    c.requires c.pass_on-passing.ensures.style c.nothing.result.sums.count c.nothing.result.notes.count
+    c.requires.place c.pass_on-passing.ensures.style c.nothing.result.sums.count c.nothing.result.notes.count
     c.nothing.ensures.counts.0 c.nothing.ensures.counts.1 c.pass_on-passing.ensures.counts c.in-Some.start
     (sym c.state_at.ensures ∙ c.in-Some.is) in
     subst (λ (z : ℤ). IsOwn (document c.args.galley.now c.args.style.now) z c.in-Some.start) (sym top) is.own
@@ -74,7 +74,7 @@ returns c =
     c.pass_on-passing.result.front c.pass_on-passing.result.greatest c.pass_on-passing.ensures.reach
     c.pass_on-passing.ensures.past c.pass_on-passing.ensures.front
     (subst (AllByRecursion IsBlock) c.blocks-2.ensures.blocks c.as_slice.ensures.shape) c.blocks-2.ensures.limit
-    c.requires c.pass_on-passing.ensures.style c.nothing.result.sums.count c.nothing.result.notes.count
+    c.requires.place c.pass_on-passing.ensures.style c.nothing.result.sums.count c.nothing.result.notes.count
     c.nothing.ensures.counts.0 c.nothing.ensures.counts.1 c.pass_on-passing.ensures.counts c.in-Some.start
     (sym c.state_at.ensures ∙ c.in-Some.is) in
     by_picks (document c.args.galley.now c.args.style.now) c.args.top _

@@ -28,7 +28,7 @@ returns-clause-small c =
     let all = subst (AllByRecursion IsBlock) c.blocks-2.ensures.blocks c.as_slice.ensures.shape in
     let range : AreInRange c.args.galley.now c.args.style.now =
     record { blocks = all; limit = c.blocks-2.ensures.limit; style_in = c.stays_in_range.ensures } in
-    filled_small c.filled.result c.args.galley.now c.args.style.now c.args.top c.args.start range c.requires
+    filled_small c.filled.result c.args.galley.now c.args.style.now c.args.top c.args.start range c.requires.own
     (filled_at c.new-space.result.galley.now c.args.galley.now c.new-space.result.style.now c.args.style.now
     c.new-space.result.top c.args.top c.new-space.result.start c.args.start c.new-space.ensures.galley
     c.new-space.ensures.style (c.new-space.ensures.top ∙ top) c.new-space.ensures.start c.filled.result

@@ -5,9 +5,9 @@ use Rattle.pg_walk_labels.proofs.table.add_labels.Given as goal
 
 abbrev pub invariant-labels : goal.invariant-labels
 invariant-labels l = record {
-  within : l.index ≤ length l.labels;
-  ends : HasEnds (document l.galley l.style) l.top l.labels (take l.index l.labels) l.initial.found l.found;
+  within : l.at ≤ length l.labels;
+  ends : HasEnds (document l.galley l.style) l.top l.labels (take l.at l.labels) l.initial.found l.found;
 }
 
 abbrev pub decreases-labels : goal.decreases-labels
-decreases-labels l = length l.labels - l.index
+decreases-labels l = length l.labels - l.at

@@ -1,4 +1,4 @@
-use Rattle.std.proofs.Common.{◌≡◌, subst, List, None}
+use Rattle.std.proofs.Common.{◌≡◌, subst, sym, take, List, None, ℕ}
 use Rattle.pg_floats.specs.FloatsValue.{ClassFloatsValue}
 use Rattle.pg_session.specs.Edits.{Refuses, edit_fault}
 use Rattle.pg_session.specs.SessionValue.{SessionValue}
@@ -19,8 +19,12 @@ pub invariant_of-self : goal.invariant_of-self
 invariant_of-self c = session_edited c.self.inside.galley c.in_ok-galley.galley c.self.inside.style
     c.self.inside.floats c.in_ok-floats.floats c.args.edit.now c.self.inside.kept c.touch.new.self
     c.touched_block-block.result c.in_ok-galley.ensures.ok c.touched_block-block.ensures c.touch.ensures
-    c.in_ok-floats.ensures.ok c.self.invariant c.stay_in_range.ensures
-    (c.edits_leave_right.ensures c.args.edit.now c.in_ok-galley.ensures.ok)
+    c.in_ok-floats.ensures.ok c.self.inside.index c.mend.new.self c.self.invariant c.stay_in_range.ensures
+    (c.edits_leave_right.ensures.right c.args.edit.now c.in_ok-galley.ensures.ok)
+    (c.mend.ensures c.self.inside.galley.blocks
+    (subst (λ (n : ℕ). take n c.self.inside.galley.blocks ≡ take n c.in_ok-galley.galley.blocks)
+    (sym c.touched_block-block.ensures)
+    (c.edits_leave_right.ensures.front c.args.edit.now c.in_ok-galley.ensures.ok)))
 
 pub returns-clause-cause : goal.returns-clause-cause
 returns-clause-cause c =

@@ -6,7 +6,7 @@ use Rattle.pg_walk_laws.specs.Reached.{reach_along}
 use Rattle.pg_walk_laws.specs.Walk.{past_stretch}
 use Rattle.pg_stretch.specs.Ahead.{IsSettled, front_ahead, items_ahead}
 use Rattle.pg_stretch.specs.View.{IsFor, view}
-use Rattle.pg_stretch.proofs.passing.pass_on.Given as goal
+use Rattle.pg_hops.proofs.passing.pass_on.Given as goal
 
 abbrev pub invariant-ahead : goal.invariant-ahead
 invariant-ahead l = record {

@@ -1,0 +1,7 @@
+pub mod FreeBreak
+pub mod OneStep
+pub mod PlainOn
+pub mod OneMore
+pub mod BelowCut
+pub mod RowHops
+pub mod Stepped

@@ -1,0 +1,175 @@
+-- From a break past the items of a hop, one after another.
+use Rattle.std.proofs.Common.{◌≡◌, refl, sym, ap, ◌∙◌, subst, ℕ, zero, suc, ◌+◌, ◌-◌, ◌≤◌, List, length, arith, Bool, true, false, Option, Some, None, ℤ}
+use Rattle.std.specs.Prelude.{◌&&◌, if◌then◌else◌, is_some}
+use Rattle.std.specs.List.{AllByRecursion}
+use Rattle.std.specs.Option.{option_map_or}
+use Rattle.std.proofs.lemmas.Bool.{or_parts}
+use Rattle.std.proofs.lemmas.Option.{same_Some}
+use Rattle.pg_list.specs.declared.item.Item.{Item}
+use Rattle.pg_list.specs.declared.item.Item.TheVariants.{BoxItem, Rule, Glue, Kern, Penalty, Insert, Carry}
+use Rattle.pg_list.specs.declared.blocks.Block.{Block}
+use Rattle.pg_list.specs.Shapes.{IsBlock, is_insert}
+use Rattle.pg_style.specs.declared.style.Class.{Class}
+use Rattle.pg_breaks.specs.Near.{place_forced, place_penalty}
+use Rattle.pg_lemmas.proofs.Bools.{if_false, if_true}
+use Rattle.pg_notes.specs.declared.sums.NoteSum.{NoteSum}
+use Rattle.pg_notes.specs.Step.{with_note}
+use Rattle.pg_rules.specs.Room.{Document}
+use Rattle.pg_sums.specs.declared.totals.Totals.{Totals}
+use Rattle.pg_column.specs.Passed.{Passed, crossed, is_end_here, pass_item, with_next}
+use Rattle.pg_shift.specs.declared.shift.Shift.{Shift}
+use Rattle.pg_shift.specs.Shift.{no_shift, with_shift}
+use Rattle.pg_shift.proofs.Shifting.{shift_none, shift_step}
+use Rattle.pg_stretch.specs.declared.cursor.Cursor.{Cursor}
+use Rattle.pg_stretch.specs.Ahead.{before, item_ahead, items_ahead, place_ahead, settled, stepped, is_behind}
+use Rattle.pg_stretch.proofs.Cursors.{ahead_is}
+use Rattle.pg_hops.specs.Goes.{Goes}
+use Rattle.pg_hops.specs.Hop.{HopValue, IsHop, IsHopOver, ends_hop, moved, past_one, past_plain, standing}
+use Rattle.pg_hops.proofs.FreeBreak.{break_free, break_insert}
+use Rattle.pg_hops.proofs.OneStep.{goes_on, goes_one, one}
+
+-- what a hop leads past, where the item ahead is at hand
+hop_over : (blocks : List Block) (maxdepth : ℤ) (from : Cursor) (hop : HopValue) (item : Item) →
+    item_ahead blocks from ≡ Some item → IsHop blocks maxdepth from hop → IsHopOver blocks maxdepth from hop item
+hop_over blocks maxdepth from hop item e is = rw e at is
+
+-- ---- what holds past each item holds past all
+
+module _ (blocks : List Block) (maxdepth : ℤ) (P : HopValue → Type 0)
+    (step : (h : HopValue) (item : Item) → item_ahead blocks h.to ≡ Some item → ends_hop blocks h.to item ≡ false →
+    P h → P (past_one blocks maxdepth h item)) (hop : HopValue) where
+  plain_next : (h : HopValue) (more : HopValue → Option HopValue) →
+      ((k : HopValue) → more k ≡ Some hop → P k → P hop) →
+      option_map_or (λ (item : Item). if ends_hop blocks h.to item then None else more (past_one blocks maxdepth h item))
+      (item_ahead blocks h.to) None ≡ Some hop → P h → P hop
+  plain_next h more again e held = by (item_ahead blocks h.to) refl e
+    where
+      by : (o : Option Item) → item_ahead blocks h.to ≡ o →
+          option_map_or (λ (item : Item). if ends_hop blocks h.to item then None
+          else more (past_one blocks maxdepth h item)) o None ≡ Some hop → P hop
+      by None a e = absurd cc
+      by (Some item) a e = inside (ends_hop blocks h.to item) refl e
+        where
+          inside : (t : Bool) → ends_hop blocks h.to item ≡ t →
+              (if t then None else more (past_one blocks maxdepth h item)) ≡ Some hop → P hop
+          inside true g e = absurd cc
+          inside false g e = again (past_one blocks maxdepth h item) e (step h item a g held)
+
+  pub past_all : (n : ℕ) (h : HopValue) → past_plain blocks maxdepth n h ≡ Some hop → P h → P hop
+  past_all zero h e held = subst P (same_Some h hop e) held
+  past_all (suc n) h e held =
+      plain_next h (past_plain blocks maxdepth n) (λ k f there. past_all n k f there) e held
+
+-- ---- one item
+
+on_block : (blocks : List Block) (c : Cursor) → c.block ≤ (settled blocks (stepped c)).block
+on_block blocks c =
+    let more = behind (stepped c) (is_behind blocks (stepped c)) in
+    let least = step c.is_inner in
+    omega (arith, more, least)
+  where
+    behind : (d : Cursor) (t : Bool) → d.block ≤ (if t then before (d.block + 1) else d).block
+    behind d true = omega arith
+    behind d false = omega arith
+
+    step : (t : Bool) →
+        c.block ≤ (if t then record { block = c.block; variant = c.variant; index = c.index + 1; is_inner = true }
+        else before (c.block + 1)).block
+    step true = omega arith
+    step false = omega arith
+
+keep_notes : (classes : List Class) (notes : List NoteSum) (item : Item) → is_insert item ≡ false →
+    with_note classes notes item ≡ notes
+keep_notes classes notes (BoxItem height depth body) e = refl
+keep_notes classes notes (Rule height depth body) e = refl
+keep_notes classes notes (Glue width stretch order shrink body) e = refl
+keep_notes classes notes (Kern width body) e = refl
+keep_notes classes notes (Penalty value body) e = refl
+keep_notes classes notes (Insert class size body) e = absurd cc
+keep_notes classes notes (Carry body) e = refl
+
+-- the same with other sums and notes
+abbrev with_sums : Passed → Totals → List NoteSum → Passed
+with_sums p t notes = record { totals = t; notes = notes; bound = p.bound }
+
+same_sums : (p : Passed) (t u : Totals) (m n : List NoteSum) → t ≡ u → m ≡ n → with_sums p t m ≡ with_sums p u n
+same_sums p t u m n e f = ap (λ (v : Totals). with_sums p v m) e ∙ ap (λ (v : List NoteSum). with_sums p u v) f
+
+module _ (doc : Document) (p : Passed) (box : p.totals.has_box ≡ true) (item : Item) (plain : is_insert item ≡ false) where
+  -- behind a box an item that is no insert shifts the sums alone
+  next_moved : (s : Shift) → with_next doc.style (moved p s) item ≡ moved p (with_shift doc.style.maxdepth s item)
+  next_moved s = same_sums p _ _ _ _ (shift_step doc.style.topskip doc.style.maxdepth p.totals s box item)
+      (keep_notes doc.style.classes p.notes item plain)
+
+  next_first : with_next doc.style p item ≡ moved p (with_shift doc.style.maxdepth no_shift item)
+  next_first = ap (λ (t : Totals). with_next doc.style (with_sums p t p.notes) item) (sym (shift_none p.totals))
+      ∙ next_moved no_shift
+
+-- ---- all items of a hop
+
+module _ (doc : Document) (from : Cursor) (item : Item) (ahead : Some item ≡ item_ahead doc.blocks from) (hop : HopValue)
+    (is : IsHop doc.blocks doc.style.maxdepth from hop) where
+  over : IsHopOver doc.blocks doc.style.maxdepth from hop item
+  over = hop_over doc.blocks doc.style.maxdepth from hop item (sym ahead) is
+
+  abbrev begun : HopValue
+  begun = past_one doc.blocks doc.style.maxdepth (standing from) item
+
+  -- as many are passed as are counted
+  abbrev AreCounted : HopValue → Type 0
+  AreCounted h = (h.added.count + length (items_ahead doc.blocks h.to) ≡ length (items_ahead doc.blocks from))
+      × (1 ≤ h.added.count)
+
+  pub hop_counts : AreCounted hop
+  hop_counts = past_all doc.blocks doc.style.maxdepth AreCounted step hop (hop.added.count - 1) begun over.plain
+      (let long = ap length (ahead_is doc.blocks from item (sym ahead)) in omega (arith, long), omega arith)
+    where
+      step : (h : HopValue) (x : Item) → item_ahead doc.blocks h.to ≡ Some x → ends_hop doc.blocks h.to x ≡ false →
+          AreCounted h → AreCounted (past_one doc.blocks doc.style.maxdepth h x)
+      step h x a free are =
+          let long = ap length (ahead_is doc.blocks h.to x a) in
+          (omega (arith, long, are.0), omega (arith, are.1))
+
+  module _ (all : AllByRecursion IsBlock doc.blocks) (p : Passed) (box : p.totals.has_box ≡ true) where
+    abbrev over_it : Passed
+    over_it = crossed doc.style p
+
+    abbrev Reaches : HopValue → Type 0
+    Reaches h = Goes doc from h.to p (moved over_it h.added.shift)
+
+    first_passed : pass_item doc p (one doc from item ahead p) ≡ Some (moved over_it begun.added.shift)
+    first_passed =
+        let at = place_ahead from in
+        let is_end : is_end_here doc.blocks p at ≡ true =
+        ap (λ (t : Bool). t && is_some (place_penalty doc.blocks at)) box ∙ over.is_break in
+        if_true (is_end_here doc.blocks p at)
+        (if place_forced doc.blocks at then None else Some (with_next doc.style over_it item))
+        (Some (with_next doc.style p item)) is_end
+        ∙ (if_false (place_forced doc.blocks at) None (Some (with_next doc.style over_it item))
+        (break_free doc.blocks all from item (sym ahead) over.is_break over.is_free)
+        ∙ ap Some (next_first doc over_it box item
+        (break_insert doc.blocks all from item (sym ahead) over.is_break)))
+
+    plain_step : (h : HopValue) (x : Item) → item_ahead doc.blocks h.to ≡ Some x → ends_hop doc.blocks h.to x ≡ false →
+        Reaches h → Reaches (past_one doc.blocks doc.style.maxdepth h x)
+    plain_step h x a free went =
+        let at = place_ahead h.to in
+        let q = moved over_it h.added.shift in
+        let none = or_parts (is_insert x) (is_some (place_penalty doc.blocks at)) free in
+        let no_end : is_end_here doc.blocks q at ≡ false =
+        ap (λ (t : Bool). t && is_some (place_penalty doc.blocks at)) box ∙ none.1 in
+        let passed : pass_item doc q (one doc h.to x (sym a) q)
+        ≡ Some (moved over_it (with_shift doc.style.maxdepth h.added.shift x)) =
+        if_false (is_end_here doc.blocks q at)
+        (if place_forced doc.blocks at then None else Some (with_next doc.style (crossed doc.style q) x))
+        (Some (with_next doc.style q x)) no_end
+        ∙ ap Some (next_moved doc over_it box x none.0 h.added.shift) in
+        goes_on doc from h.to (settled doc.blocks (stepped h.to)) p q
+        (moved over_it (with_shift doc.style.maxdepth h.added.shift x)) went
+        (goes_one doc h.to x (sym a) q (moved over_it (with_shift doc.style.maxdepth h.added.shift x)) passed)
+        no_end refl refl (on_block doc.blocks h.to)
+
+    -- past a break and the plain items behind it
+    pub hop_goes : Goes doc from hop.to p (moved over_it hop.added.shift)
+    hop_goes = past_all doc.blocks doc.style.maxdepth Reaches plain_step hop (hop.added.count - 1) begun over.plain
+        (goes_one doc from item ahead p (moved over_it begun.added.shift) first_passed)

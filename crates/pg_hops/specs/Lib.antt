@@ -1,0 +1,4 @@
+pub mod Hop
+pub mod Index
+pub mod Goes
+pub mod OneProof

@@ -1,0 +1,22 @@
+-- That hops lead on has one proof at most.
+use Rattle.std.specs.Prelude.{List, Option, Some, None, ℤ}
+use Rattle.std.proofs.Props.{props}
+use Rattle.pg_list.specs.declared.blocks.Block.{Block}
+use Rattle.pg_list.specs.declared.item.Item.{Item}
+use Rattle.pg_stretch.specs.Ahead.{item_ahead}
+use Rattle.pg_stretch.specs.declared.cursor.Cursor.{Cursor}
+use Rattle.pg_hops.specs.Hop.{HopValue, IsHop, IsHopAt}
+use Rattle.pg_hops.specs.Index.{AreHops}
+use Rattle.pg_hops.specs.declared.index.Row.{Row}
+
+at_prop : (blocks : List Block) (maxdepth : ℤ) (from : Cursor) (hop : HopValue) (item : Option Item) →
+    IsProp (IsHopAt blocks maxdepth from hop item)
+at_prop blocks maxdepth from hop None = hlevel props
+at_prop blocks maxdepth from hop (Some item) = hlevel props
+
+hop_prop : (blocks : List Block) (maxdepth : ℤ) (from : Cursor) (hop : HopValue) →
+    IsProp (IsHop blocks maxdepth from hop)
+hop_prop blocks maxdepth from hop = at_prop blocks maxdepth from hop (item_ahead blocks from)
+
+pub AreHops_prop : (blocks : List Block) (maxdepth : ℤ) (rows : List Row) → IsProp (AreHops blocks maxdepth rows)
+AreHops_prop blocks maxdepth rows = hlevel (props, hop_prop)

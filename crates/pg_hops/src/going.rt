@@ -1,0 +1,113 @@
+//! One step along a stretch.
+ghost use Rattle.std.specs.Prelude.{◌≡◌, ◌+◌, ◌≤◌, ◌^◌, ℤ, List, Some, IfSome, IfNone, length};
+ghost use Rattle.std.specs.Option.{option_copied};
+ghost use Rattle.pg_list.specs.declared.blocks.Block.{Block as ABlock};
+ghost use Rattle.pg_rules.specs.Legal.{document};
+ghost use Rattle.pg_column.specs.Passed.{crossed, is_end_here};
+ghost use Rattle.pg_stretch.specs.Ahead.{item_ahead, items_ahead, place_ahead};
+ghost use Rattle.pg_stretch.specs.View.{IsFor, view};
+ghost use Rattle.pg_hops.specs.Goes.{Counts, Goes, Stops};
+ghost use Rattle.pg_hops.specs.Hop.{MayHop, moved};
+ghost use Rattle.pg_hops.specs.Index.{AreHops};
+
+use crate::hop::Hop;
+use crate::index::BreakIndex;
+use pg_list::{Galley, Item, Place};
+use pg_stretch::{Cursor, Passed};
+use pg_style::Style;
+
+/// The hop from a cursor, where one is kept and a box was passed.
+pub fn hop_ahead<'a>(index: &'a BreakIndex, passed: &Passed, at: Cursor) -> Option<&'a Hop>
+    ensures { (blocks : List ABlock) (maxdepth : ℤ) → AreHops blocks maxdepth index.now →
+        MayHop blocks maxdepth (view passed.now) at (option_copied result) }
+{
+    if passed.sums.has_box() {
+        index.hop(at)
+    } else {
+        None
+    }
+}
+
+/// Whether the next item's place is a break behind a box; it is where a hop leads on from it.
+///
+/// Conditions: the item is the cursor's next one, and the place is the cursor's.
+pub fn is_end_ahead(
+    galley: &Galley,
+    passed: &Passed,
+    at: Cursor,
+    here: Place,
+    item: &Item,
+    hop: Option<&Hop>,
+) -> bool
+    requires item { item_ahead galley.now.blocks at ≡ Some item.now }
+    requires place { here ≡ place_ahead at }
+    requires hop { (maxdepth : ℤ) × MayHop galley.now.blocks maxdepth (view passed.now) at (option_copied hop) }
+    ensures { result ≡ is_end_here galley.now.blocks (view passed.now) here }
+{
+    hop.is_some() || passed.ends_at(galley, at, here, item)
+}
+
+// Past a break and the items of a hop from it.
+fn leap(style: &Style, hop: &Hop, passed: &mut Passed)
+    requires style { IsFor style.now passed.old }
+    requires few { (passed.old.sums.count + hop.now.added.count ≤ 2 ^ 20)
+        × (passed.old.notes.count + hop.now.added.count ≤ 2 ^ 20) }
+    ensures value { view passed.new ≡ moved (crossed style.now (view passed.old)) hop.now.added.shift }
+    ensures style { IsFor style.now passed.new }
+    ensures counts { (passed.new.sums.count ≡ passed.old.sums.count + hop.now.added.count)
+        × (passed.new.notes.count ≡ passed.old.notes.count + hop.now.added.count) }
+{
+    passed.cross(style);
+    let added = hop.added();
+    passed.sums.stays_bounded();
+    let totals = added.moved(passed.sums.totals());
+    passed.sums.take_totals(totals, added.count());
+    passed.notes.count_others(added.count());
+}
+
+/// One step from a cursor: past all items of a hop from it, or past its next item. Answers where the step leads; none where
+/// the break at its place is forced, and nothing more is passed then.
+///
+/// Conditions: the item is the cursor's next one, the place is the cursor's, it is told whether that is a break behind a box,
+/// and with the items ahead at most 2^20 are counted.
+pub fn go(
+    galley: &Galley,
+    style: &Style,
+    at: Cursor,
+    here: Place,
+    is_end: bool,
+    item: &Item,
+    hop: Option<&Hop>,
+    passed: &mut Passed,
+) -> Option<Cursor>
+    requires style { IsFor style.now passed.old }
+    requires item { item_ahead galley.now.blocks at ≡ Some item.now }
+    requires place { here ≡ place_ahead at }
+    requires end { is_end ≡ is_end_here galley.now.blocks (view passed.old) here }
+    requires hop { MayHop galley.now.blocks style.now.maxdepth (view passed.old) at (option_copied hop) }
+    requires few { (passed.old.sums.count + length (items_ahead galley.now.blocks at) ≤ 2 ^ 20)
+        × (passed.old.notes.count + length (items_ahead galley.now.blocks at) ≤ 2 ^ 20) }
+    ensures goes { IfSome result (λ to. Goes (document galley.now style.now) at to (view passed.old) (view passed.new)) }
+    ensures stops { IfNone result (Stops (document galley.now style.now) at (view passed.old)) }
+    ensures same { IfNone result (passed.new ≡ passed.old) }
+    ensures style { IsFor style.now passed.new }
+    ensures counts { IfSome result (λ to.
+        Counts galley.now.blocks at to passed.old.sums.count passed.new.sums.count
+        × Counts galley.now.blocks at to passed.old.notes.count passed.new.notes.count) }
+{
+    // The blocks keep their shape.
+    let _shape = galley.blocks().as_slice();
+    match hop {
+        Some(hop) => {
+            leap(style, hop, passed);
+            Some(hop.to())
+        }
+        None => {
+            if passed.pass(galley, style, here, is_end, item) {
+                Some(at.next(galley))
+            } else {
+                None
+            }
+        }
+    }
+}

@@ -1,0 +1,199 @@
+//! The hops of a whole galley.
+ghost use Rattle.std.specs.Prelude.{◌≡◌, ℤ, ℕ, List, Some, IfOk, slice_get, take};
+ghost use Rattle.std.specs.Option.{option_copied};
+ghost use Rattle.pg_list.specs.declared.blocks.Block.{Block as ABlock};
+ghost use Rattle.pg_hops.specs.Index.{AreHops, AreRowHops, AreVariantHops, hop_at, hop_in as hop_in_of};
+
+use crate::finding::hop_from;
+use crate::hop::Hop;
+use pg_list::{Block, Galley, Variant};
+use pg_stretch::Cursor;
+use pg_style::Style;
+use std::alloc::{AllocError, Global};
+use std::marker::Model;
+
+/// The hops from the places of a block: of a single item, or of each item of each variant.
+#[derive(Drop)]
+pub(crate) enum Row {
+    Single(Option<Hop>),
+    Variants(Vec<Vec<Option<Hop>>>),
+}
+
+/// The hops of a galley, block by block. What is not kept is found item by item.
+#[derive(Drop)]
+pub struct BreakIndex {
+    rows: Vec<Row>,
+}
+
+impl Model for BreakIndex {
+    ghost use Rattle.std.specs.Prelude.{List};
+    ghost use Rattle.pg_hops.specs.declared.index.Row.{Row};
+
+    ghost Value = { List Row };
+
+    ghost view = { λ a. a.rows.items };
+}
+
+// How far behind a block the last item may be that tells where its hops lead: two more than the items of the longest hop.
+const REACH: usize = 66;
+
+// No galley has more items.
+const MOST: u32 = 1 << 20;
+
+// The hops from the items of a variant, of which there are so many.
+fn variant_hops(
+    alloc: Global,
+    galley: &Galley,
+    style: &Style,
+    block: u32,
+    variant: u32,
+    count: usize,
+) -> Result<Vec<Option<Hop>>, AllocError>
+    ensures { IfOk result (λ hops. AreVariantHops galley.now.blocks style.now.maxdepth block variant (Some hops)) }
+{
+    let mut hops = Vec::new(alloc);
+    hops.reserve(count)?;
+    let mut index = 0;
+    'items: while (index as usize) < count && index < MOST {
+        let from = Cursor {
+            block,
+            variant,
+            index,
+            is_inner: true,
+        };
+        hops.push(hop_from(galley, style, from))?;
+        index += 1;
+    }
+    Ok(hops)
+}
+
+// The hops from the items of each variant of a choice.
+fn choice_hops(
+    alloc: Global,
+    galley: &Galley,
+    style: &Style,
+    block: u32,
+    variants: &[Variant],
+) -> Result<Vec<Vec<Option<Hop>>>, AllocError>
+    ensures { IfOk result (λ all. (variant : ℕ) →
+        AreVariantHops galley.now.blocks style.now.maxdepth block variant (slice_get all.items variant)) }
+{
+    let mut all = Vec::new(alloc);
+    let mut variant = 0;
+    'variants: while variant < MOST {
+        let Some(it) = variants.get(variant as usize) else {
+            break;
+        };
+        let count = it.items.as_slice().len();
+        all.push(variant_hops(alloc, galley, style, block, variant, count)?)?;
+        variant += 1;
+    }
+    Ok(all)
+}
+
+// The hops from the places of a block.
+fn row_of(alloc: Global, galley: &Galley, style: &Style, block: u32) -> Result<Row, AllocError>
+    ensures { IfOk result (AreRowHops galley.now.blocks style.now.maxdepth block) }
+{
+    match galley.blocks().as_slice().get(block as usize) {
+        Some(Block::Choice(choice)) => Ok(Row::Variants(choice_hops(
+            alloc,
+            galley,
+            style,
+            block,
+            choice.variants(),
+        )?)),
+        _ => {
+            let from = Cursor {
+                block,
+                variant: 0,
+                index: 0,
+                is_inner: false,
+            };
+            Ok(Row::Single(hop_from(galley, style, from)))
+        }
+    }
+}
+
+// The rows of the blocks that have none yet, as far as there is memory.
+fn extend(
+    alloc: Global,
+    galley: &Galley,
+    style: &Style,
+    rows: &mut Vec<Row>,
+) -> Result<(), AllocError>
+    ensures { AreHops galley.now.blocks style.now.maxdepth rows.old.items →
+        AreHops galley.now.blocks style.now.maxdepth rows.new.items }
+{
+    let count = galley.blocks().len();
+    'more: while rows.len() < count && rows.len() < MOST as usize {
+        let row = row_of(alloc, galley, style, rows.len() as u32)?;
+        rows.push(row)?;
+    }
+    Ok(())
+}
+
+// Drops the rows that blocks from this one on may have told.
+fn cut(rows: &mut Vec<Row>, from: u32)
+    ensures { (blocks others : List ABlock) (maxdepth : ℤ) → take from blocks ≡ take from others →
+        AreHops blocks maxdepth rows.old.items → AreHops others maxdepth rows.new.items }
+{
+    rows.truncate((from as usize).saturating_sub(REACH));
+}
+
+// The hop from a cursor at the block of a row.
+fn hop_in(row: &Row, at: Cursor) -> Option<&Hop>
+    ensures { option_copied result ≡ hop_in_of (Some row.now) at.is_inner at.variant at.index }
+{
+    match row {
+        Row::Single(hop) => { if at.is_inner { None } else { hop.as_ref() } }
+        Row::Variants(variants) => {
+            if at.is_inner {
+                variants
+                    .get(at.variant as usize)?
+                    .get(at.index as usize)?
+                    .as_ref()
+            } else {
+                None
+            }
+        }
+    }
+}
+
+impl BreakIndex {
+    /// No hops. No memory is taken.
+    pub fn empty(alloc: Global) -> BreakIndex
+        ensures { (blocks : List ABlock) (maxdepth : ℤ) → AreHops blocks maxdepth result }
+    {
+        BreakIndex {
+            rows: Vec::new(alloc),
+        }
+    }
+
+    /// The hops of a galley under a style. Where memory is wanting, those of its first blocks.
+    pub fn of(alloc: Global, galley: &Galley, style: &Style) -> BreakIndex
+        ensures { AreHops galley.now.blocks style.now.maxdepth result }
+    {
+        let mut rows = Vec::new(alloc);
+        let _ = extend(alloc, galley, style, &mut rows);
+        BreakIndex { rows }
+    }
+
+    /// Makes the hops those of a galley that is the same below a block: those that the blocks from it on may tell are found
+    /// anew. Where memory is wanting, the last ones are not kept.
+    pub fn mend(&mut self, galley: &Galley, style: &Style, from: u32)
+        ensures { (blocks : List ABlock) → take from blocks ≡ take from galley.now.blocks →
+            AreHops blocks style.now.maxdepth self.old → AreHops galley.now.blocks style.now.maxdepth self.new }
+    {
+        cut(&mut self.rows, from);
+        let alloc = *self.rows.allocator();
+        let _ = extend(alloc, galley, style, &mut self.rows);
+    }
+
+    /// The hop from a cursor, where one is kept.
+    pub fn hop(&self, at: Cursor) -> Option<&Hop>
+        ensures { option_copied result ≡ hop_at self.now at }
+    {
+        hop_in(self.rows.get(at.block as usize)?, at)
+    }
+}

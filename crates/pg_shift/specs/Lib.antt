@@ -1,0 +1,2 @@
+pub mod Shift
+pub mod Bounds
