@@ -1,7 +1,6 @@
 -- The ends in a room of one candidate more.
-use Rattle.std.proofs.Common.{◌≡◌, refl, sym, ap, subst, ℤ, ℕ, List, [], ◌∷◌, ◌++◌, map, append-nil, Bool, true, false, Option, Some, None}
-use Rattle.std.specs.Prelude.{◌&&◌, not, if◌then◌else◌, cond, filter}
-use Rattle.std.proofs.lemmas.Option.{same_Some}
+use Rattle.std.proofs.Common.{◌≡◌, refl, sym, ap, subst, ℤ, ℕ, List, [], ◌∷◌, ◌++◌, map, append-nil, Bool, true, false}
+use Rattle.std.specs.Prelude.{if◌then◌else◌, cond, filter}
 use Rattle.pg_list.specs.declared.galley.Place.{Place}
 use Rattle.pg_column.specs.declared.cost.TextCost.{TextCost}
 use Rattle.pg_rules.specs.Room.{Document}
@@ -42,43 +41,7 @@ keep_more doc room cs c bs r =
     by true = best_push (end_in doc room c) (kept_ends doc room cs) bs r
     by false = subst (λ (es : List End). AreBest es bs) (sym (append-nil (kept_ends doc room cs))) r
 
--- ---- a test that was put off
-
-module _ (over tolerable suits : Bool) (end : End) where
-  abbrev pub Kept : Option End
-  Kept = if (not over && tolerable) && suits then Some end else None
-
-  pub not_suits : suits ≡ false → None ≡ Kept
-  not_suits e = by (not over && tolerable) suits e
-    where
-      by : (a b : Bool) → b ≡ false → None ≡ (if a && b then Some end else None)
-      by true b f = rw f refl
-      by false b f = refl
-
-  pub not_under : over ≡ true → None ≡ Kept
-  not_under e = rw e refl
-
-  pub not_tolerable : tolerable ≡ false → None ≡ Kept
-  not_tolerable e = by (not over) tolerable e
-    where
-      by : (a b : Bool) → b ≡ false → None ≡ (if (a && b) && suits then Some end else None)
-      by true b f = rw f refl
-      by false b f = refl
-
-  pub all_kept : over ≡ false → tolerable ≡ true → suits ≡ true → Some end ≡ Kept
-  all_kept a b c = rw (a, b, c) refl
-
-pub some_end : (b : Bool) (end x : End) (old : List End) → Some x ≡ (if b then Some end else None) →
-    insert_end x old ≡ (if b then insert_end end old else old)
-some_end true end x old e = ap (λ y. insert_end y old) (same_Some x end e)
-some_end false end x old e = absurd cc
-
-pub no_end : (b : Bool) (end : End) (old : List End) → None ≡ (if b then Some end else None) →
-    old ≡ (if b then insert_end end old else old)
-no_end true end old e = absurd cc
-no_end false end old e = refl
-
-pub end_same : (to : Place) (ms ns : List ℕ) (a b : TextCost) (y z : ℤ) → ms ≡ ns → a ≡ b → y ≡ z →
-    ◌≡◌ {A = End} (record { to = to; picks = ms; cost = a; pick_demerits = y })
+pub end_same : (at to : Place) (ms ns : List ℕ) (a b : TextCost) (y z : ℤ) → at ≡ to → ms ≡ ns → a ≡ b → y ≡ z →
+    ◌≡◌ {A = End} (record { to = at; picks = ms; cost = a; pick_demerits = y })
     (record { to = to; picks = ns; cost = b; pick_demerits = z })
-end_same to ms ns a b y z o p q = rw (o, p, q) refl
+end_same at to ms ns a b y z t o p q = rw (t, o, p, q) refl

@@ -6,3 +6,4 @@ pub mod Beside
 pub mod Needed
 pub mod Nears
 pub mod TooLow
+pub mod Ordered

@@ -1,74 +1,76 @@
 -- A candidate's end in a room.
-use Rattle.std.proofs.Common.{◌≡◌, refl, sym, ap, ◌∙◌, subst, ℤ, List, [], ◌∷◌, ◌++◌, append-nil, false, true, Option, Some, None, ◌-ℤ◌}
-use Rattle.std.specs.Prelude.{◌&&◌, ◌||◌, if◌then◌else◌, int_le, nat_le}
+use Rattle.std.proofs.Common.{◌≡◌, refl, sym, ap, ◌∙◌, subst, ℤ, List, [], ◌∷◌, ◌++◌, append-nil, arith, Bool, false, true, Option, Some, ◌-ℤ◌}
+use Rattle.std.specs.Prelude.{◌&&◌, ◌||◌, not, int_le, int_lt, nat_le, slice_get}
 use Rattle.std.specs.List.{AllByRecursion}
+use Rattle.std.specs.Option.{option_map_or}
+use Rattle.std.proofs.lemmas.Int.{ints}
 use Rattle.pg_breaks.specs.Near.{place_forced}
 use Rattle.pg_column.specs.Numbers.{cost_for, goal_by}
 use Rattle.pg_column.specs.Passed.{fits}
 use Rattle.pg_column.specs.declared.cost.TextCost.{TextCost}
 use Rattle.pg_ends.specs.declared.end.End.{End}
-use Rattle.pg_flat.specs.Badness.{is_over}
+use Rattle.pg_lemmas.proofs.Bools.{if_false, if_true}
 use Rattle.pg_list.proofs.BodyLemmas.{all_front}
 use Rattle.pg_rules.specs.Room.{Document}
-use Rattle.pg_walk_laws.specs.Best.{AreBest}
+use Rattle.pg_sums.specs.declared.totals.Totals.{Totals}
+use Rattle.pg_walk_laws.specs.Best.{AreBest, insert_end}
 use Rattle.pg_walk_laws.specs.Candidates.{Candidate, cost_in, end_in, is_over_in, keeps_in, kept_ends}
 use Rattle.pg_candidates.specs.Nears.{IsNear, IsNearIn, NearValue, needed_in, needed_of}
+use Rattle.pg_candidates.specs.RoomEnds.{end_by, end_of, picks_at}
 use Rattle.pg_candidates.specs.declared.kind.EndKind.{EndKind}
-use Rattle.pg_candidates.proofs.Kept.{all_kept, end_same, not_suits, not_tolerable}
+use Rattle.pg_candidates.proofs.Kept.{end_same, keep_more}
 use Rattle.pg_candidates.proofs.Needed.{needed_more}
 
 -- ---- in a room
 
-module _ (doc : Document) (room : ℤ) (it : Candidate) (near : NearValue) (is : IsNear doc it near) where
-  pub over_is : (goal : ℤ) → goal ≡ room -ℤ near.notes →
-      is_over it.passed.totals.total it.passed.totals.shrink goal ≡ is_over_in doc.style room it.passed
-  over_is goal e = ap (is_over it.passed.totals.total it.passed.totals.shrink) (e ∙ ap (λ (z : ℤ). room -ℤ z) is.notes)
+not_below : (z least : ℤ) → int_lt z least ≡ false → int_le least z ≡ true
+not_below z least h = grind (arith, ints, h)
 
-  pub cost_is : (goal : ℤ) → goal ≡ room -ℤ near.notes →
-      cost_for doc.style goal it.passed.totals near.kind.is_spent near.kind.penalty ≡ cost_in doc room it
-  cost_is goal e =
-      ap (λ (z : ℤ). cost_for doc.style z it.passed.totals near.kind.is_spent near.kind.penalty)
-      (e ∙ ap (λ (z : ℤ). room -ℤ z) is.notes)
+tolerable_alone : (over tolerable suits : Bool) → (not over && suits) ≡ true → ((not over && tolerable) && suits) ≡ tolerable
+tolerable_alone true tolerable suits h = absurd cc
+tolerable_alone false true suits h = h
+tolerable_alone false false suits h = refl
+
+module _ (doc : Document) (room : ℤ) (it : Candidate) (near : NearValue) (is : IsNear doc it near) (cost : TextCost)
+    (made : cost ≡ cost_for doc.style (room -ℤ near.notes) near.totals near.kind.is_spent near.kind.penalty) where
+  cost_is : cost ≡ cost_in doc room it
+  cost_is = made ∙ (ap (λ (t : Totals). cost_for doc.style (room -ℤ near.notes) t near.kind.is_spent near.kind.penalty)
+      is.totals
+      ∙ (ap (λ (z : ℤ). cost_for doc.style (room -ℤ z) it.passed.totals near.kind.is_spent near.kind.penalty) is.notes
       ∙ ap (λ (k : EndKind). cost_for doc.style (goal_by doc.style room it.passed.notes) it.passed.totals
-      k.is_spent k.penalty) is.kind
+      k.is_spent k.penalty) is.kind))
 
-  pub tolerable_is : (cost : TextCost) → cost ≡ cost_in doc room it →
-      (near.kind.is_forced || nat_le cost.badness doc.style.tolerance)
+  tolerable_is : (near.kind.is_forced || nat_le cost.badness doc.style.tolerance)
       ≡ (place_forced doc.blocks it.to || nat_le (cost_in doc room it).badness doc.style.tolerance)
-  tolerable_is cost e =
+  tolerable_is =
       ap (λ (k : EndKind). k.is_forced || nat_le cost.badness doc.style.tolerance) is.kind
-      ∙ ap (λ (k : TextCost). place_forced doc.blocks it.to || nat_le k.badness doc.style.tolerance) e
+      ∙ ap (λ (k : TextCost). place_forced doc.blocks it.to || nat_le k.badness doc.style.tolerance) cost_is
 
-  abbrev Due : Option End
-  Due = if keeps_in doc room it then Some (end_in doc room it) else None
-
-  pub suits_none : (z : ℤ) → z ≡ room → (fits it.passed.bound z && int_le doc.style.min_text z) ≡ false → None ≡ Due
-  suits_none z e off = not_suits (is_over_in doc.style room it.passed)
+  pub keeps_is : int_lt room near.least ≡ false →
+      keeps_in doc room it ≡ (near.kind.is_forced || nat_le cost.badness doc.style.tolerance)
+  keeps_is high = tolerable_alone (is_over_in doc.style room it.passed)
       (place_forced doc.blocks it.to || nat_le (cost_in doc room it).badness doc.style.tolerance)
-      (fits it.passed.bound room && int_le doc.style.min_text room) (end_in doc room it)
-      (sym (ap (λ (y : ℤ). fits it.passed.bound y && int_le doc.style.min_text y) e) ∙ off)
+      (fits it.passed.bound room && int_le doc.style.min_text room)
+      (is.least room ∙ not_below room near.least high) ∙ sym tolerable_is
 
-  module _ (goal : ℤ) (goal_is : goal ≡ room -ℤ near.notes) (cost : TextCost)
-      (cost_for_is : cost ≡ cost_for doc.style goal it.passed.totals near.kind.is_spent near.kind.penalty) where
-    pub tolerable_none : (near.kind.is_forced || nat_le cost.badness doc.style.tolerance) ≡ false → None ≡ Due
-    tolerable_none off = not_tolerable (is_over_in doc.style room it.passed)
-        (place_forced doc.blocks it.to || nat_le (cost_in doc room it).badness doc.style.tolerance)
-        (fits it.passed.bound room && int_le doc.style.min_text room) (end_in doc room it)
-        (sym (tolerable_is cost (cost_for_is ∙ cost_is goal goal_is)) ∙ off)
+  pub end_is : (ds : List Candidate) → slice_get ds near.at ≡ Some it → end_of ds (end_by near cost) ≡ end_in doc room it
+  end_is ds there = end_same near.to it.to (picks_at ds near.at) it.picks cost (cost_in doc room it) near.pick_demerits
+      it.pick_demerits is.to (ap (λ (o : Option Candidate). option_map_or (λ (c : Candidate). c.picks) o []) there)
+      cost_is is.pick_demerits
 
-    pub end_some : (z : ℤ) → z ≡ room → is_over it.passed.totals.total it.passed.totals.shrink goal ≡ false →
-        (fits it.passed.bound z && int_le doc.style.min_text z) ≡ true →
-        (near.kind.is_forced || nat_le cost.badness doc.style.tolerance) ≡ true → (end : End) →
-        end ≡ record { to = it.to; picks = it.picks; cost = cost; pick_demerits = it.pick_demerits } → Some end ≡ Due
-    end_some z e below suits good end made =
-        let cost_same = cost_for_is ∙ cost_is goal goal_is in
-        ap (λ (x : End). Some x) (made ∙ end_same it.to it.picks it.picks cost (cost_in doc room it)
-        it.pick_demerits it.pick_demerits refl cost_same refl)
-        ∙ all_kept (is_over_in doc.style room it.passed)
-        (place_forced doc.blocks it.to || nat_le (cost_in doc room it).badness doc.style.tolerance)
-        (fits it.passed.bound room && int_le doc.style.min_text room) (end_in doc room it)
-        (sym (over_is goal goal_is) ∙ below) (sym (tolerable_is cost cost_same) ∙ good)
-        (sym (ap (λ (y : ℤ). fits it.passed.bound y && int_le doc.style.min_text y) e) ∙ suits)
+  -- the best with this candidate's end
+  module _ (cs ds : List Candidate) (there : slice_get ds near.at ≡ Some it) (bs : List End)
+      (best : AreBest (kept_ends doc room cs) bs) (high : int_lt room near.least ≡ false) where
+    pub best_refused : (near.kind.is_forced || nat_le cost.badness doc.style.tolerance) ≡ false →
+        AreBest (kept_ends doc room (cs ++ it ∷ [])) bs
+    best_refused off = subst (AreBest (kept_ends doc room (cs ++ it ∷ [])))
+        (if_false (keeps_in doc room it) _ _ (keeps_is high ∙ off)) (keep_more doc room cs it bs best)
+
+    pub best_kept : (near.kind.is_forced || nat_le cost.badness doc.style.tolerance) ≡ true → (new : List End) →
+        new ≡ insert_end (end_of ds (end_by near cost)) bs → AreBest (kept_ends doc room (cs ++ it ∷ [])) new
+    best_kept on new e = subst (AreBest (kept_ends doc room (cs ++ it ∷ [])))
+        (if_true (keeps_in doc room it) _ _ (keeps_is high ∙ on)
+        ∙ (ap (λ (x : End). insert_end x bs) (sym (end_is ds there)) ∙ sym e)) (keep_more doc room cs it bs best)
 
 -- ---- one turn of the loop
 

@@ -1,5 +1,5 @@
 -- The candidates that are needed in a room suffice there.
-use Rattle.std.proofs.Common.{◌≡◌, refl, sym, ap, ◌∙◌, subst, ℕ, ◌+◌, ◌≤◌, ◌<◌, ◌⊎◌, inl, inr, List, [], ◌∷◌, ◌++◌, append-nil, length, map, take, arith, Bool, true, false, Option, Some, None, IfSome, ℤ, ◌≤ℤ◌}
+use Rattle.std.proofs.Common.{◌≡◌, refl, sym, ap, ◌∙◌, subst, ℕ, zero, suc, ◌+◌, ◌≤◌, ◌<◌, ◌⊎◌, inl, inr, List, [], ◌∷◌, ◌++◌, append-nil, length, map, take, arith, Bool, true, false, Option, Some, None, IfSome, ℤ, ◌≤ℤ◌}
 use Rattle.std.specs.Prelude.{if◌then◌else◌, get_or, nat_lt, option_map, slice_get}
 use Rattle.std.specs.Ordering.{ordering_reverse}
 use Rattle.std.specs.declared.cmp.Ordering.TheVariants.{Equal}
@@ -58,6 +58,12 @@ found_at ps i x less is =
     let within : i < length ps = grind (arith, less) in
     slice_get-map candidate_of ps i
     ∙ ap (option_map candidate_of) (slice_get_read ps (length ps) i x refl within is)
+
+pub some_at : (ps : List CandidateParts) (i : ℕ) → i < length ps →
+    (c : Candidate) × (slice_get (map candidate_of ps) i ≡ Some c)
+some_at [] i l = absurd (omega (arith, l))
+some_at (p ∷ ps) zero l = (candidate_of p, refl)
+some_at (p ∷ ps) (suc i) l = some_at ps i (omega (arith, l))
 
 pub missing_at : (ps : List CandidateParts) (i : ℕ) → length ps ≤ i → slice_get (map candidate_of ps) i ≡ None
 missing_at ps i le = slice_get-map candidate_of ps i ∙ ap (option_map candidate_of) (slice_get_past ps i le)
@@ -126,13 +132,6 @@ last_or [] i j (inl p) = inr p
 last_or [] i j (inr a) = absurd a
 last_or (k ∷ is) i j (inl p) = inl (inl p)
 last_or (k ∷ is) i j (inr a) = elim (last_or is i j a) [ inl p ↦ inl (inr p) | inr p ↦ inr p ]
-
--- the numbers below one more
-pub one_index_more : (is : List ℕ) (n : ℕ) → ((i : ℕ) → i < n → IsAmong i is) → (i : ℕ) → i < n + 1 →
-    IsAmong i (is ++ n ∷ [])
-one_index_more is n all i h = by_bool (nat_lt i n)
-    (λ t. let less : i < n = grind arith in among_left i is (n ∷ []) (all i less))
-    (λ f. let same : n ≡ i = grind (arith, h) in among_right i is (n ∷ []) (inl same))
 
 module _ (doc : Document) (cs : List Candidate) (seen : List ℕ) (nears : List NearValue) (at : ℕ)
     (are : AreServed doc cs seen nears) where

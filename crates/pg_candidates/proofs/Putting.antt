@@ -1,6 +1,6 @@
 -- An end put in at its spot, by a search in ends that are in order.
 use Rattle.std.proofs.Common.{◌≡◌, refl, sym, ap, ◌∙◌, subst, ℕ, zero, suc, ◌-◌, ◌≤◌, ◌<◌, List, [], ◌∷◌, length, arith, Bool, true, false}
-use Rattle.std.specs.Prelude.{if◌then◌else◌, get_or, slice_get, slice_set}
+use Rattle.std.specs.Prelude.{if◌then◌else◌, get_or, option_map, slice_get, slice_set}
 use Rattle.std.specs.List.{insert}
 use Rattle.std.specs.List.Sorted.{IsPartitionedBy, IsPartitionPoint}
 use Rattle.std.specs.Ordering.{ordering_reverse}
@@ -8,104 +8,127 @@ use Rattle.std.specs.declared.cmp.Ordering.{Ordering}
 use Rattle.std.specs.declared.cmp.Ordering.TheVariants.{Less, Equal, Greater}
 use Rattle.pg_ends.specs.declared.end.End.{End}
 use Rattle.pg_walk_laws.specs.Best.{Ascend, IsFirst, end_cmp, insert_end, is_better, placed_by}
+use Rattle.pg_walk_laws.specs.Candidates.{Candidate}
 use Rattle.pg_walk_laws.proofs.BestLaws.{end_total}
 use Rattle.pg_lemmas.proofs.Bools.{not_both}
+use Rattle.pg_candidates.specs.RoomEnds.{end_of, ends_of}
 use Rattle.pg_candidates.specs.Spots.{is_before, is_less, spot_by, spot_in}
 use Rattle.pg_candidates.specs.declared.best.Spot.{Spot}
 use Rattle.pg_candidates.specs.declared.best.Spot.TheVariants.{Before, Instead, Nowhere}
+use Rattle.pg_candidates.specs.declared.room_end.RoomEnd.{RoomEnd}
 
 less_is : (o : Ordering) → is_less o ≡ true → o ≡ Less
 less_is Less e = refl
 less_is Equal e = absurd cc
 less_is Greater e = absurd cc
 
--- ---- what is in order has a partition point
-
-first_at : (f : End) (fs : List End) (k : ℕ) (d : End) → IsFirst f fs → k < length fs → end_cmp f (get_or fs k d) ≡ Less
-first_at f [] k d h l = absurd (omega (arith, l))
-first_at f (g ∷ fs) zero d h l = h.0
-first_at f (g ∷ fs) (suc k) d h l = first_at f fs k d h.1 (omega (arith, l))
-
-before_chain : (f g e : End) → end_cmp f g ≡ Less → is_before g e ≡ true → is_before f e ≡ true
-before_chain f g e p q = ap is_less (end_total.trans f g e p (less_is (end_cmp g e) q))
-
-pub parted : (e : End) (fs : List End) → Ascend fs → IsPartitionedBy (λ f. is_before f e) fs
-parted e [] h i j d le l t = absurd (omega (arith, l))
-parted e (f ∷ fs) h zero zero d le l t = t
-parted e (f ∷ fs) h zero (suc j) d le l t =
-    before_chain f (get_or fs j d) e (first_at f fs j d h.0 (omega (arith, l))) t
-parted e (f ∷ fs) h (suc i) zero d le l t = absurd (omega (arith, le))
-parted e (f ∷ fs) h (suc i) (suc j) d le l t = parted e fs h.1 i j d (omega (arith, le)) (omega (arith, l)) t
-
 -- ---- at it an end is put in
 
-abbrev pub put : Spot → List End → ℕ → End → List End
+abbrev pub put : Spot → List RoomEnd → ℕ → RoomEnd → List RoomEnd
 put Before fs i e = insert fs i e
 put Instead fs i e = slice_set fs i e
 put Nowhere fs i e = fs
 
-abbrev pub Point : End → List End → ℕ → Type 0
+abbrev pub Point : RoomEnd → List RoomEnd → ℕ → Type 0
 Point e fs i = IsPartitionPoint (λ f. is_before f e ≡ true) (λ f. is_before f e ≡ false) fs i
 
-turned : (e f : End) (o : Ordering) → end_cmp f e ≡ o → end_cmp e f ≡ ordering_reverse o
-turned e f o p = end_total.antisymm e f ∙ ap ordering_reverse p
-
-put_more : (s : Spot) (f : End) (fs : List End) (i : ℕ) (e : End) → put s (f ∷ fs) (suc i) e ≡ f ∷ put s fs i e
+put_more : (s : Spot) (f : RoomEnd) (fs : List RoomEnd) (i : ℕ) (e : RoomEnd) →
+    put s (f ∷ fs) (suc i) e ≡ f ∷ put s fs i e
 put_more Before f fs i e = refl
 put_more Instead f fs i e = refl
 put_more Nowhere f fs i e = refl
 
-put_first : (e f : End) (fs : List End) (o : Ordering) → end_cmp e f ≡ o → is_less (ordering_reverse o) ≡ false →
-    put (spot_by o (is_better e f)) (f ∷ fs) 0 e ≡ placed_by o e f fs (insert_end e fs)
-put_first e f fs Less p n = refl
-put_first e f fs Equal p n = by (is_better e f)
-  where
-    by : (b : Bool) → put (if b then Instead else Nowhere) (f ∷ fs) 0 e ≡ (if b then e else f) ∷ fs
-    by true = refl
-    by false = refl
-put_first e f fs Greater p n = absurd cc
+module _ (cs : List Candidate) where
+  -- ---- what is in order has a partition point
 
-pub put_is : (e : End) (fs : List End) (i : ℕ) → i ≤ length fs → Point e fs i →
-    put (spot_in (slice_get fs i) e) fs i e ≡ insert_end e fs
-put_is e [] zero le point = refl
-put_is e [] (suc i) le point = absurd (omega (arith, le))
-put_is e (f ∷ fs) zero le point =
-    let no : is_before f e ≡ false = point.1 0 f (omega arith) (omega arith) in
-    let back : end_cmp f e ≡ ordering_reverse (end_cmp e f) = end_total.antisymm f e in
-    put_first e f fs (end_cmp e f) refl (ap is_less (sym back) ∙ no)
-put_is e (f ∷ fs) (suc i) le point =
-    let yes : end_cmp f e ≡ Less = less_is (end_cmp f e) (point.0 0 f (omega arith) (omega arith)) in
-    let rest : put (spot_in (slice_get fs i) e) fs i e ≡ insert_end e fs =
-    put_is e fs i (omega (arith, le)) (
-      (λ k d lo hi. point.0 (suc k) d (omega arith) (omega (arith, hi))),
-      (λ k d lo hi. point.1 (suc k) d (omega (arith, lo)) (omega (arith, hi))),
-    ) in
-    put_more (spot_in (slice_get fs i) e) f fs i e ∙ (ap (λ gs. f ∷ gs) rest
-    ∙ sym (ap (λ (o : Ordering). placed_by o e f fs (insert_end e fs)) (turned e f Less yes)))
+  first_at : (f : RoomEnd) (fs : List RoomEnd) (k : ℕ) (d : RoomEnd) → IsFirst (end_of cs f) (ends_of cs fs) →
+      k < length fs → end_cmp (end_of cs f) (end_of cs (get_or fs k d)) ≡ Less
+  first_at f [] k d h l = absurd (omega (arith, l))
+  first_at f (g ∷ fs) zero d h l = h.0
+  first_at f (g ∷ fs) (suc k) d h l = first_at f fs k d h.1 (omega (arith, l))
 
--- found in a copy of the list
-pub put_found : (e : End) (fs xs ys : List End) (i : ℕ) (s : Spot) → Ascend fs → xs ≡ fs → ys ≡ fs → i ≤ length xs →
-    (IsPartitionedBy (λ f. is_before f e) xs → Point e xs i) → s ≡ spot_in (slice_get ys i) e →
-    put s fs i e ≡ insert_end e fs
-put_found e fs xs ys i s h p q le point at =
-    let there : Point e fs i =
-    subst (λ (zs : List End). Point e zs i) p
-    (point (subst (IsPartitionedBy (λ f. is_before f e)) (sym p) (parted e fs h))) in
-    ap (λ (t : Spot). put t fs i e) at ∙ (ap (λ (zs : List End). put (spot_in (slice_get zs i) e) fs i e) q
-    ∙ put_is e fs i (subst (λ (zs : List End). i ≤ length zs) p le) there)
+  before_chain : (f g e : RoomEnd) → end_cmp (end_of cs f) (end_of cs g) ≡ Less → is_before g e ≡ true →
+      is_before f e ≡ true
+  before_chain f g e p q =
+      ap is_less (end_total.trans (end_of cs f) (end_of cs g) (end_of cs e) p
+      (less_is (end_cmp (end_of cs g) (end_of cs e)) q))
+
+  pub parted : (e : RoomEnd) (fs : List RoomEnd) → Ascend (ends_of cs fs) → IsPartitionedBy (λ f. is_before f e) fs
+  parted e [] h i j d le l t = absurd (omega (arith, l))
+  parted e (f ∷ fs) h zero zero d le l t = t
+  parted e (f ∷ fs) h zero (suc j) d le l t =
+      before_chain f (get_or fs j d) e (first_at f fs j d h.0 (omega (arith, l))) t
+  parted e (f ∷ fs) h (suc i) zero d le l t = absurd (omega (arith, le))
+  parted e (f ∷ fs) h (suc i) (suc j) d le l t = parted e fs h.1 i j d (omega (arith, le)) (omega (arith, l)) t
+
+  -- ---- what is put in at it
+
+  turned : (e f : End) (o : Ordering) → end_cmp f e ≡ o → end_cmp e f ≡ ordering_reverse o
+  turned e f o p = end_total.antisymm e f ∙ ap ordering_reverse p
+
+  put_first : (e f : RoomEnd) (fs : List RoomEnd) (o : Ordering) → end_cmp (end_of cs e) (end_of cs f) ≡ o →
+      is_less (ordering_reverse o) ≡ false →
+      ends_of cs (put (spot_by o (is_better (end_of cs e) (end_of cs f))) (f ∷ fs) 0 e)
+      ≡ placed_by o (end_of cs e) (end_of cs f) (ends_of cs fs) (insert_end (end_of cs e) (ends_of cs fs))
+  put_first e f fs Less p n = refl
+  put_first e f fs Equal p n = by (is_better (end_of cs e) (end_of cs f))
+    where
+      by : (b : Bool) → ends_of cs (put (if b then Instead else Nowhere) (f ∷ fs) 0 e)
+          ≡ (if b then end_of cs e else end_of cs f) ∷ ends_of cs fs
+      by true = refl
+      by false = refl
+  put_first e f fs Greater p n = absurd cc
+
+  pub put_is : (e : RoomEnd) (fs : List RoomEnd) (i : ℕ) → i ≤ length fs → Point e fs i →
+      ends_of cs (put (spot_in (option_map (end_of cs) (slice_get fs i)) (end_of cs e)) fs i e)
+      ≡ insert_end (end_of cs e) (ends_of cs fs)
+  put_is e [] zero le point = refl
+  put_is e [] (suc i) le point = absurd (omega (arith, le))
+  put_is e (f ∷ fs) zero le point =
+      let no : is_before f e ≡ false = point.1 0 f (omega arith) (omega arith) in
+      let back : end_cmp (end_of cs f) (end_of cs e) ≡ ordering_reverse (end_cmp (end_of cs e) (end_of cs f)) =
+      end_total.antisymm (end_of cs f) (end_of cs e) in
+      put_first e f fs (end_cmp (end_of cs e) (end_of cs f)) refl (ap is_less (sym back) ∙ no)
+  put_is e (f ∷ fs) (suc i) le point =
+      let yes : end_cmp (end_of cs f) (end_of cs e) ≡ Less =
+      less_is (end_cmp (end_of cs f) (end_of cs e)) (point.0 0 f (omega arith) (omega arith)) in
+      let rest : ends_of cs (put (spot_in (option_map (end_of cs) (slice_get fs i)) (end_of cs e)) fs i e)
+      ≡ insert_end (end_of cs e) (ends_of cs fs) =
+      put_is e fs i (omega (arith, le)) (
+        (λ k d lo hi. point.0 (suc k) d (omega arith) (omega (arith, hi))),
+        (λ k d lo hi. point.1 (suc k) d (omega (arith, lo)) (omega (arith, hi))),
+      ) in
+      ap (ends_of cs) (put_more (spot_in (option_map (end_of cs) (slice_get fs i)) (end_of cs e)) f fs i e)
+      ∙ (ap (λ (gs : List End). end_of cs f ∷ gs) rest
+      ∙ sym (ap (λ (o : Ordering). placed_by o (end_of cs e) (end_of cs f) (ends_of cs fs)
+      (insert_end (end_of cs e) (ends_of cs fs))) (turned (end_of cs e) (end_of cs f) Less yes)))
+
+  -- found in a copy of the list
+  pub put_found : (e : RoomEnd) (fs xs ys : List RoomEnd) (i : ℕ) (s : Spot) → Ascend (ends_of cs fs) → xs ≡ fs →
+      ys ≡ fs → i ≤ length xs → (IsPartitionedBy (λ f. is_before f e) xs → Point e xs i) →
+      s ≡ spot_in (option_map (end_of cs) (slice_get ys i)) (end_of cs e) →
+      ends_of cs (put s fs i e) ≡ insert_end (end_of cs e) (ends_of cs fs)
+  put_found e fs xs ys i s h p q le point at =
+      let there : Point e fs i =
+      subst (λ (zs : List RoomEnd). Point e zs i) p
+      (point (subst (IsPartitionedBy (λ f. is_before f e)) (sym p) (parted e fs h))) in
+      ap (λ (t : Spot). ends_of cs (put t fs i e)) at
+      ∙ (ap (λ (zs : List RoomEnd). ends_of cs (put (spot_in (option_map (end_of cs) (slice_get zs i)) (end_of cs e))
+      fs i e)) q
+      ∙ put_is e fs i (subst (λ (zs : List RoomEnd). i ≤ length zs) p le) there)
 
 -- ---- a place that is looked at is the point
 
-pub point_at : (e : End) (fs : List End) (i : ℕ) → i ≤ length fs →
-    ((d : End) → 0 < i → is_before (get_or fs (i - 1) d) e ≡ true) →
-    ((d : End) → i < length fs → is_before (get_or fs i d) e ≡ false) →
+pub point_at : (e : RoomEnd) (fs : List RoomEnd) (i : ℕ) → i ≤ length fs →
+    ((d : RoomEnd) → 0 < i → is_before (get_or fs (i - 1) d) e ≡ true) →
+    ((d : RoomEnd) → i < length fs → is_before (get_or fs i d) e ≡ false) →
     IsPartitionedBy (λ f. is_before f e) fs → Point e fs i
 point_at e fs i within low high parted = (
   λ k d lo hi. parted k (i - 1) d (omega (arith, hi)) (omega (arith, hi, within)) (low d (omega (arith, hi))),
   λ k d lo hi. by k d (omega (arith, lo)) (omega (arith, hi)) (is_before (get_or fs k d) e) refl,
 )
   where
-    by : (k : ℕ) (d : End) → i ≤ k → k < length fs → (b : Bool) → is_before (get_or fs k d) e ≡ b →
+    by : (k : ℕ) (d : RoomEnd) → i ≤ k → k < length fs → (b : Bool) → is_before (get_or fs k d) e ≡ b →
         is_before (get_or fs k d) e ≡ false
     by k d lo hi false is = is
     by k d lo hi true is =

@@ -1,47 +1,70 @@
--- Below which room no column to a candidate's end keeps the rules, and what such a room adds.
-use Rattle.std.proofs.Common.{◌≡◌, refl, ap, ◌∙◌, subst, List, [], ◌∷◌, ◌++◌, arith, Bool, true, false, Option, Some, None, ℤ, ◌≤ℤ◌, ◌<ℤ◌}
-use Rattle.std.specs.Prelude.{◌&&◌, ◌||◌, not, if◌then◌else◌, int_le, nat_le, slice_get}
+-- The least room for a column to a candidate's end.
+use Rattle.std.proofs.Common.{◌≡◌, refl, sym, ap, ◌∙◌, subst, List, [], ◌∷◌, ◌++◌, arith, Bool, true, false, Option, Some, None, ℤ, ◌≤ℤ◌, ◌<ℤ◌, ◌-ℤ◌}
+use Rattle.std.specs.Prelude.{◌&&◌, ◌||◌, not, if◌then◌else◌, int_le, int_lt, nat_le, slice_get}
 use Rattle.std.proofs.lemmas.Int.{ints}
 use Rattle.pg_breaks.specs.Near.{place_forced}
 use Rattle.pg_column.specs.Passed.{fits, least_room, note_height}
 use Rattle.pg_column.proofs.Passing.{over_least}
 use Rattle.pg_ends.specs.declared.end.End.{End}
+use Rattle.pg_flat.specs.Badness.{is_over}
 use Rattle.pg_lemmas.proofs.Bools.{if_false}
 use Rattle.pg_rules.specs.Room.{Document}
+use Rattle.pg_sums.specs.declared.totals.Totals.{Totals}
 use Rattle.pg_walk_laws.specs.Best.{AreBest}
 use Rattle.pg_walk_laws.specs.Candidates.{Candidate, cost_in, is_over_in, keeps_in, kept_ends}
-use Rattle.pg_candidates.specs.Nears.{IsHopelessBelow, IsNearIn, NearValue, is_needed, needed_of, one_at}
+use Rattle.pg_candidates.specs.Nears.{IsLeastRoom, IsNearIn, NearValue, is_needed, least_by, needed_of, one_at}
 use Rattle.pg_candidates.proofs.Kept.{keep_more}
 use Rattle.pg_candidates.proofs.Nears.{best_same}
 
 -- ---- the least room
 
-no_way : (over good suits text : Bool) → (suits ≡ true → text ≡ true → over ≡ true) →
-    ((not over && good) && (suits && text)) ≡ false
-no_way true good suits text h = refl
-no_way false true true true h = let e = h refl refl in absurd cc
-no_way false true true false h = refl
-no_way false true false text h = refl
-no_way false false suits text h = refl
+-- the greater of two numbers is not above a third where neither is
+pub le_both : (a b z : ℤ) → a ≤ℤ b → int_le b z ≡ (int_le a z && int_le b z)
+le_both a b z h = by (int_le b z) refl
+  where
+    by : (c : Bool) → int_le b z ≡ c → c ≡ (int_le a z && c)
+    by true e =
+        let f : int_le a z ≡ true = grind (arith, ints, h, e) in
+        sym (ap (λ (d : Bool). d && true) f)
+    by false e = sym (none (int_le a z))
+      where
+        none : (d : Bool) → (d && false) ≡ false
+        none true = refl
+        none false = refl
 
-over_below : (doc : Document) (c : Candidate) (room : ℤ) → room <ℤ least_room doc.style c.passed →
-    is_over_in doc.style room c.passed ≡ true
-over_below doc c room h =
-    let e : int_le (least_room doc.style c.passed) room ≡ false = grind (arith, ints, h) in
-    over_least c.passed.totals.total c.passed.totals.shrink (note_height doc.style c.passed) room ∙ ap not e
+rearranged : (over a f m : Bool) → over ≡ not a → (not over && (f && m)) ≡ (f && (m && a))
+rearranged over true true true e = rw e refl
+rearranged over true true false e = rw e refl
+rearranged over true false m e = rw e refl
+rearranged over false true true e = rw e refl
+rearranged over false true false e = rw e refl
+rearranged over false false m e = rw e refl
 
-pub hopeless_below : (doc : Document) (c : Candidate) (least text below : ℤ) → least ≡ least_room doc.style c.passed →
-    ((z : ℤ) → z <ℤ text → doc.style.min_text ≤ℤ z → z <ℤ least) →
-    ((z : ℤ) → z <ℤ below → fits c.passed.bound z ≡ true → z <ℤ text) → IsHopelessBelow doc c below
-hopeless_below doc c least text below is lower low room h =
-    no_way (is_over_in doc.style room c.passed)
-    (place_forced doc.blocks c.to || nat_le (cost_in doc room c).badness doc.style.tolerance)
-    (fits c.passed.bound room) (int_le doc.style.min_text room)
-    (λ f t.
-    let up : doc.style.min_text ≤ℤ room = grind (arith, ints, t) in
-    over_below doc c room (subst (λ (z : ℤ). room <ℤ z) is (lower room (low room h f) up)))
+pub least_is : (doc : Document) (c : Candidate) (least min text own : ℤ) → least ≡ least_room doc.style c.passed →
+    min ≡ doc.style.min_text → ((z : ℤ) → int_le text z ≡ (int_le min z && int_le least z)) →
+    ((z : ℤ) → int_le own z ≡ (fits c.passed.bound z && int_le text z)) → IsLeastRoom doc c own
+least_is doc c least min text own is same both whole room =
+    rearranged (is_over_in doc.style room c.passed) (int_le least room) (fits c.passed.bound room)
+    (int_le doc.style.min_text room)
+    (over_least c.passed.totals.total c.passed.totals.shrink (note_height doc.style c.passed) room
+    ∙ ap (λ (z : ℤ). not (int_le z room)) (sym is))
+    ∙ (ap (λ (z : ℤ). fits c.passed.bound room && (int_le z room && int_le least room)) (sym same)
+    ∙ sym (whole room ∙ ap (λ (b : Bool). fits c.passed.bound room && b) (both room)))
 
 -- ---- one that is not asked
+
+no_way : (over good suits : Bool) → (not over && suits) ≡ false → ((not over && good) && suits) ≡ false
+no_way true good suits h = refl
+no_way false true suits h = h
+no_way false false suits h = refl
+
+hopeless_below : (doc : Document) (c : Candidate) (least room : ℤ) → IsLeastRoom doc c least → room <ℤ least →
+    keeps_in doc room c ≡ false
+hopeless_below doc c least room is low =
+    let below : int_le least room ≡ false = grind (arith, ints, low) in
+    no_way (is_over_in doc.style room c.passed)
+    (place_forced doc.blocks c.to || nat_le (cost_in doc room c).badness doc.style.tolerance)
+    (fits c.passed.bound room && int_le doc.style.min_text room) (is room ∙ below)
 
 pub best_below : (doc : Document) (room : ℤ) (cs ds : List Candidate) (near : NearValue) (bs : List End) →
     room <ℤ near.least → IsNearIn doc ds near → AreBest (kept_ends doc room cs) bs →
@@ -53,4 +76,13 @@ best_below doc room cs ds near bs low is best = by (is_needed room near.until) (
     by false o e = best_same doc room cs bs best
     by true None e = best_same doc room cs bs best
     by true (Some c) e = subst (AreBest (kept_ends doc room (cs ++ c ∷ [])))
-        (if_false (keeps_in doc room c) _ _ ((is c e).least room low)) (keep_more doc room cs c bs best)
+        (if_false (keeps_in doc room c) _ _ (hopeless_below doc c near.least room (is c e).least low))
+        (keep_more doc room cs c bs best)
+
+-- ---- a room that is not below it
+
+pub not_over : (totals : Totals) (notes least room : ℤ) → int_le (least_by totals notes) least ≡ true →
+    int_lt room least ≡ false → is_over totals.total totals.shrink (room -ℤ notes) ≡ false
+not_over totals notes least room enough high =
+    let up : int_le (least_by totals notes) room ≡ true = grind (arith, ints, enough, high) in
+    over_least totals.total totals.shrink notes room ∙ ap not up

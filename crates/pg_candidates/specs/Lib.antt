@@ -1,4 +1,6 @@
 pub mod View
 pub mod Spots
+pub mod RoomEnds
 pub mod Nears
 pub mod Seen
+pub mod Groups

@@ -1,30 +1,45 @@
 -- What is worked out once of candidates for several rooms.
-use Rattle.std.specs.Prelude.{◌≡◌, ◌≤ℤ◌, ◌<ℤ◌, ℕ, Bool, true, false, if◌then◌else◌, List, [], ◌∷◌, flat_map, Option, Some, None, ℤ, pos, int_lt, slice_get, unwrap_or}
+use Rattle.std.specs.Prelude.{◌≡◌, ◌<◌, ◌^◌, ◌≤ℤ◌, ◌<ℤ◌, ◌+ℤ◌, ◌-ℤ◌, ◌&&◌, ℕ, Bool, true, false, if◌then◌else◌, not, List, [], ◌∷◌, flat_map, Option, Some, None, ℤ, pos, int_le, int_lt, nat_abs, slice_get, unwrap_or}
+use Rattle.std.specs.Int.{int_min}
 use Rattle.std.specs.List.{AllByRecursion}
 use Rattle.std.specs.declared.cmp.Ordering.TheVariants.{Equal}
 use Rattle.pg_list.specs.declared.blocks.Block.{Block}
 use Rattle.pg_list.specs.declared.galley.Place.{Place}
 use Rattle.pg_breaks.specs.Near.{place_forced, place_penalty, place_spent}
 use Rattle.pg_column.specs.Numbers.{goal_by}
-use Rattle.pg_column.specs.Passed.{note_height}
+use Rattle.pg_column.specs.Passed.{fits, note_height}
 use Rattle.pg_ends.specs.declared.end.End.{End}
 use Rattle.pg_rules.specs.Room.{Document}
 use Rattle.pg_style.specs.Values.{StyleValue}
 use Rattle.pg_sums.specs.Step.{badness_by}
+use Rattle.pg_sums.specs.declared.totals.Totals.{Totals}
 use Rattle.pg_walk_laws.specs.Best.{IsAmong, IsUnder, end_cmp}
-use Rattle.pg_walk_laws.specs.Candidates.{AreCandidates, Candidate, end_in, keeps_in, kept_ends}
+use Rattle.pg_walk_laws.specs.Candidates.{AreCandidates, Candidate, end_in, is_over_in, keeps_in, kept_ends}
 use Rattle.pg_candidates.specs.declared.kind.EndKind.{EndKind}
 
 -- ---- what no room changes
 
--- what callers see of it: which candidate it is of, the height of its notes, what its end is, the room from which on that
--- end is not needed, if there is one, and the least room that is worth asking
+-- what callers see of it: which candidate it is of, where its end is, the sums and the height of the notes of what was
+-- passed, the demerits of its picks, what its end is, the room from which on that end is not needed, if there is one, and
+-- the least room for a column to it
 pub record NearValue : Type 0 where
   pub at : ℕ
+  pub to : Place
+  pub totals : Totals
   pub notes : ℤ
+  pub pick_demerits : ℤ
   pub kind : EndKind
   pub until : Option ℤ
   pub least : ℤ
+
+-- the least room in which such sums with notes of this height are not over
+abbrev pub least_by : Totals → ℤ → ℤ
+least_by totals notes = int_min ((totals.total +ℤ notes) +ℤ pos 1) ((totals.total +ℤ notes) -ℤ totals.shrink)
+
+-- notes that can be, and a least room that is not below the one in which the sums are not over
+pub record IsWellKept (notes : ℤ) (totals : Totals) (least : ℤ) : Type 0 where
+  pub small : nat_abs notes < 2 ^ 51
+  pub enough : int_le (least_by totals notes) least ≡ true
 
 -- candidates, and what no room changes of each
 pub record NearsValue : Type 0 where
@@ -39,15 +54,23 @@ kind_at blocks at = record {
   is_spent = place_spent blocks at;
 }
 
--- in no room below this one a column to a candidate's end keeps the rules
-abbrev pub IsHopelessBelow : Document → Candidate → ℤ → Type 0
-IsHopelessBelow doc c least = (room : ℤ) → room <ℤ least → keeps_in doc room c ≡ false
+-- in a room what was passed is not over, and it is neither below what that needs nor below the least text
+abbrev pub is_room_for : Document → ℤ → Candidate → Bool
+is_room_for doc room c =
+    not (is_over_in doc.style room c.passed) && (fits c.passed.bound room && int_le doc.style.min_text room)
 
--- the height of a candidate's notes, what its end is, and a room below which no column to it keeps the rules
+-- so it is in this room and in each greater one, and in no other
+abbrev pub IsLeastRoom : Document → Candidate → ℤ → Type 0
+IsLeastRoom doc c least = (room : ℤ) → is_room_for doc room c ≡ int_le least room
+
+-- what no room changes of a candidate
 pub record IsNear (doc : Document) (c : Candidate) (near : NearValue) : Type 0 where
+  pub to : near.to ≡ c.to
+  pub totals : near.totals ≡ c.passed.totals
   pub notes : near.notes ≡ note_height doc.style c.passed
+  pub pick_demerits : near.pick_demerits ≡ c.pick_demerits
   pub kind : near.kind ≡ kind_at doc.blocks c.to
-  pub least : IsHopelessBelow doc c near.least
+  pub least : IsLeastRoom doc c near.least
 
 -- of the candidate at its index
 abbrev pub IsNearIn : Document → List Candidate → NearValue → Type 0

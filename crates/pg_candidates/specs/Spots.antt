@@ -1,22 +1,14 @@
 -- Where an end goes among others that are in order.
 use Rattle.std.specs.Prelude.{Bool, true, false, if◌then◌else◌, Option, Some, None}
+use Rattle.std.specs.Ordering.{nat_cmp, ordering_then}
 use Rattle.std.specs.declared.cmp.Ordering.{Ordering}
 use Rattle.std.specs.declared.cmp.Ordering.TheVariants.{Less, Equal, Greater}
-use Rattle.pg_column.specs.declared.cost.TextCost.{TextCost}
 use Rattle.pg_ends.specs.declared.end.End.{End}
+use Rattle.pg_plan.specs.Order.{place_cmp}
 use Rattle.pg_walk_laws.specs.Best.{end_cmp, is_better}
-use Rattle.pg_candidates.specs.declared.candidate.Candidate.{Candidate}
 use Rattle.pg_candidates.specs.declared.best.Spot.{Spot}
 use Rattle.pg_candidates.specs.declared.best.Spot.TheVariants.{Before, Instead, Nowhere}
-
--- the end of a candidate with these numbers
-abbrev pub end_by : Candidate → TextCost → End
-end_by candidate cost = record {
-  to = candidate.to;
-  picks = candidate.picks;
-  cost = cost;
-  pick_demerits = candidate.pick_demerits;
-}
+use Rattle.pg_candidates.specs.declared.room_end.RoomEnd.{RoomEnd}
 
 abbrev pub is_less : Ordering → Bool
 is_less Less = true
@@ -24,8 +16,8 @@ is_less Equal = false
 is_less Greater = false
 
 -- by place, and at one place by fitness
-abbrev pub is_before : End → End → Bool
-is_before a b = is_less (end_cmp a b)
+abbrev pub is_before : RoomEnd → RoomEnd → Bool
+is_before a b = is_less (ordering_then (place_cmp a.to b.to) (nat_cmp a.cost.fitness b.cost.fitness))
 
 -- at one place and fitness the better stays
 abbrev pub spot_by : Ordering → Bool → Spot

@@ -8,7 +8,7 @@ use Rattle.pg_candidates.specs.declared.candidate.Candidate.{Candidate as Candid
 
 -- a candidate with what was passed
 abbrev pub candidate_of : CandidateParts → Candidate
-candidate_of c = record { to = c.to; picks = c.picks; passed = view c.passed; pick_demerits = c.pick_demerits }
+candidate_of c = record { to = c.to; picks = c.picks.value; passed = view c.passed; pick_demerits = c.pick_demerits }
 
 -- what was passed where a stretch was
 abbrev pub passed_of : Option State → Option Passed

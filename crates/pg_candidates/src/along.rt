@@ -19,6 +19,7 @@ use pg_plan::Picks;
 use pg_stretch::{Cursor, Passed, State};
 use pg_style::Style;
 use std::alloc::AllocError;
+use std::rc::Rc;
 
 // Adds an end at a place where one may be, if it is a break behind a box.
 fn end_at(
@@ -26,17 +27,17 @@ fn end_at(
     at: Place,
     is_end: bool,
     passed: &Passed,
-    picks: &Picks,
+    picks: &Rc<Picks>,
     demerits: i64,
     found: &mut CandidateList,
 ) -> Result<(), AllocError>
     ensures { OnOk result ((g : GalleyValue) → is_end ≡ is_end_here g.blocks (view passed.now) at →
-        found.new ≡ found.old ++ end_here (document g style.now) picks.now demerits at (view passed.now)) }
+        found.new ≡ found.old ++ end_here (document g style.now) picks.now.value demerits at (view passed.now)) }
 {
     if is_end && passed.is_within_limits(style) {
         found.push(Candidate {
             to: at,
-            picks: picks.copy()?,
+            picks: Rc::clone(picks)?,
             passed: *passed,
             pick_demerits: demerits,
         })?;
@@ -104,6 +105,7 @@ pub fn walk_on(
     ensures quiet { IfOk result (λ w. w.is_quiet ≡ is_quiet style.now
         (passed_along (document galley.now style.now) top (view before) (items_ahead galley.now.blocks start))) }
 {
+    let shared = found.share(picks)?;
     let mut at = start;
     let mut passed = before;
     let mut greatest = 0u32;
@@ -112,7 +114,7 @@ pub fn walk_on(
         greatest = greatest.max(here.block);
         let hop = hop_ahead(index, &passed, at);
         let is_end = is_end_ahead(galley, &passed, at, here, item, hop);
-        end_at(style, here, is_end, &passed, picks, demerits, found)?;
+        end_at(style, here, is_end, &passed, &shared, demerits, found)?;
         let Some(next) = go(galley, style, at, here, is_end, item, hop, &mut passed) else {
             return Ok(stopped(style, &passed, greatest));
         };
@@ -123,7 +125,7 @@ pub fn walk_on(
     }
     let front = at.place();
     let is_end = passed.is_end(galley, front);
-    end_at(style, front, is_end, &passed, picks, demerits, found)?;
+    end_at(style, front, is_end, &passed, &shared, demerits, found)?;
     Ok(Walked {
         state: Some(State {
             block: at.block,

@@ -1,15 +1,20 @@
 //! The best of the ends, for each place and fitness.
-ghost use Rattle.std.specs.Prelude.{◌≡◌, ◌≤◌, ◌<◌, ◌-◌, ◌+ℤ◌, OnOk, IfOk, get_or, length, slice_get, true, false};
+ghost use Rattle.std.specs.Prelude.{◌≡◌, ◌≤◌, ◌<◌, ◌-◌, ◌+ℤ◌, OnOk, MatchOption, [], get_or, length, map, slice_get, true, false};
+ghost use Rattle.std.specs.Option.{option_map};
 ghost use Rattle.std.specs.Ordering.{nat_cmp, ordering_then};
+ghost use Rattle.std.specs.List.{insert};
 ghost use Rattle.std.specs.List.Sorted.{IsPartitionPoint, IsPartitionedBy};
-ghost use Rattle.pg_ends.specs.declared.end.End.{End as AnEnd};
-ghost use Rattle.pg_plan.specs.Order.{place_cmp};
+ghost use Rattle.pg_plan.specs.Order.{picks_cmp, place_cmp};
 ghost use Rattle.pg_walk_laws.specs.Best.{Ascend, insert_end, is_better as is_better_of};
-ghost use Rattle.pg_candidates.specs.Spots.{end_by, is_before as is_before_of, spot_in};
+ghost use Rattle.pg_candidates.specs.RoomEnds.{end_by, end_of, ends_of, picks_at};
+ghost use Rattle.pg_candidates.specs.Spots.{is_before as is_before_of, spot_in};
+ghost use Rattle.pg_candidates.specs.View.{candidate_of};
+ghost use Rattle.pg_candidates.specs.declared.room_end.RoomEnd.{RoomEnd as ARoomEnd};
 
 use crate::candidate::Candidate;
+use crate::near::Near;
+use crate::room_end::{RoomEnd, picks_of};
 use pg_column::TextCost;
-use pg_ends::{End, EndList};
 use pg_list::Place;
 use pg_plan::{compare_picks, compare_places};
 use std::alloc::AllocError;
@@ -31,11 +36,11 @@ fn compare_ends(a: &Place, fitness: u8, b: &Place, other: u8) -> Ordering
 }
 
 // Whether an end stands before that of a candidate with these numbers.
-fn is_before(end: &End, candidate: &Candidate, cost: &TextCost) -> bool
-    ensures { result ≡ is_before_of end.now (end_by candidate.now cost.now) }
+fn is_before(end: &RoomEnd, near: &Near, cost: &TextCost) -> bool
+    ensures { result ≡ is_before_of end.now (end_by near.now cost.now) }
 {
     matches!(
-        compare_ends(&end.to, end.cost.fitness, &candidate.to, cost.fitness),
+        compare_ends(&end.to, end.cost.fitness, &near.to, cost.fitness),
         Ordering::Less
     )
 }
@@ -47,77 +52,113 @@ fn price(cost: &TextCost, pick_demerits: i64) -> i128
     i128::from(cost.demerits) + i128::from(pick_demerits)
 }
 
-// Whether the end of a candidate with these numbers costs less than another, or the same with picks that are not after.
-fn is_better(candidate: &Candidate, cost: &TextCost, other: &End) -> bool
-    ensures { result ≡ is_better_of (end_by candidate.now cost.now) other.now }
+// The picks of the candidate with this number, and none where there is none.
+fn listed_picks(candidates: &[Candidate], at: usize) -> &[u32]
+    ensures { result.now ≡ picks_at (map candidate_of candidates.now) at }
 {
-    let own = price(cost, candidate.pick_demerits);
+    match picks_of(candidates, at) {
+        Some(picks) => picks.as_slice(),
+        None => &[],
+    }
+}
+
+// Compares the picks of the candidates with these numbers. Few ends are so alike that they are looked at.
+#[inline(never)]
+fn compare_listed(candidates: &[Candidate], one: usize, other: usize) -> Ordering
+    ensures { result ≡ picks_cmp (picks_at (map candidate_of candidates.now) one)
+        (picks_at (map candidate_of candidates.now) other) }
+{
+    compare_picks(
+        listed_picks(candidates, one),
+        listed_picks(candidates, other),
+    )
+}
+
+// Whether the end of a candidate with these numbers costs less than another, or the same with picks that are not after.
+fn is_better(candidates: &[Candidate], near: &Near, cost: &TextCost, other: &RoomEnd) -> bool
+    ensures { result ≡ is_better_of (end_of (map candidate_of candidates.now) (end_by near.now cost.now))
+        (end_of (map candidate_of candidates.now) other.now) }
+{
+    let own = price(cost, near.pick_demerits);
     let its = price(&other.cost, other.pick_demerits);
     if own < its {
         return true;
     }
     own <= its
         && !matches!(
-            compare_picks(candidate.picks.as_slice(), other.picks.as_slice()),
+            compare_listed(candidates, near.at, other.at),
             Ordering::Greater
         )
 }
 
 // Whether the end in front of an index, if there is one, stands before that of a candidate.
-fn comes_behind(ends: &[End], at: usize, candidate: &Candidate, cost: &TextCost) -> bool
+fn comes_behind(ends: &[RoomEnd], at: usize, near: &Near, cost: &TextCost) -> bool
     requires { at ≤ length ends.now }
-    ensures { result ≡ true → (d : AnEnd) → 0 < at →
-        is_before_of (get_or ends.now (at - 1) d) (end_by candidate.now cost.now) ≡ true }
+    ensures { result ≡ true → (d : ARoomEnd) → 0 < at →
+        is_before_of (get_or ends.now (at - 1) d) (end_by near.now cost.now) ≡ true }
 {
-    at == 0 || is_before(&ends[at - 1], candidate, cost)
+    at == 0 || is_before(&ends[at - 1], near, cost)
 }
 
 // Whether the end at an index, if there is one, does not stand before that of a candidate.
-fn comes_in_front(ends: &[End], at: usize, candidate: &Candidate, cost: &TextCost) -> bool
+fn comes_in_front(ends: &[RoomEnd], at: usize, near: &Near, cost: &TextCost) -> bool
     requires { at ≤ length ends.now }
-    ensures { result ≡ true → (d : AnEnd) → at < length ends.now →
-        is_before_of (get_or ends.now at d) (end_by candidate.now cost.now) ≡ false }
+    ensures { result ≡ true → (d : ARoomEnd) → at < length ends.now →
+        is_before_of (get_or ends.now at d) (end_by near.now cost.now) ≡ false }
 {
-    at == ends.len() || !is_before(&ends[at], candidate, cost)
+    at == ends.len() || !is_before(&ends[at], near, cost)
 }
 
 // Whether so many of the ends stand before that of a candidate, and the next one does not.
-fn is_point(ends: &[End], at: usize, candidate: &Candidate, cost: &TextCost) -> bool
+fn is_point(ends: &[RoomEnd], at: usize, near: &Near, cost: &TextCost) -> bool
     ensures within { result ≡ true → at ≤ length ends.now }
     ensures point { result ≡ true →
-        IsPartitionedBy (λ (other : AnEnd). is_before_of other (end_by candidate.now cost.now)) ends.now →
-        IsPartitionPoint (λ (other : AnEnd). is_before_of other (end_by candidate.now cost.now) ≡ true)
-        (λ (other : AnEnd). is_before_of other (end_by candidate.now cost.now) ≡ false) ends.now at }
+        IsPartitionedBy (λ (other : ARoomEnd). is_before_of other (end_by near.now cost.now)) ends.now →
+        IsPartitionPoint (λ (other : ARoomEnd). is_before_of other (end_by near.now cost.now) ≡ true)
+        (λ (other : ARoomEnd). is_before_of other (end_by near.now cost.now) ≡ false) ends.now at }
 {
-    if at > ends.len() || !comes_behind(ends, at, candidate, cost) {
+    if at > ends.len() || !comes_behind(ends, at, near, cost) {
         return false;
     }
-    comes_in_front(ends, at, candidate, cost)
+    comes_in_front(ends, at, near, cost)
 }
 
-// How many of the ends stand before that of a candidate. A hint that is right saves the search.
-fn count_before(ends: &[End], hint: usize, candidate: &Candidate, cost: &TextCost) -> usize
-    ensures point { IsPartitionedBy (λ (other : AnEnd). is_before_of other (end_by candidate.now cost.now)) ends.now →
-        IsPartitionPoint (λ (other : AnEnd). is_before_of other (end_by candidate.now cost.now) ≡ true)
-        (λ (other : AnEnd). is_before_of other (end_by candidate.now cost.now) ≡ false) ends.now result }
+// How many of the ends stand before that of a candidate. A hint that is right, or one too many since an end of the same
+// place is there, saves the search.
+fn count_before(ends: &[RoomEnd], hint: usize, near: &Near, cost: &TextCost) -> usize
+    ensures point { IsPartitionedBy (λ (other : ARoomEnd). is_before_of other (end_by near.now cost.now)) ends.now →
+        IsPartitionPoint (λ (other : ARoomEnd). is_before_of other (end_by near.now cost.now) ≡ true)
+        (λ (other : ARoomEnd). is_before_of other (end_by near.now cost.now) ≡ false) ends.now result }
     ensures within { result ≤ length ends.now }
 {
-    if is_point(ends, hint, candidate, cost) {
+    if is_point(ends, hint, near, cost) {
         return hint;
     }
-    ends.partition_point(|other| is_before(other, candidate, cost))
+    let fewer = hint.saturating_sub(1);
+    if is_point(ends, fewer, near, cost) {
+        return fewer;
+    }
+    ends.partition_point(|other| is_before(other, near, cost))
 }
 
 // Where the end of a candidate goes at this index.
-fn spot_at(ends: &[End], at: usize, candidate: &Candidate, cost: &TextCost) -> Spot
-    ensures { result ≡ spot_in (slice_get ends.now at) (end_by candidate.now cost.now) }
+fn spot_at(
+    candidates: &[Candidate],
+    ends: &[RoomEnd],
+    at: usize,
+    near: &Near,
+    cost: &TextCost,
+) -> Spot
+    ensures { result ≡ spot_in
+        (option_map (end_of (map candidate_of candidates.now)) (slice_get ends.now at))
+        (end_of (map candidate_of candidates.now) (end_by near.now cost.now)) }
 {
     let Some(other) = ends.get(at) else {
         return Spot::Before;
     };
-    match compare_ends(&candidate.to, cost.fitness, &other.to, other.cost.fitness) {
+    match compare_ends(&near.to, cost.fitness, &other.to, other.cost.fitness) {
         Ordering::Equal => {
-            if is_better(candidate, cost, other) {
+            if is_better(candidates, near, cost, other) {
                 Spot::Instead
             } else {
                 Spot::Nowhere
@@ -128,50 +169,71 @@ fn spot_at(ends: &[End], at: usize, candidate: &Candidate, cost: &TextCost) -> S
 }
 
 // The end of a candidate with these numbers.
-fn end_with(candidate: &Candidate, cost: TextCost) -> Result<End, AllocError>
-    ensures { IfOk result (λ end. end ≡ end_by candidate.now cost) }
+fn end_with(near: &Near, cost: TextCost) -> RoomEnd
+    ensures { result ≡ end_by near.now cost }
 {
-    Ok(End {
-        to: candidate.to,
-        picks: candidate.picks.copy()?,
+    RoomEnd {
+        to: near.to,
+        at: near.at,
         cost,
-        pick_demerits: candidate.pick_demerits,
-    })
+        pick_demerits: near.pick_demerits,
+    }
+}
+
+// Puts an end in behind so many others. Most are put in behind all.
+fn put_behind(ends: &mut Vec<RoomEnd>, at: usize, end: RoomEnd) -> Result<(), AllocError>
+    requires { at ≤ length ends.old.items }
+    ensures { OnOk result (ends.new.items ≡ insert ends.old.items at end) }
+{
+    if at == ends.len() {
+        ends.push(end)?;
+    } else {
+        ends.insert(at, end)?;
+    }
+    Ok(())
 }
 
 // Puts the end of a candidate in behind so many others that are in order, where it belongs, or nowhere where it is no better.
 fn put_in(
-    ends: &mut EndList,
+    candidates: &[Candidate],
+    ends: &mut Vec<RoomEnd>,
     at: usize,
-    candidate: &Candidate,
+    near: &Near,
     cost: TextCost,
 ) -> Result<(), AllocError>
-    requires within { at ≤ length ends.old }
-    requires point { IsPartitionedBy (λ (other : AnEnd). is_before_of other (end_by candidate.now cost)) ends.old →
-        IsPartitionPoint (λ (other : AnEnd). is_before_of other (end_by candidate.now cost) ≡ true)
-        (λ (other : AnEnd). is_before_of other (end_by candidate.now cost) ≡ false) ends.old at }
-    ensures { OnOk result (Ascend ends.old → ends.new ≡ insert_end (end_by candidate.now cost) ends.old) }
+    requires within { at ≤ length ends.old.items }
+    requires point { IsPartitionedBy (λ (other : ARoomEnd). is_before_of other (end_by near.now cost)) ends.old.items →
+        IsPartitionPoint (λ (other : ARoomEnd). is_before_of other (end_by near.now cost) ≡ true)
+        (λ (other : ARoomEnd). is_before_of other (end_by near.now cost) ≡ false) ends.old.items at }
+    ensures { OnOk result (Ascend (ends_of (map candidate_of candidates.now) ends.old.items) →
+        ends_of (map candidate_of candidates.now) ends.new.items
+        ≡ insert_end (end_of (map candidate_of candidates.now) (end_by near.now cost))
+        (ends_of (map candidate_of candidates.now) ends.old.items)) }
 {
-    match spot_at(ends.as_slice(), at, candidate, &cost) {
-        Spot::Before => ends.insert(at, end_with(candidate, cost)?)?,
-        Spot::Instead => ends.set(at, end_with(candidate, cost)?),
+    match spot_at(candidates, ends.as_slice(), at, near, &cost) {
+        Spot::Before => put_behind(ends, at, end_with(near, cost))?,
+        Spot::Instead => ends[at] = end_with(near, cost),
         Spot::Nowhere => {}
     }
     Ok(())
 }
 
 /// Adds the end of a candidate with these numbers to those that are in order, one for each place and fitness; the better one
-/// stays, and the other is not made. It answers behind how many ends the next one is likely to belong. So does the hint say
-/// of this one; where it is wrong, the spot is searched.
-pub fn keep_best(
-    ends: &mut EndList,
+/// stays. It answers behind how many ends the next one is likely to belong. So does the hint say of this one; where it is
+/// wrong, the spot is searched.
+pub(crate) fn keep_best(
+    candidates: &[Candidate],
+    ends: &mut Vec<RoomEnd>,
     hint: usize,
-    candidate: &Candidate,
+    near: &Near,
     cost: TextCost,
 ) -> Result<usize, AllocError>
-    ensures { OnOk result (Ascend ends.old → ends.new ≡ insert_end (end_by candidate.now cost) ends.old) }
+    ensures { OnOk result (Ascend (ends_of (map candidate_of candidates.now) ends.old.items) →
+        ends_of (map candidate_of candidates.now) ends.new.items
+        ≡ insert_end (end_of (map candidate_of candidates.now) (end_by near.now cost))
+        (ends_of (map candidate_of candidates.now) ends.old.items)) }
 {
-    let at = count_before(ends.as_slice(), hint, candidate, &cost);
-    put_in(ends, at, candidate, cost)?;
+    let at = count_before(ends.as_slice(), hint, near, &cost);
+    put_in(candidates, ends, at, near, cost)?;
     Ok(at + 1)
 }

@@ -7,13 +7,17 @@ use pg_plan::Picks;
 use pg_stretch::Passed;
 use std::alloc::{AllocError, Global};
 use std::marker::Model;
+use std::rc::Rc;
+
+// For how many candidates there is room at once: few places have more, and what is not used costs nothing.
+const ROOM: usize = 1024;
 
 /// Where columns from a place may end: the picks of the choices that begin on the way, what is passed, and the demerits
-/// of the variants picked.
+/// of the variants picked. The candidates along one stretch share their picks.
 #[derive(Drop)]
 pub struct Candidate {
     pub to: Place,
-    pub picks: Picks,
+    pub picks: Rc<Picks>,
     pub passed: Passed,
     pub pick_demerits: i64,
 }
@@ -35,13 +39,13 @@ impl Model for CandidateList {
 }
 
 impl CandidateList {
-    /// No candidates, with room for as many as most places have, so that they are seldom moved. The one refusal is want
+    /// No candidates, with room for as many as nearly all places have, so that they are seldom moved. The one refusal is want
     /// of memory.
     pub fn with_room(alloc: Global) -> Result<CandidateList, AllocError>
         ensures { IfOk result (λ list. list ≡ []) }
     {
         Ok(CandidateList {
-            items: Vec::with_capacity(alloc, 64)?,
+            items: Vec::with_capacity(alloc, ROOM)?,
         })
     }
 
@@ -51,6 +55,13 @@ impl CandidateList {
     {
         self.items.push(candidate)?;
         Ok(())
+    }
+
+    // The same picks, to be shared by candidates.
+    pub(crate) fn share(&self, picks: &Picks) -> Result<Rc<Picks>, AllocError>
+        ensures { IfOk result (λ shared. shared.value ≡ picks.now) }
+    {
+        Ok(Rc::new(*self.items.allocator(), picks.copy()?)?)
     }
 
     // The candidates, one after another.

@@ -1,7 +1,10 @@
 //! The least room worth asking for the end of a candidate.
+ghost use Rattle.std.specs.Prelude.{◌≤ℤ◌};
 ghost use Rattle.pg_list.specs.GalleyValue.{GalleyValue};
+ghost use Rattle.pg_column.specs.Passed.{least_room};
 ghost use Rattle.pg_rules.specs.Legal.{document};
-ghost use Rattle.pg_candidates.specs.Nears.{IsHopelessBelow};
+ghost use Rattle.pg_stretch.specs.View.{view};
+ghost use Rattle.pg_candidates.specs.Nears.{IsLeastRoom};
 ghost use Rattle.pg_candidates.specs.View.{candidate_of};
 
 use crate::candidate::Candidate;
@@ -9,9 +12,9 @@ use crate::until::{greater, raised};
 use pg_style::Style;
 
 // The least room that is neither one in which what was passed is over, nor below what it needs, nor below the least text.
-// In each room below it no column to a candidate's end keeps the rules.
 pub(crate) fn least_of(style: &Style, candidate: &Candidate) -> i64
-    ensures { (g : GalleyValue) → IsHopelessBelow (document g style.now) (candidate_of candidate.now) result }
+    ensures least { (g : GalleyValue) → IsLeastRoom (document g style.now) (candidate_of candidate.now) result }
+    ensures enough { least_room style.now (view candidate.now.passed) ≤ℤ result }
 {
     let passed = &candidate.passed;
     let text = greater(i64::from(style.min_text), passed.least_room(style));

@@ -18,8 +18,10 @@ mod making;
 mod near;
 mod order;
 mod room;
+mod room_end;
 mod until;
 
 pub use along::{Walked, ends_on, walk_on};
 pub use candidate::{Candidate, CandidateList};
 pub use near::NearList;
+pub use room_end::RoomEnd;

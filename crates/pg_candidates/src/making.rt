@@ -47,6 +47,32 @@ fn first_beside(candidates: &[Candidate], first: Option<First>, to: Place) -> Op
     }
 }
 
+// What no room changes of a candidate, whose end is of this kind and not needed from a room on.
+fn near_of(
+    style: &Style,
+    at: usize,
+    kind: EndKind,
+    until: Option<i64>,
+    candidate: &Candidate,
+) -> Near
+    ensures at { result.at ≡ at }
+    ensures near { (g : GalleyValue) → kind ≡ kind_at_of g.blocks candidate.now.to →
+        IsNear (document g style.now) (candidate_of candidate.now) result }
+    ensures until { result.until ≡ until }
+{
+    let passed = &candidate.passed;
+    Near {
+        at,
+        to: candidate.to,
+        sums: passed.sums,
+        notes: passed.notes.height(style),
+        pick_demerits: candidate.pick_demerits,
+        kind,
+        until,
+        least: least_of(style, candidate),
+    }
+}
+
 // Of a candidate that is the first of its place.
 fn near_first(style: &Style, first: First, candidate: &Candidate) -> Near
     ensures at { result.at ≡ first.at }
@@ -56,13 +82,8 @@ fn near_first(style: &Style, first: First, candidate: &Candidate) -> Near
         IfSome first.worst (IsWorst style.now (candidate_of candidate.now)) →
         IfSome result.until (IsHopelessFrom (document g style.now) (candidate_of candidate.now)) }
 {
-    Near {
-        at: first.at,
-        notes: candidate.passed.notes.height(style),
-        kind: first.kind,
-        until: until_alone(style, first.kind, first.worst),
-        least: least_of(style, candidate),
-    }
+    let until = until_alone(style, first.kind, first.worst);
+    near_of(style, first.at, first.kind, until, candidate)
 }
 
 // The room from which on the end of a candidate is not needed beside the first one of its place, if one was found.
@@ -98,13 +119,8 @@ fn near_behind(
         IfSome first.worst (IsWorst style.now one) →
         IfSome result.until (IsServedFrom (document g style.now) one (candidate_of candidate.now)) }
 {
-    Near {
-        at,
-        notes: candidate.passed.notes.height(style),
-        kind: first.kind,
-        until: until_behind(style, candidates, first, candidate),
-        least: least_of(style, candidate),
-    }
+    let until = until_behind(style, candidates, first, candidate);
+    near_of(style, at, first.kind, until, candidate)
 }
 
 // Adds what no room changes of the candidate that is told, and answers which is the first of its place.

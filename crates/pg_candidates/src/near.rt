@@ -1,38 +1,48 @@
 //! What the rooms of a place share of its candidates.
-ghost use Rattle.std.specs.Prelude.{◌≡◌, int_lt};
+ghost use Rattle.std.specs.Prelude.{◌≡◌, IfNone, IfSome, [], int_lt};
+ghost use Rattle.pg_candidates.specs.RoomEnds.{picks_at};
 ghost use Rattle.pg_candidates.specs.Nears.{is_needed as is_needed_of};
 
 use crate::candidate::CandidateList;
 use crate::kind::EndKind;
+use crate::room_end::picks_of;
+use pg_list::Place;
+use pg_plan::Picks;
+use pg_sums::Sums;
 use std::marker::Model;
 
-/// What no room changes of a candidate: which one of the list it is, the height of its notes in scaled points, the kind
-/// of its end, the room from which on that end is not needed, if there is one, and the least room worth asking: in none
-/// below it a column to that end keeps the rules.
+/// What no room changes of a candidate, in scaled points: which one of the list it is, where its end is, the sums of what
+/// was passed and the height of its notes, the demerits of its picks, the kind of its end, the room from which on that end
+/// is not needed, if there is one, and the least room for a column to it. All that a room asks stands together here.
 #[derive(Drop)]
 pub struct Near {
     pub at: usize,
+    pub to: Place,
+    pub sums: Sums,
     pub notes: i64,
+    pub pick_demerits: i64,
     pub kind: EndKind,
     pub until: Option<i64>,
     pub least: i64,
 }
 
 impl Model for Near {
-    ghost use Rattle.std.specs.Prelude.{◌<◌, ◌^◌, nat_abs};
-    ghost use Rattle.pg_candidates.specs.Nears.{NearValue};
+    ghost use Rattle.pg_candidates.specs.Nears.{IsWellKept, NearValue};
 
     ghost Value = { NearValue };
 
     ghost view = { λ a. record {
       at = a.at;
+      to = a.to;
+      totals = a.sums.totals;
       notes = a.notes;
+      pick_demerits = a.pick_demerits;
       kind = a.kind;
       until = a.until;
       least = a.least;
     } };
 
-    ghost invariant = { λ a. nat_abs a.notes < 2 ^ 51 };
+    ghost invariant = { λ a. IsWellKept a.notes a.sums.totals a.least };
 }
 
 impl Near {
@@ -67,4 +77,14 @@ impl Model for NearList {
     ghost Value = { NearsValue };
 
     ghost view = { λ a. record { candidates = a.candidates; nears = a.nears.items } };
+}
+
+impl NearList {
+    /// The picks of the candidate with this number, if there is one.
+    pub fn picks_of(&self, at: usize) -> Option<&Picks>
+        ensures some { IfSome result (λ picks. picks.now ≡ picks_at self.now.candidates at) }
+        ensures none { IfNone result (picks_at self.now.candidates at ≡ []) }
+    {
+        picks_of(self.candidates.as_slice(), at)
+    }
 }

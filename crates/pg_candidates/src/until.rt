@@ -1,5 +1,5 @@
 //! The room from which on the end of a candidate is not needed.
-ghost use Rattle.std.specs.Prelude.{◌≡◌, ◌<◌, ◌^◌, ◌≤ℤ◌, ◌<ℤ◌, IfSome, false, nat_abs, true, ℤ};
+ghost use Rattle.std.specs.Prelude.{◌≡◌, ◌<◌, ◌^◌, ◌≤ℤ◌, ◌<ℤ◌, ◌&&◌, IfSome, false, int_le, nat_abs, true, ℤ};
 ghost use Rattle.pg_breaks.specs.Near.{place_spent};
 ghost use Rattle.pg_column.specs.Passed.{fits};
 ghost use Rattle.pg_list.specs.GalleyValue.{GalleyValue};
@@ -88,14 +88,18 @@ pub(crate) fn until_alone(style: &Style, kind: EndKind, worst: Option<i64>) -> O
 // Whether the picks of a candidate cost less than those of another, or the same and are not after them.
 fn is_cheaper(one: &Candidate, other: &Candidate) -> bool
     ensures { result ≡ true →
-        IsCheaper one.now.pick_demerits one.now.picks other.now.pick_demerits other.now.picks }
+        IsCheaper one.now.pick_demerits one.now.picks.value other.now.pick_demerits
+        other.now.picks.value }
 {
     if one.pick_demerits < other.pick_demerits {
         return true;
     }
     one.pick_demerits <= other.pick_demerits
         && !matches!(
-            compare_picks(one.picks.as_slice(), other.picks.as_slice()),
+            compare_picks(
+                one.picks.as_ref().as_slice(),
+                other.picks.as_ref().as_slice()
+            ),
             Ordering::Greater
         )
 }
@@ -104,7 +108,7 @@ fn is_cheaper(one: &Candidate, other: &Candidate) -> bool
 pub(crate) fn greater(a: i64, b: i64) -> i64
     ensures first { a ≤ℤ result }
     ensures second { b ≤ℤ result }
-    ensures below { (z : ℤ) → z <ℤ result → a ≤ℤ z → z <ℤ b }
+    ensures both { (z : ℤ) → int_le result z ≡ (int_le a z && int_le b z) }
 {
     if a < b { b } else { a }
 }
@@ -113,7 +117,7 @@ pub(crate) fn greater(a: i64, b: i64) -> i64
 pub(crate) fn raised(bound: Option<i64>, room: i64) -> i64
     ensures room { room ≤ℤ result }
     ensures fits { fits bound result ≡ true }
-    ensures below { (z : ℤ) → z <ℤ result → fits bound z ≡ true → z <ℤ room }
+    ensures both { (z : ℤ) → int_le result z ≡ (fits bound z && int_le room z) }
 {
     match bound {
         Some(least) => greater(least, room),

@@ -26,6 +26,8 @@ use Rattle.pg_move_laws.specs.Laws.{ListedAreMoves, ReachIsCeiling}
 use Rattle.pg_move_laws.specs.Listed.{beyond, listed_floats, listed_stay, listed_text, stays_on}
 use Rattle.pg_move_laws.specs.Steps.{IsCeiling, text_room}
 use Rattle.pg_laid.specs.Laid.{laid_of}
+use Rattle.pg_candidates.specs.RoomEnds.{ends_of}
+use Rattle.pg_walk_laws.specs.Candidates.{Candidate}
 use Rattle.pg_rooms.specs.PlaceEnds.{ArePlaceEnds, ends_in, has_room}
 use Rattle.pg_rooms.specs.declared.place_ends.PlaceEnds.{PlaceEnds}
 use Rattle.pg_rooms.proofs.Kept.{room_right}
@@ -42,23 +44,28 @@ laid_own doc u layouts it c = of_map (laid_of doc u) layouts it (contains_among 
     (λ layout a e. sym e ∙ ap (λ (x : Laid). laid_of doc u x.layout) e)
 
 pub text_steps_are : (doc : Document) (u : State) (ceiling : List ℕ) (kept : PlaceEnds) (laid : List Laid)
-    (spared : State → ℤ → Bool) (old steps : List (Step State PageMove)) → laid ≡ map (laid_of doc u) (text_layouts doc u ceiling) →
+    (spared : State → ℤ → Bool) (old steps : List (Step State PageMove)) →
+    laid ≡ map (laid_of doc u) (text_layouts doc u ceiling) →
     ((it : Laid) → Contains laid it → has_room kept.rooms.items it.room ≡ true) → ArePlaceEnds doc u.place kept →
-    old ≡ [] → Adds spared old (flat_map (steps_in doc u kept.rooms.items) laid) steps →
+    old ≡ [] → Adds spared old (flat_map (steps_in doc u kept.walk.near.candidates kept.rooms.items) laid) steps →
     AreTextSteps doc u ceiling spared steps
 text_steps_are doc u ceiling kept laid spared old steps e held right none adds = record {
-  ends = λ layout. ends_in kept.rooms.items (text_room doc u layout);
+  ends = λ layout. ends_of cs (ends_in kept.rooms.items (text_room doc u layout));
   are = λ layout c. room_right doc u.place kept (text_room doc u layout) right
       (held (laid_of doc u layout) (subst (λ (xs : List Laid). Contains xs (laid_of doc u layout)) (sym e)
       (among_contains (map (laid_of doc u) (text_layouts doc u ceiling)) (laid_of doc u layout)
       (in_map (laid_of doc u) (text_layouts doc u ceiling) layout
       (contains_among (text_layouts doc u ceiling) layout c)))));
   thins = subst (Thins spared steps)
-      (ap (flat_map (steps_in doc u kept.rooms.items)) e
-      ∙ laid_steps doc u kept.rooms.items (text_layouts doc u ceiling))
-      (subst (λ (these : List (Step State PageMove)). Thins spared these (flat_map (steps_in doc u kept.rooms.items) laid))
+      (ap (flat_map (steps_in doc u cs kept.rooms.items)) e
+      ∙ laid_steps doc u cs kept.rooms.items (text_layouts doc u ceiling))
+      (subst (λ (these : List (Step State PageMove)).
+      Thins spared these (flat_map (steps_in doc u cs kept.rooms.items) laid))
       (sym (adds.is ∙ ap (λ (front : List (Step State PageMove)). front ++ adds.kept) none)) adds.thins);
 }
+  where
+    cs : List Candidate
+    cs = kept.walk.near.candidates
 
 -- the steps of laid columns without text are those that are listed
 laid_stays : (doc : Document) (u : State) (layouts : List Layout) →

@@ -8,7 +8,9 @@ use Rattle.pg_space_laws.specs.PageSpace.{place_rank, rank}
 use Rattle.pg_list.specs.declared.galley.Place.{Place}
 use Rattle.pg_plan.specs.declared.pages.PageMove.{PageMove}
 use Rattle.pg_plan.specs.declared.states.State.{State}
-use Rattle.pg_ends.specs.declared.end.End.{End}
+use Rattle.pg_candidates.specs.RoomEnds.{end_of, picks_at}
+use Rattle.pg_candidates.specs.declared.room_end.RoomEnd.{RoomEnd}
+use Rattle.pg_walk_laws.specs.Candidates.{Candidate}
 use Rattle.pg_rules.specs.Cost.{run_demerits}
 use Rattle.pg_rules.specs.Follow.{fills_page, keeps_run, other_side, turns}
 use Rattle.pg_rules.specs.Room.{Document}
@@ -65,13 +67,13 @@ module _ (doc : Document) (u : State) (laid : Laid) (is : laid ≡ laid_of doc u
       ap (λ (v : State). step v by cost) s ∙ (ap (λ (v : PageMove). step next v cost) m ∙ ap (step next move) p)
 
   -- the step of a column of text to an end
-  pub end_is : (end : End) (settled : Settled) (to : State) (by : PageMove) (cost : ℤ) →
+  pub end_is : (cs : List Candidate) (end : RoomEnd) (settled : Settled) (to : State) (by : PageMove) (cost : ℤ) →
       to ≡ state_behind doc.style u laid end.to (kept_fitness doc.style end.cost.fitness) settled.ages →
-      by ≡ move_of u laid.layout end.to end.picks → cost ≡ cost_at doc.style u laid end settled.price →
-      Settles doc u end.to laid.after (Some settled) → step to by cost ≡ listed_end doc u laid.layout end
-  end_is end settled to by cost s m p settles = same_step to
+      by ≡ move_of u laid.layout end.to (picks_at cs end.at) → cost ≡ cost_at doc.style u laid end settled.price →
+      Settles doc u end.to laid.after (Some settled) → step to by cost ≡ listed_end doc u laid.layout (end_of cs end)
+  end_is cs end settled to by cost s m p settles = same_step to
       (state_to doc u laid.layout end.to (kept_fitness doc.style end.cost.fitness)) by
-      (move_of u laid.layout end.to end.picks) cost _
+      (move_of u laid.layout end.to (picks_at cs end.at)) cost _
       (s ∙ state_is end.to (kept_fitness doc.style end.cost.fitness) settled settles) m
       (p ∙ ap (λ (price : ℤ). (end.cost.demerits +ℤ end.pick_demerits)
       +ℤ (price +ℤ fitness_cost doc.style u.fitness end.cost.fitness)) (price_is end.to settled settles))
@@ -87,14 +89,16 @@ module _ (doc : Document) (u : State) (laid : Laid) (is : laid ≡ laid_of doc u
       (p ∙ ap (λ (price : ℤ). pos doc.style.float_column.demerits +ℤ price) (price_is u.place settled settles))
 
   -- the state that is asked about, and the cost, are those of the step
-  pub asked_is : (end : End) (settled : Settled) (it new : Behind) (cost : ℤ) → new ≡ record it {
-    state = record it.state { place = end.to; fitness = kept_fitness doc.style end.cost.fitness };
-  } → IsBehind doc.style u laid settled it → cost ≡ (end.cost.demerits +ℤ end.pick_demerits)
+  pub asked_is : (cs : List Candidate) (end : RoomEnd) (settled : Settled) (it new : Behind) (cost : ℤ) →
+      new ≡ record it {
+        state = record it.state { place = end.to; fitness = kept_fitness doc.style end.cost.fitness };
+      } → IsBehind doc.style u laid settled it → cost ≡ (end.cost.demerits +ℤ end.pick_demerits)
       +ℤ (it.page +ℤ fitness_cost doc.style u.fitness end.cost.fitness) →
       Settles doc u end.to laid.after (Some settled) →
-      step new.state (move_of u laid.layout end.to end.picks) cost ≡ listed_end doc u laid.layout end
-  asked_is end settled it new cost e b k settles = end_is end settled new.state
-      (move_of u laid.layout end.to end.picks) cost
+      step new.state (move_of u laid.layout end.to (picks_at cs end.at)) cost
+      ≡ listed_end doc u laid.layout (end_of cs end)
+  asked_is cs end settled it new cost e b k settles = end_is cs end settled new.state
+      (move_of u laid.layout end.to (picks_at cs end.at)) cost
       (ap (λ (x : Behind). x.state) e ∙ ap (λ (s : State).
       record s { place = end.to; fitness = kept_fitness doc.style end.cost.fitness }) b.state) refl
       (k ∙ ap (λ (page : ℤ). (end.cost.demerits +ℤ end.pick_demerits)

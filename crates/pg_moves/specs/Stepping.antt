@@ -12,6 +12,9 @@ use Rattle.pg_plan.specs.declared.pages.PageMove.{PageMove}
 use Rattle.pg_rules.specs.Room.{Document}
 use Rattle.pg_table.specs.declared.step.Step.{Step}
 use Rattle.pg_layouts.specs.declared.layout.Layout.{Layout}
+use Rattle.pg_walk_laws.specs.Candidates.{Candidate}
+use Rattle.pg_candidates.specs.RoomEnds.{ends_of}
+use Rattle.pg_candidates.specs.declared.room_end.RoomEnd.{RoomEnd}
 use Rattle.pg_move_laws.specs.Laws.{AreEndsOf}
 use Rattle.pg_move_laws.specs.Listed.{calls_all, column_fits, listed_stay, listed_text, listed_with, stays_on}
 use Rattle.pg_rooms.specs.PlaceEnds.{ends_in}
@@ -42,7 +45,7 @@ page_price style u laid price =
     (if u.column == 1 then run_demerits style laid.layout.run else pos 0) +ℤ pos price
 
 -- what it pays with its text
-abbrev pub cost_at : StyleValue → State → Laid → End → ℕ → ℤ
+abbrev pub cost_at : StyleValue → State → Laid → RoomEnd → ℕ → ℤ
 cost_at style u laid end price =
     (end.cost.demerits +ℤ end.pick_demerits)
     +ℤ (page_price style u laid price +ℤ fitness_cost style u.fitness end.cost.fitness)
@@ -58,14 +61,14 @@ pub record IsBehind (style : StyleValue) (u : State) (laid : Laid) (settled : Se
   pub small : nat_abs it.page ≤ 2 ^ 52
   pub tail : it.tail ≡ rank_tail it.state
 
--- an end before which the floats of a layout are called and none is left too old, and this is left and paid
-abbrev pub IsOpenEnd : Document → State → Laid → Settled → End → Type 0
-IsOpenEnd doc u laid settled end =
-    (calls_all doc end.to laid.after ≡ true) × Settles doc u end.to laid.after (Some settled)
+-- a place before which the floats of a layout are called and none is left too old, and this is left and paid
+abbrev pub IsOpenAt : Document → State → Laid → Settled → Place → Type 0
+IsOpenAt doc u laid settled at =
+    (calls_all doc at laid.after ≡ true) × Settles doc u at laid.after (Some settled)
 
--- the steps to the ends in the room of a layout
-abbrev pub steps_in : Document → State → List RoomEnds → Laid → List (Step State PageMove)
-steps_in doc u rooms it = listed_with doc u (λ layout. ends_in rooms it.room) it.layout
+-- the steps to the ends in the room of a layout, with the picks of these candidates
+abbrev pub steps_in : Document → State → List Candidate → List RoomEnds → Laid → List (Step State PageMove)
+steps_in doc u cs rooms it = listed_with doc u (λ layout. ends_of cs (ends_in rooms it.room)) it.layout
 
 -- the steps of the columns of text with counts up to a ceiling, by the ends of each layout, but for some that are spared
 pub record AreTextSteps (doc : Document) (u : State) (ceiling : List ℕ) (spared : State → ℤ → Bool)

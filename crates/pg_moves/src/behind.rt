@@ -14,7 +14,7 @@ ghost use Rattle.pg_moves.specs.Stepping.{IsBehind, rank_tail};
 
 use crate::steps::{fitness_price, kept_fitness, page_price, state_behind, text_price};
 use pg_areas::total;
-use pg_ends::End;
+use pg_candidates::RoomEnd;
 use pg_laid::Laid;
 use pg_plan::{Side, State};
 use pg_small::SmallState;
@@ -132,7 +132,7 @@ pub(crate) fn first_behind(
 
 impl Behind {
     /// Lets the column end at this end.
-    pub(crate) fn end_at(&mut self, style: &Style, end: &End)
+    pub(crate) fn end_at(&mut self, style: &Style, end: &RoomEnd)
         ensures { self.new ≡ record self.old {
           state = record self.old.state {
             place = end.now.to;
@@ -153,7 +153,7 @@ impl Behind {
     }
 
     /// What the column of text to an end costs.
-    pub(crate) fn cost_to(&self, style: &Style, state: &State, end: &End) -> i128
+    pub(crate) fn cost_to(&self, style: &Style, state: &State, end: &RoomEnd) -> i128
         requires { nat_abs self.now.page ≤ 2 ^ 52 }
         ensures { result ≡ (end.now.cost.demerits +ℤ end.now.pick_demerits)
             +ℤ (self.now.page +ℤ fitness_cost_of style.now state.now.fitness end.now.cost.fitness) }

@@ -1,7 +1,8 @@
 //! The steps to the ends of a layout, group by group.
 ghost use Rattle.std.specs.Prelude.{◌≡◌, take, drop, OnOk};
 ghost use Rattle.std.specs.List.{AllByRecursion};
-ghost use Rattle.pg_ends.specs.declared.end.End.{End as AnEnd};
+ghost use Rattle.pg_candidates.specs.RoomEnds.{ends_of};
+ghost use Rattle.pg_candidates.specs.declared.room_end.RoomEnd.{RoomEnd as ARoomEnd};
 ghost use Rattle.pg_rules.specs.Floats.{called as called_of};
 ghost use Rattle.pg_rules.specs.IsState.{IsState};
 ghost use Rattle.pg_move_laws.specs.Listed.{listed_with};
@@ -12,7 +13,7 @@ ghost use Rattle.pg_waiting.specs.Settling.{known_of};
 ghost use Rattle.pg_moves.specs.Thinned.{Adds};
 
 use crate::steps::add_ends;
-use pg_ends::End;
+use pg_candidates::{NearList, RoomEnd};
 use pg_laid::Laid;
 use pg_plan::State;
 use pg_rooms::Group;
@@ -25,33 +26,35 @@ use std::alloc::AllocError;
 // Adds the wanted steps to ends before each of which the same floats are called.
 fn add_group<W: Wants<State = SmallState>>(
     sources: &Sources<'_>,
+    near: &NearList,
     state: &State,
     known: &Known,
     laid: &Laid,
     called: &[u16],
-    ends: &[End],
+    ends: &[RoomEnd],
     wants: &W,
     steps: &mut StepList<SmallState, SmallMove>,
 ) -> Result<(), AllocError>
     requires own { IsState (doc_of sources.now) state.now }
     requires known { known.now ≡ known_of (doc_of sources.now) state.now }
     requires laid { laid.now ≡ laid_of (doc_of sources.now) state.now laid.now.layout }
-    ensures { OnOk result (AllByRecursion (λ (end : AnEnd).
+    ensures { OnOk result (AllByRecursion (λ (end : ARoomEnd).
         called.now ≡ called_of sources.now.galley.now.blocks sources.now.style.now end.to) ends.now →
         Adds (W.spares wants.now) steps.old
-        (listed_with (doc_of sources.now) state.now (λ layout. ends.now) laid.now.layout) steps.new) }
+        (listed_with (doc_of sources.now) state.now (λ layout. ends_of near.now.candidates ends.now) laid.now.layout)
+        steps.new) }
 {
     if !calls_all(sources, called, laid.after.as_slice()) {
         return Ok(());
     }
     match settle(sources, state, known, called, &laid.after)? {
         None => Ok(()),
-        Some(settled) => add_ends(sources, state, laid, ends, &settled, wants, steps),
+        Some(settled) => add_ends(sources, near, state, laid, ends, &settled, wants, steps),
     }
 }
 
 // The first ends.
-fn first_ends(ends: &[End], count: usize) -> &[End]
+fn first_ends(ends: &[RoomEnd], count: usize) -> &[RoomEnd]
     ensures { result.now ≡ take count ends.now }
 {
     match ends.get(..count) {
@@ -61,7 +64,7 @@ fn first_ends(ends: &[End], count: usize) -> &[End]
 }
 
 // The ends behind the first ones.
-fn later_ends(ends: &[End], count: usize) -> &[End]
+fn later_ends(ends: &[RoomEnd], count: usize) -> &[RoomEnd]
     ensures { result.now ≡ drop count ends.now }
 {
     match ends.get(count..) {
@@ -73,11 +76,12 @@ fn later_ends(ends: &[End], count: usize) -> &[End]
 /// Adds the wanted steps to the ends of a layout at which the column may end.
 pub fn add_groups<W: Wants<State = SmallState>>(
     sources: &Sources<'_>,
+    near: &NearList,
     state: &State,
     known: &Known,
     laid: &Laid,
     groups: &[Group],
-    ends: &[End],
+    ends: &[RoomEnd],
     wants: &W,
     steps: &mut StepList<SmallState, SmallMove>,
 ) -> Result<(), AllocError>
@@ -86,7 +90,8 @@ pub fn add_groups<W: Wants<State = SmallState>>(
     requires laid { laid.now ≡ laid_of (doc_of sources.now) state.now laid.now.layout }
     ensures { OnOk result (AreGroups (doc_of sources.now) groups.now ends.now →
         Adds (W.spares wants.now) steps.old
-        (listed_with (doc_of sources.now) state.now (λ layout. ends.now) laid.now.layout) steps.new) }
+        (listed_with (doc_of sources.now) state.now (λ layout. ends_of near.now.candidates ends.now) laid.now.layout)
+        steps.new) }
 {
     let mut left = groups;
     let mut rest = ends;
@@ -94,6 +99,7 @@ pub fn add_groups<W: Wants<State = SmallState>>(
         let first = first_ends(rest, group.count);
         add_group(
             sources,
+            near,
             state,
             known,
             laid,

@@ -21,7 +21,7 @@ use pg_list::{Galley, Place};
 use pg_move_laws::listed_steps_are_moves;
 use pg_plan::{Counts, State};
 use pg_reach_laws::laws::reach_is_the_greatest;
-use pg_rooms::PlaceEnds;
+use pg_rooms::{Calls, PlaceEnds};
 use pg_small::{SmallMove, SmallState};
 use pg_sources::Sources;
 use pg_table::{EveryMove, Opened, StepList, Wants};
@@ -122,6 +122,6 @@ pub fn open(
 {
     let index = BreakIndex::empty(sources.alloc);
     let walk = walk_place(sources, &index, state.place)?;
-    let mut kept = PlaceEnds::new(sources.alloc, walk);
+    let mut kept = PlaceEnds::new(sources.alloc, walk, Calls::none(sources.alloc));
     open_by(sources, state, &mut kept, &EveryMove::<SmallState>::new())
 }

@@ -7,18 +7,20 @@ ghost use Rattle.pg_rules.specs.Follow.{fills_page as fills_page_of, keeps_run, 
 ghost use Rattle.pg_rules.specs.IsState.{IsState};
 ghost use Rattle.pg_layouts.specs.Layouts.{move_of};
 ghost use Rattle.pg_flat.specs.Flat.{is_same_place};
+ghost use Rattle.pg_candidates.specs.RoomEnds.{ends_of, picks_at};
+ghost use Rattle.pg_candidates.specs.declared.room_end.RoomEnd.{RoomEnd as ARoomEnd};
 ghost use Rattle.pg_move_laws.specs.Listed.{listed_with};
 ghost use Rattle.pg_move_laws.specs.Steps.{fitness_cost as fitness_cost_of, kept_fitness as kept_fitness_of};
 ghost use Rattle.pg_sources.specs.Document.{doc_of};
 ghost use Rattle.pg_laid.specs.Laid.{laid_of};
-ghost use Rattle.pg_moves.specs.Stepping.{IsBehind, IsOpenEnd, page_price as page_price_of, state_behind as state_behind_of};
+ghost use Rattle.pg_moves.specs.Stepping.{IsBehind, IsOpenAt, page_price as page_price_of, state_behind as state_behind_of};
 ghost use Rattle.pg_moves.specs.Thinned.{Adds};
 
 use crate::behind::{Behind, first_behind};
-use pg_ends::End;
+use pg_candidates::{NearList, RoomEnd};
 use pg_laid::Laid;
 use pg_list::Place;
-use pg_plan::{Ages, Side, State};
+use pg_plan::{Ages, Picks, Side, State};
 use pg_small::{SmallMove, SmallState};
 use pg_sources::Sources;
 use pg_style::{Run, Style};
@@ -134,26 +136,44 @@ pub fn state_behind(
     }
 }
 
-// The column of text to an end.
-fn move_to(
+// The column of text to a place, by these picks.
+fn move_by(
     sources: &Sources<'_>,
     state: &State,
     laid: &Laid,
-    end: &End,
+    to: Place,
+    picks: &Picks,
 ) -> Result<SmallMove, AllocError>
-    ensures { IfOk result (λ it. it ≡ move_of state.now laid.now.layout end.now.to end.now.picks) }
+    ensures { IfOk result (λ it. it ≡ move_of state.now laid.now.layout to picks.now) }
 {
     let layout = &laid.layout;
     SmallMove::of(
         sources.alloc,
         state.place,
-        end.to,
+        to,
         layout.run,
         &layout.top,
         &layout.bottom,
         &layout.wide,
-        &end.picks,
+        picks,
     )
+}
+
+// The column of text to an end, by the picks of its candidate.
+fn move_to(
+    sources: &Sources<'_>,
+    near: &NearList,
+    state: &State,
+    laid: &Laid,
+    end: &RoomEnd,
+) -> Result<SmallMove, AllocError>
+    ensures { IfOk result (λ it. it
+        ≡ move_of state.now laid.now.layout end.now.to (picks_at near.now.candidates end.now.at)) }
+{
+    match near.picks_of(end.at) {
+        Some(picks) => move_by(sources, state, laid, end.to, picks),
+        None => move_by(sources, state, laid, end.to, &Picks::new(sources.alloc)),
+    }
 }
 
 /// What a column pays for its page's run and for its floats.
@@ -166,7 +186,7 @@ pub fn page_price(style: &Style, state: &State, laid: &Laid, price: u128) -> i12
 }
 
 /// What the text of a column costs.
-pub(crate) fn text_price(end: &End) -> i128
+pub(crate) fn text_price(end: &RoomEnd) -> i128
     ensures value { result ≡ end.now.cost.demerits +ℤ end.now.pick_demerits }
     ensures size { nat_abs result ≤ 2 ^ 65 }
 {
@@ -182,7 +202,7 @@ pub(crate) fn fitness_price(style: &Style, last: Option<u8>, fitness: u8) -> i12
 }
 
 // Whether an end is where the state is.
-fn ends_here(state: &State, end: &End) -> bool
+fn ends_here(state: &State, end: &RoomEnd) -> bool
     ensures { result ≡ is_same_place state.now.place end.now.to }
 {
     let from = state.place;
@@ -190,48 +210,51 @@ fn ends_here(state: &State, end: &End) -> bool
     from.block == to.block && from.variant == to.variant && from.index == to.index
 }
 
-// The step to an end, behind which there is this state, at this cost.
+// The step to an end, by the picks of its candidate, behind which there is this state, at this cost.
 fn step_to(
     sources: &Sources<'_>,
+    near: &NearList,
     state: &State,
     laid: &Laid,
-    end: &End,
+    end: &RoomEnd,
     next: &SmallState,
     cost: i128,
 ) -> Result<Step<SmallState, SmallMove>, AllocError>
     ensures { IfOk result (λ step. step ≡ record {
       to = next.now;
-      by = move_of state.now laid.now.layout end.now.to end.now.picks;
+      by = move_of state.now laid.now.layout end.now.to (picks_at near.now.candidates end.now.at);
       cost = cost;
     }) }
 {
     Ok(Step {
         to: next.copy(sources.alloc)?,
-        by: move_to(sources, state, laid, end)?,
+        by: move_to(sources, near, state, laid, end)?,
         cost,
     })
 }
 
-// Adds the step to an end, behind which there is this state, at this cost. Few steps that are asked about are made:
-// were this made part of the walk over the ends, each of them would pay for its locals.
+// Adds the step to an end, behind which there is this state, at this cost. Few steps that are asked about are made, and
+// the picks are asked for here alone: were this made part of the walk over the ends, each of them would pay for its
+// locals.
 #[cold]
 #[inline(never)]
 fn push_step(
     sources: &Sources<'_>,
+    near: &NearList,
     state: &State,
     laid: &Laid,
-    end: &End,
+    end: &RoomEnd,
     next: &SmallState,
     cost: i128,
     steps: &mut StepList<SmallState, SmallMove>,
 ) -> Result<(), AllocError>
     ensures { OnOk result (steps.new ≡ steps.old ++ record {
       to = next.now;
-      by = move_of state.now laid.now.layout end.now.to end.now.picks;
+      by = move_of state.now laid.now.layout end.now.to (picks_at near.now.candidates end.now.at);
       cost = cost;
     } ∷ []) }
 {
-    let step = step_to(sources, state, laid, end, next, cost)?;
+    let step = step_to(sources, near, state, laid, end, next, cost)?;
     steps.push(step)?;
     Ok(())
 }
@@ -239,9 +262,10 @@ fn push_step(
 // Adds the step to an end before which the floats of a layout are called and no float is left too old, if it is wanted.
 fn add_end<W: Wants<State = SmallState>>(
     sources: &Sources<'_>,
+    near: &NearList,
     state: &State,
     laid: &Laid,
-    end: &End,
+    end: &RoomEnd,
     settled: &Settled,
     behind: &mut Behind,
     wants: &W,
@@ -250,9 +274,10 @@ fn add_end<W: Wants<State = SmallState>>(
     requires laid { laid.now ≡ laid_of (doc_of sources.now) state.now laid.now.layout }
     requires behind { IsBehind sources.now.style.now state.now laid.now settled.now behind.old }
     ensures behind { OnOk result (IsBehind sources.now.style.now state.now laid.now settled.now behind.new) }
-    ensures added { OnOk result (IsOpenEnd (doc_of sources.now) state.now laid.now settled.now end.now →
+    ensures added { OnOk result (IsOpenAt (doc_of sources.now) state.now laid.now settled.now end.now.to →
         Adds (W.spares wants.now) steps.old
-        (listed_with (doc_of sources.now) state.now (λ layout. end.now ∷ []) laid.now.layout) steps.new) }
+        (listed_with (doc_of sources.now) state.now (λ layout. ends_of near.now.candidates (end.now ∷ []))
+        laid.now.layout) steps.new) }
 {
     if ends_here(state, end) {
         return Ok(());
@@ -262,16 +287,17 @@ fn add_end<W: Wants<State = SmallState>>(
     if !wants.wants(&behind.state, behind.rank(), cost) {
         return Ok(());
     }
-    push_step(sources, state, laid, end, &behind.state, cost, steps)?;
+    push_step(sources, near, state, laid, end, &behind.state, cost, steps)?;
     Ok(())
 }
 
 /// Adds the steps that are wanted to ends before which the floats of a layout are called and no float is left too old.
 pub fn add_ends<W: Wants<State = SmallState>>(
     sources: &Sources<'_>,
+    near: &NearList,
     state: &State,
     laid: &Laid,
-    ends: &[End],
+    ends: &[RoomEnd],
     settled: &Settled,
     wants: &W,
     steps: &mut StepList<SmallState, SmallMove>,
@@ -279,14 +305,17 @@ pub fn add_ends<W: Wants<State = SmallState>>(
     requires own { IsState (doc_of sources.now) state.now }
     requires laid { laid.now ≡ laid_of (doc_of sources.now) state.now laid.now.layout }
     requires price { settled.now.price ≤ 2 ^ 51 }
-    ensures { OnOk result (AllByRecursion (IsOpenEnd (doc_of sources.now) state.now laid.now settled.now) ends.now →
+    ensures { OnOk result (AllByRecursion (λ (end : ARoomEnd).
+        IsOpenAt (doc_of sources.now) state.now laid.now settled.now end.to) ends.now →
         Adds (W.spares wants.now) steps.old
-        (listed_with (doc_of sources.now) state.now (λ layout. ends.now) laid.now.layout) steps.new) }
+        (listed_with (doc_of sources.now) state.now (λ layout. ends_of near.now.candidates ends.now) laid.now.layout)
+        steps.new) }
 {
     let mut behind = first_behind(sources, state, laid, settled)?;
     for end in ends {
         add_end(
             sources,
+            near,
             state,
             laid,
             end,

@@ -35,11 +35,15 @@ fn add_laid<W: Wants<State = SmallState>>(
     requires laid { laid.now ≡ laid_of (doc_of sources.now) state.now laid.now.layout }
     ensures { OnOk result (ArePlaceEnds (doc_of sources.now) state.now.place kept.now →
         Adds (W.spares wants.now) steps.old
-        (steps_in (doc_of sources.now) state.now kept.now.rooms.items laid.now) steps.new) }
+        (steps_in (doc_of sources.now) state.now kept.now.walk.near.candidates kept.now.rooms.items laid.now)
+        steps.new) }
 {
+    let near = &kept.walk.near;
     let groups = kept.groups_in(laid.room);
     let ends = kept.ends_in(laid.room);
-    add_groups(sources, state, known, laid, groups, ends, wants, steps)
+    add_groups(
+        sources, near, state, known, laid, groups, ends, wants, steps,
+    )
 }
 
 /// Adds the wanted steps of columns of text in these layouts, by the ends in their rooms.
@@ -57,7 +61,8 @@ pub fn add_all<W: Wants<State = SmallState>>(
     requires laid { (it : ALaid) → Contains laid.now it → it ≡ laid_of (doc_of sources.now) state.now it.layout }
     ensures { OnOk result (ArePlaceEnds (doc_of sources.now) state.now.place kept.now →
         Adds (W.spares wants.now) steps.old
-        (flat_map (steps_in (doc_of sources.now) state.now kept.now.rooms.items) laid.now) steps.new) }
+        (flat_map (steps_in (doc_of sources.now) state.now kept.now.walk.near.candidates kept.now.rooms.items)
+        laid.now) steps.new) }
 {
     for it in laid {
         add_laid(sources, state, known, it, kept, wants, steps)?;

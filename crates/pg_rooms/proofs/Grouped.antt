@@ -1,13 +1,13 @@
 -- Ends in groups.
-use Rattle.std.proofs.Common.{◌≡◌, sym, ap, subst, ◌∙◌, ℕ, ◌+◌, ◌-◌, ◌≤◌, ◌<◌, suc, arith, true, Bool, get_or}
+use Rattle.std.proofs.Common.{◌≡◌, sym, ap, subst, ◌∙◌, ℕ, ◌+◌, ◌-◌, ◌≤◌, ◌<◌, suc, arith, true, Bool, get_or, pos}
 use Rattle.std.specs.Prelude.{List, [], ◌∷◌, ◌++◌, length, take, drop, ◌==◌, ◌&&◌}
 use Rattle.std.specs.Cmp.{unsigned_Decides}
 use Rattle.std.specs.Cmp.Lexicographic.{pointwise}
 use Rattle.std.specs.List.{AllByRecursion}
 use Rattle.std.proofs.Math.Seq.{take-length}
-use Rattle.std.proofs.lemmas.List.{append_assoc, append-nil, drop_all, length-drop}
+use Rattle.std.proofs.lemmas.List.{append_assoc, append-nil, drop_all, get_or_default, length-drop}
 use Rattle.std.proofs.lemmas.Slice.Eq.{slice_eq-Decides}
-use Rattle.pg_ends.specs.declared.end.End.{End}
+use Rattle.pg_candidates.specs.declared.room_end.RoomEnd.{RoomEnd}
 use Rattle.pg_flat.proofs.Places.{same_place}
 use Rattle.pg_lemmas.proofs.Bools.{both, both_of}
 use Rattle.pg_lemmas.proofs.Lists.{all_append, all_take, no_items, one_more}
@@ -37,18 +37,32 @@ pub all_more : {X : Type 0} (P : X → Type 0) (xs : List X) (i : ℕ) (x : X) �
 all_more P xs i x less is all own =
     subst (AllByRecursion P) (sym (one_more xs i x less is)) (all_append P (take i xs) (x ∷ []) all (own, tt))
 
+-- the same, where the next one is read with any default
+pub all_next : {X : Type 0} (P : X → Type 0) (xs : List X) (i : ℕ) (d : X) → i < length xs →
+    AllByRecursion P (take i xs) → P (get_or xs i d) → AllByRecursion P (take (i + 1) xs)
+all_next P xs i d less = all_more P xs i (get_or xs i d) less (get_or_default xs i d (get_or xs i d) less)
+
+-- with this end as a default the clauses of loops read ends, which are plain numbers
+abbrev pub no_end : RoomEnd
+no_end = record {
+  to = record { block = 0; variant = 0; index = 0 };
+  at = 0;
+  cost = record { goal = pos 0; total = pos 0; badness = 0; fitness = 0; penalty = pos 0; demerits = pos 0 };
+  pick_demerits = pos 0;
+}
+
 -- the first ends are one group more, behind those that were found
-pub one_group : (doc : Document) (groups now : List Group) (ends rest after left : List End) (first : End)
+pub one_group : (doc : Document) (groups now : List Group) (ends rest after left : List RoomEnd) (first : RoomEnd)
     (group : Group) (k : ℕ) →
     ((more : List Group) → AreGroups doc more rest → AreGroups doc (groups ++ more) ends) → rest ≡ first ∷ after →
     group.count ≡ k + 1 → group.called ≡ called doc.blocks doc.style first.to →
-    AllByRecursion (λ (end : End). group.called ≡ called doc.blocks doc.style end.to) (take k after) →
+    AllByRecursion (λ (end : RoomEnd). group.called ≡ called doc.blocks doc.style end.to) (take k after) →
     now ≡ groups ++ group ∷ [] → left ≡ drop k after →
     (more : List Group) → AreGroups doc more left → AreGroups doc (now ++ more) ends
 one_group doc groups now ends rest after left first group k old split count here same push cut more g =
     let next : suc k ≡ group.count = omega (arith, count) in
     let front : AreGroups doc (group ∷ more) (first ∷ after) =
-    subst (λ (n : ℕ). AllByRecursion (λ (end : End). group.called ≡ called doc.blocks doc.style end.to)
+    subst (λ (n : ℕ). AllByRecursion (λ (end : RoomEnd). group.called ≡ called doc.blocks doc.style end.to)
     (take n (first ∷ after)) × AreGroups doc more (drop n (first ∷ after))) next
     ((here, same), subst (AreGroups doc more) cut g) in
     subst (λ (gs : List Group). AreGroups doc gs ends)
@@ -63,8 +77,13 @@ split_first (y ∷ xs) x l e =
     let n : length xs ≡ suc (length xs) - 1 = omega arith in
     ap (λ z. z ∷ xs) (sym e) ∙ ap (λ ys. x ∷ ys) (sym (take-length xs) ∙ ap (λ (k : ℕ). take k xs) n)
 
+-- the same, where it is read with any default
+pub split_read : {X : Type 0} (xs : List X) (d : X) → 1 ≤ length xs →
+    xs ≡ get_or xs 0 d ∷ take (length xs - 1) (drop 1 xs)
+split_read xs d l = split_first xs (get_or xs 0 d) l (get_or_default xs 0 d (get_or xs 0 d) l)
+
 -- no more ends are left than there were
-pub still_few : (ends rest after left : List End) (first : End) (k : ℕ) → rest ≡ first ∷ after →
+pub still_few : (ends rest after left : List RoomEnd) (first : RoomEnd) (k : ℕ) → rest ≡ first ∷ after →
     left ≡ drop k after → length rest ≤ length ends → length left ≤ length ends
 still_few ends rest after left first k split cut few =
     let all = ap length split in
@@ -72,27 +91,27 @@ still_few ends rest after left first k split cut few =
     omega (arith, all, behind, few)
 
 -- no end is left
-pub all_grouped : (doc : Document) (groups : List Group) (ends rest : List End) →
+pub all_grouped : (doc : Document) (groups : List Group) (ends rest : List RoomEnd) →
     ((more : List Group) → AreGroups doc more rest → AreGroups doc (groups ++ more) ends) → length rest ≡ 0 →
     AreGroups doc groups ends
 all_grouped doc groups ends rest old none =
     subst (λ (gs : List Group). AreGroups doc gs ends) (append-nil groups) (old [] (no_items rest none))
 
 -- all ends are one group, where no class is of floats
-pub group_of_all : (doc : Document) (old now : List Group) (ends : List End) (group : Group) →
+pub group_of_all : (doc : Document) (old now : List Group) (ends : List RoomEnd) (group : Group) →
     length (float_numbers doc.style) ≡ 0 → group.called ≡ [] → group.count ≡ length ends → old ≡ [] →
     now ≡ old ++ group ∷ [] → AreGroups doc now ends
 group_of_all doc old now ends group none nothing count new push =
-    let all = subst (λ (counts : List ℕ). AllByRecursion (λ (end : End).
+    let all = subst (λ (counts : List ℕ). AllByRecursion (λ (end : RoomEnd).
     counts ≡ called doc.blocks doc.style end.to) ends) (sym nothing) (none_called doc ends none) in
     let few : length ends ≤ group.count = omega (arith, count) in
     subst (λ (groups : List Group). AreGroups doc groups ends)
     (sym (push ∙ ap (λ (groups : List Group). groups ++ group ∷ []) new)) (
-      all_take (λ (end : End). group.called ≡ called doc.blocks doc.style end.to) group.count ends all,
+      all_take (λ (end : RoomEnd). group.called ≡ called doc.blocks doc.style end.to) group.count ends all,
       drop_all group.count ends few,
     )
 
 -- no group is there where there are no ends
-pub no_groups : (doc : Document) (groups : List Group) (ends : List End) → groups ≡ [] → length ends ≡ 0 →
+pub no_groups : (doc : Document) (groups : List Group) (ends : List RoomEnd) → groups ≡ [] → length ends ≡ 0 →
     AreGroups doc groups ends
 no_groups doc groups ends new none = subst (λ (found : List Group). AreGroups doc found ends) (sym new) (no_items ends none)

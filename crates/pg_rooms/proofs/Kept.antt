@@ -6,20 +6,21 @@ use Rattle.std.specs.Ordering.{int_eq}
 use Rattle.std.proofs.Math.Seq.{take-length}
 use Rattle.std.proofs.lemmas.Bool.Decides.{Decides-int_eq}
 use Rattle.pg_ends.specs.Ends.{AreEnds}
-use Rattle.pg_ends.specs.declared.end.End.{End}
 use Rattle.pg_lemmas.proofs.Bools.{by_bool, if_false, if_true}
 use Rattle.pg_lemmas.proofs.Lists.{all_append, none_among}
 use Rattle.pg_laid.specs.declared.laid.Laid.{Laid}
 use Rattle.pg_list.specs.declared.galley.Place.{Place}
 use Rattle.pg_rules.specs.Room.{Document}
 use Rattle.pg_walk.specs.declared.place.PlaceWalk.{PlaceWalk}
+use Rattle.pg_walk_laws.specs.Candidates.{Candidate}
 use Rattle.pg_walk_laws.specs.Reached.{tallest}
 use Rattle.pg_candidates.specs.Nears.{AreNearFrom}
-use Rattle.pg_rooms.proofs.Called.{no_calls}
+use Rattle.pg_candidates.specs.RoomEnds.{ends_of}
+use Rattle.pg_candidates.specs.declared.room_end.RoomEnd.{RoomEnd}
 use Rattle.pg_rooms.proofs.Grouped.{all_more}
 use Rattle.pg_rooms.specs.Calls.{AreCalls}
 use Rattle.pg_rooms.specs.PlaceEnds.{AreGroups, ArePlaceEnds, AreRoomEnds, ends_in, groups_in, has_room}
-use Rattle.pg_rooms.specs.declared.calls.Call.{Call}
+use Rattle.pg_rooms.specs.declared.calls.Calls.{Calls}
 use Rattle.pg_rooms.specs.declared.grouping.Group.{Group}
 use Rattle.pg_rooms.specs.declared.place_ends.PlaceEnds.{PlaceEnds}
 use Rattle.pg_rooms.specs.declared.place_ends.RoomEnds.{RoomEnds}
@@ -60,10 +61,11 @@ has_still rooms now it room push h =
     subst (λ (xs : List RoomEnds). has_room xs room ≡ true) (sym push) (has_front rooms (it ∷ []) room h)
 
 -- with it all ends are right
-pub rooms_added : (doc : Document) (from : Place) (old now : List RoomEnds) (it : RoomEnds) → now ≡ old ++ it ∷ [] →
-    AllByRecursion (AreRoomEnds doc from) old → AreRoomEnds doc from it → AllByRecursion (AreRoomEnds doc from) now
-rooms_added doc from old now it push are own = subst (AllByRecursion (AreRoomEnds doc from)) (sym push)
-    (all_append (AreRoomEnds doc from) old (it ∷ []) are (own, tt))
+pub rooms_added : (doc : Document) (from : Place) (cs : List Candidate) (old now : List RoomEnds) (it : RoomEnds) →
+    now ≡ old ++ it ∷ [] → AllByRecursion (AreRoomEnds doc from cs) old → AreRoomEnds doc from cs it →
+    AllByRecursion (AreRoomEnds doc from cs) now
+rooms_added doc from cs old now it push are own = subst (AllByRecursion (AreRoomEnds doc from cs)) (sym push)
+    (all_append (AreRoomEnds doc from cs) old (it ∷ []) are (own, tt))
 
 -- ---- the rooms of layouts
 
@@ -97,28 +99,36 @@ has_each rooms laid i done all it c = all_contain (λ (x : Laid). has_room rooms
 
 -- ---- for callers
 
--- a walk with no room asked for is kept of its place
-pub begun : (doc : Document) (from : Place) (it : PlaceEnds) (walk : PlaceWalk) → it.walk ≡ walk →
-    it.rooms.items ≡ [] → it.calls.items.items ≡ [] → AreNearFrom doc from (tallest doc.style) walk.near →
-    ArePlaceEnds doc from it
-begun doc from it walk w r k near = record {
+-- a walk with no room asked for is kept of its place, with the calls of any places
+pub begun : (doc : Document) (from : Place) (it : PlaceEnds) (walk : PlaceWalk) (calls : Calls) → it.walk ≡ walk →
+    it.rooms.items ≡ [] → it.calls ≡ calls → AreNearFrom doc from (tallest doc.style) walk.near →
+    AreCalls doc calls.items.items → ArePlaceEnds doc from it
+begun doc from it walk calls w r k near are = record {
   near = subst (λ (x : PlaceWalk). AreNearFrom doc from (tallest doc.style) x.near) (sym w) near;
-  rooms = subst (AllByRecursion (AreRoomEnds doc from)) (sym r) tt;
-  calls = subst (λ (calls : List Call). AreCalls doc calls) (sym k) (no_calls doc);
+  rooms = subst (AllByRecursion (AreRoomEnds doc from it.walk.near.candidates)) (sym r) tt;
+  calls = subst (λ (kept : Calls). AreCalls doc kept.items.items) (sym k) are;
 }
 
 -- the ends in a room that is kept
 pub room_right : (doc : Document) (from : Place) (it : PlaceEnds) (room : ℤ) → ArePlaceEnds doc from it →
-    has_room it.rooms.items room ≡ true → AreEnds doc from room (ends_in it.rooms.items room)
+    has_room it.rooms.items room ≡ true →
+    AreEnds doc from room (ends_of it.walk.near.candidates (ends_in it.rooms.items room))
 room_right doc from it room are h = by it.rooms.items are.rooms h
   where
-    by : (rooms : List RoomEnds) → AllByRecursion (AreRoomEnds doc from) rooms → has_room rooms room ≡ true →
-        AreEnds doc from room (ends_in rooms room)
+    cs : List Candidate
+    cs = it.walk.near.candidates
+
+    AreOf : List RoomEnd → Type 0
+    AreOf ends = AreEnds doc from room (ends_of cs ends)
+
+    by : (rooms : List RoomEnds) → AllByRecursion (AreRoomEnds doc from cs) rooms → has_room rooms room ≡ true →
+        AreOf (ends_in rooms room)
     by [] all h = absurd cc
     by (first ∷ rooms) all h = by_bool (int_eq first.room room)
-        (λ t. subst (AreEnds doc from room) (sym (if_true (int_eq first.room room) first.ends (ends_in rooms room) t))
-        (subst (λ (z : ℤ). AreEnds doc from z first.ends) ((Decides-int_eq first.room room).0 t) all.0.ends))
-        (λ f. subst (AreEnds doc from room) (sym (if_false (int_eq first.room room) first.ends (ends_in rooms room) f))
+        (λ t. subst AreOf (sym (if_true (int_eq first.room room) first.ends.items (ends_in rooms room) t))
+        (subst (λ (z : ℤ). AreEnds doc from z (ends_of cs first.ends.items)) ((Decides-int_eq first.room room).0 t)
+        all.0.ends))
+        (λ f. subst AreOf (sym (if_false (int_eq first.room room) first.ends.items (ends_in rooms room) f))
         (by rooms all.1 (sym (if_false (int_eq first.room room) true (has_room rooms room) f) ∙ h)))
 
 -- their groups, also where it is not
@@ -126,15 +136,15 @@ pub groups_right : (doc : Document) (from : Place) (it : PlaceEnds) (room : ℤ)
     AreGroups doc (groups_in it.rooms.items room) (ends_in it.rooms.items room)
 groups_right doc from it room are = by it.rooms.items are.rooms
   where
-    either : (b : Bool) (gs hs : List Group) (xs ys : List End) → AreGroups doc gs xs → AreGroups doc hs ys →
+    either : (b : Bool) (gs hs : List Group) (xs ys : List RoomEnd) → AreGroups doc gs xs → AreGroups doc hs ys →
         AreGroups doc (if b then gs else hs) (if b then xs else ys)
     either true gs hs xs ys p q = p
     either false gs hs xs ys p q = q
 
-    by : (rooms : List RoomEnds) → AllByRecursion (AreRoomEnds doc from) rooms →
+    by : (rooms : List RoomEnds) → AllByRecursion (AreRoomEnds doc from it.walk.near.candidates) rooms →
         AreGroups doc (groups_in rooms room) (ends_in rooms room)
     by [] all = refl
-    by (first ∷ rooms) all = either (int_eq first.room room) first.groups.items (groups_in rooms room) first.ends
+    by (first ∷ rooms) all = either (int_eq first.room room) first.groups.items (groups_in rooms room) first.ends.items
         (ends_in rooms room) all.0.groups (by rooms all.1)
 
 -- two clauses of an answer as one

@@ -4,32 +4,34 @@ use Rattle.std.specs.List.{AllByRecursion}
 use Rattle.std.specs.Ordering.{int_eq}
 use Rattle.pg_list.specs.declared.galley.Place.{Place}
 use Rattle.pg_ends.specs.Ends.{AreEnds}
-use Rattle.pg_ends.specs.declared.end.End.{End}
 use Rattle.pg_rules.specs.Floats.{called}
 use Rattle.pg_rules.specs.Room.{Document}
+use Rattle.pg_walk_laws.specs.Candidates.{Candidate}
 use Rattle.pg_walk_laws.specs.Reached.{tallest}
 use Rattle.pg_candidates.specs.Nears.{AreNearFrom}
+use Rattle.pg_candidates.specs.RoomEnds.{ends_of}
+use Rattle.pg_candidates.specs.declared.room_end.RoomEnd.{RoomEnd}
 use Rattle.pg_rooms.specs.Calls.{AreCalls}
 use Rattle.pg_rooms.specs.declared.grouping.Group.{Group}
 use Rattle.pg_rooms.specs.declared.place_ends.PlaceEnds.{PlaceEnds}
 use Rattle.pg_rooms.specs.declared.place_ends.RoomEnds.{RoomEnds}
 
 -- groups of ends that follow one another: before each end of a group its floats of each class are called
-abbrev pub AreGroups : Document → List Group → List End → Type 0
+abbrev pub AreGroups : Document → List Group → List RoomEnd → Type 0
 AreGroups doc [] ends = ends ≡ []
 AreGroups doc (group ∷ groups) ends =
-    AllByRecursion (λ (end : End). group.called ≡ called doc.blocks doc.style end.to) (take group.count ends)
+    AllByRecursion (λ (end : RoomEnd). group.called ≡ called doc.blocks doc.style end.to) (take group.count ends)
     × AreGroups doc groups (drop group.count ends)
 
--- all ends in one room, and their groups
-pub record AreRoomEnds (doc : Document) (from : Place) (it : RoomEnds) : Type 0 where
-  pub ends : AreEnds doc from it.room it.ends
-  pub groups : AreGroups doc it.groups.items it.ends
+-- all ends in one room, of these candidates, and their groups
+pub record AreRoomEnds (doc : Document) (from : Place) (cs : List Candidate) (it : RoomEnds) : Type 0 where
+  pub ends : AreEnds doc from it.room (ends_of cs it.ends.items)
+  pub groups : AreGroups doc it.groups.items it.ends.items
 
 -- what a place keeps: its candidates, the ends in some rooms, and what is called before them
 pub record ArePlaceEnds (doc : Document) (from : Place) (it : PlaceEnds) : Type 0 where
   pub near : AreNearFrom doc from (tallest doc.style) it.walk.near
-  pub rooms : AllByRecursion (AreRoomEnds doc from) it.rooms.items
+  pub rooms : AllByRecursion (AreRoomEnds doc from it.walk.near.candidates) it.rooms.items
   pub calls : AreCalls doc it.calls.items.items
 
 -- a room is among these
@@ -38,9 +40,9 @@ has_room [] room = false
 has_room (first ∷ rooms) room = if int_eq first.room room then true else has_room rooms room
 
 -- the ends in a room, where they are kept
-abbrev pub ends_in : List RoomEnds → ℤ → List End
+abbrev pub ends_in : List RoomEnds → ℤ → List RoomEnd
 ends_in [] room = []
-ends_in (first ∷ rooms) room = if int_eq first.room room then first.ends else ends_in rooms room
+ends_in (first ∷ rooms) room = if int_eq first.room room then first.ends.items else ends_in rooms room
 
 -- and their groups
 abbrev pub groups_in : List RoomEnds → ℤ → List Group

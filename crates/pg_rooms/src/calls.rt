@@ -1,5 +1,5 @@
 //! What is called before the places at which columns end, worked out once for each of them.
-ghost use Rattle.std.specs.Prelude.{◌≡◌, ◌≤◌, length, true, Contains, IfOk, IfSome, OnOk};
+ghost use Rattle.std.specs.Prelude.{◌≡◌, ◌≤◌, [], length, true, Contains, IfOk, IfSome, OnOk};
 ghost use Rattle.pg_rules.specs.Floats.{called};
 ghost use Rattle.pg_rules.specs.Room.{Document};
 ghost use Rattle.pg_sources.specs.Document.{doc_of};
@@ -8,7 +8,7 @@ ghost use Rattle.pg_rooms.specs.Calls.{AreCalls, IsLike};
 use pg_list::Place;
 use pg_plan::{Counts, compare_places};
 use pg_sources::Sources;
-use std::alloc::AllocError;
+use std::alloc::{AllocError, Global};
 use std::cmp::Ordering;
 
 /// A place, and one before which the same floats are called. Neighbours with the same floats before them share it.
@@ -25,6 +25,18 @@ pub struct Calls {
     pub at: usize,
 }
 
+impl Calls {
+    /// No calls. No memory is taken.
+    pub fn none(alloc: Global) -> Calls
+        ensures { result.items.items ≡ [] }
+    {
+        Calls {
+            items: Vec::new(alloc),
+            at: 0,
+        }
+    }
+}
+
 /// Whether two places are one.
 pub(crate) fn is_same(a: Place, b: Place) -> bool
     ensures { result ≡ true → a ≡ b }
@@ -35,6 +47,11 @@ pub(crate) fn is_same(a: Place, b: Place) -> bool
 // Whether a call is of a place before another.
 fn is_before(call: &Call, place: &Place) -> bool {
     matches!(compare_places(&call.at, place), Ordering::Less)
+}
+
+/// The first of calls in order that is not of a place before this one.
+pub(crate) fn first_from(calls: &[Call], place: &Place) -> usize {
+    calls.partition_point(|call| is_before(call, place))
 }
 
 // The first of the calls from an index on that is not of a place before this one.

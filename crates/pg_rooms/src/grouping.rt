@@ -1,14 +1,14 @@
 //! Ends in groups before which the same floats are called.
 ghost use Rattle.std.specs.Prelude.{◌≡◌, ◌≤◌, true, IfOk, OnOk, length, take};
 ghost use Rattle.std.specs.List.{AllByRecursion};
-ghost use Rattle.pg_ends.specs.declared.end.End.{End as AnEnd};
+ghost use Rattle.pg_candidates.specs.declared.room_end.RoomEnd.{RoomEnd as ARoomEnd};
 ghost use Rattle.pg_rules.specs.Floats.{called, float_numbers};
 ghost use Rattle.pg_sources.specs.Document.{doc_of};
 ghost use Rattle.pg_rooms.specs.Calls.{AreCalls, IsLike};
 ghost use Rattle.pg_rooms.specs.PlaceEnds.{AreGroups};
 
-use crate::calls::{Calls, is_same, like_beside, like_of};
-use pg_ends::End;
+use crate::calls::{Call, Calls, first_from, is_same, like_beside, like_of};
+use pg_candidates::RoomEnd;
 use pg_list::Place;
 use pg_plan::Counts;
 use pg_sources::Sources;
@@ -28,11 +28,11 @@ fn count_same(
     calls: &mut Calls,
     counts: &Counts,
     like: Place,
-    ends: &[End],
+    ends: &[RoomEnd],
 ) -> Result<usize, AllocError>
     requires { counts.now ≡ called sources.now.galley.now.blocks sources.now.style.now like }
     ensures same { IfOk result (λ count. AreCalls (doc_of sources.now) calls.old.items.items →
-        AllByRecursion (λ (end : AnEnd). IsLike (doc_of sources.now) like end.to) (take count ends.now)) }
+        AllByRecursion (λ (end : ARoomEnd). IsLike (doc_of sources.now) like end.to) (take count ends.now)) }
     ensures calls { OnOk result (AreCalls (doc_of sources.now) calls.old.items.items →
         AreCalls (doc_of sources.now) calls.new.items.items) }
     ensures few { IfOk result (λ count. count ≤ length ends.now) }
@@ -56,7 +56,7 @@ fn has_no_class(slots: usize) -> bool
 }
 
 // All ends as one group, where the style has no class of floats. No group where there are no ends.
-fn group_all(sources: &Sources<'_>, ends: &[End]) -> Result<Vec<Group>, AllocError>
+fn group_all(sources: &Sources<'_>, ends: &[RoomEnd]) -> Result<Vec<Group>, AllocError>
     requires { length (float_numbers sources.now.style.now) ≡ 0 }
     ensures { IfOk result (λ groups. AreGroups (doc_of sources.now) groups.items ends.now) }
 {
@@ -71,13 +71,21 @@ fn group_all(sources: &Sources<'_>, ends: &[End]) -> Result<Vec<Group>, AllocErr
     Ok(groups)
 }
 
+// The first of calls in order that is not of a place before all of these ends.
+fn first_call(calls: &[Call], ends: &[RoomEnd]) -> usize {
+    match ends.first() {
+        Some(end) => first_from(calls, &end.to),
+        None => 0,
+    }
+}
+
 /// Ends in groups: as many as follow one another with the same floats called before them are one. What is called before
 /// them is kept, but where the style has no class of floats: all ends are then one group, and nothing is counted. The
 /// one refusal is want of memory.
 pub(crate) fn group_ends(
     sources: &Sources<'_>,
     calls: &mut Calls,
-    ends: &[End],
+    ends: &[RoomEnd],
 ) -> Result<Vec<Group>, AllocError>
     ensures groups { IfOk result (λ groups. AreCalls (doc_of sources.now) calls.old.items.items →
         AreGroups (doc_of sources.now) groups.items ends.now) }
@@ -89,7 +97,7 @@ pub(crate) fn group_ends(
     }
     let mut groups = Vec::new(sources.alloc);
     let mut rest = ends;
-    calls.at = 0;
+    calls.at = first_call(calls.items.as_slice(), ends);
     'groups: while let [first, after @ ..] = rest {
         let like = like_of(sources, calls, first.to)?;
         let called = sources.called(like)?;

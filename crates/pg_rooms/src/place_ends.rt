@@ -12,18 +12,17 @@ ghost use Rattle.pg_rooms.specs.PlaceEnds.{ArePlaceEnds, AreRoomEnds, ends_in, g
 
 use crate::calls::Calls;
 use crate::grouping::{Group, group_ends};
-use pg_candidates::NearList;
-use pg_ends::{End, EndList};
+use pg_candidates::{NearList, RoomEnd};
 use pg_laid::Laid;
 use pg_sources::Sources;
 use pg_walk::PlaceWalk;
 use std::alloc::{AllocError, Global};
 
-/// The ends in a room in scaled points, and their groups.
+/// The ends in a room in scaled points, of the candidates of a place, and their groups.
 #[derive(Drop)]
 pub struct RoomEnds {
     pub room: i64,
-    pub ends: EndList,
+    pub ends: Vec<RoomEnd>,
     pub groups: Vec<Group>,
 }
 
@@ -47,7 +46,7 @@ pub struct PlaceEnds {
 // What is kept of a room.
 fn kept(rooms: &[RoomEnds], room: i64) -> Option<&RoomEnds>
     ensures has { has_room rooms.now room ≡ is_some result }
-    ensures ends { MatchOption result (ends_in rooms.now room ≡ []) (λ it. ends_in rooms.now room ≡ it.now.ends) }
+    ensures ends { MatchOption result (ends_in rooms.now room ≡ []) (λ it. ends_in rooms.now room ≡ it.now.ends.items) }
     ensures groups { MatchOption result (groups_in rooms.now room ≡ [])
         (λ it. groups_in rooms.now room ≡ it.now.groups.items) }
 {
@@ -73,11 +72,11 @@ fn room_ends(
     ensures right { IfOk result (λ it. (from : APlace) →
         AreNearFrom (doc_of sources.now) from (tallest sources.now.style.now) near.now →
         room ≤ℤ tallest sources.now.style.now → AreCalls (doc_of sources.now) calls.old.items.items →
-        AreRoomEnds (doc_of sources.now) from it) }
+        AreRoomEnds (doc_of sources.now) from near.now.candidates it) }
     ensures calls { OnOk result (AreCalls (doc_of sources.now) calls.old.items.items →
         AreCalls (doc_of sources.now) calls.new.items.items) }
 {
-    let ends = near.ends_in(sources.alloc, sources.galley, sources.style, room)?;
+    let ends = near.room_ends(sources.alloc, sources.galley, sources.style, room)?;
     let groups = group_ends(sources, calls, ends.as_slice())?;
     Ok(RoomEnds { room, ends, groups })
 }
@@ -97,8 +96,8 @@ fn add_room(
     ensures right { OnOk result ((from : APlace) →
         AreNearFrom (doc_of sources.now) from (tallest sources.now.style.now) near.now →
         room ≤ℤ tallest sources.now.style.now → AreCalls (doc_of sources.now) calls.old.items.items →
-        AllByRecursion (AreRoomEnds (doc_of sources.now) from) rooms.old.items →
-        AllByRecursion (AreRoomEnds (doc_of sources.now) from) rooms.new.items) }
+        AllByRecursion (AreRoomEnds (doc_of sources.now) from near.now.candidates) rooms.old.items →
+        AllByRecursion (AreRoomEnds (doc_of sources.now) from near.now.candidates) rooms.new.items) }
     ensures calls { OnOk result (AreCalls (doc_of sources.now) calls.old.items.items →
         AreCalls (doc_of sources.now) calls.new.items.items) }
 {
@@ -124,8 +123,8 @@ fn add_rooms(
         AreNearFrom (doc_of sources.now) from (tallest sources.now.style.now) near.now →
         AllByRecursion (λ (it : ALaid). it.room ≤ℤ tallest sources.now.style.now) laid.now →
         AreCalls (doc_of sources.now) calls.old.items.items →
-        AllByRecursion (AreRoomEnds (doc_of sources.now) from) rooms.old.items →
-        AllByRecursion (AreRoomEnds (doc_of sources.now) from) rooms.new.items) }
+        AllByRecursion (AreRoomEnds (doc_of sources.now) from near.now.candidates) rooms.old.items →
+        AllByRecursion (AreRoomEnds (doc_of sources.now) from near.now.candidates) rooms.new.items) }
     ensures calls { OnOk result (AreCalls (doc_of sources.now) calls.old.items.items →
         AreCalls (doc_of sources.now) calls.new.items.items) }
 {
@@ -136,19 +135,16 @@ fn add_rooms(
 }
 
 impl PlaceEnds {
-    /// A walk, with no room asked for. No memory is taken.
-    pub fn new(alloc: Global, walk: PlaceWalk) -> PlaceEnds
+    /// A walk, with no room asked for, and calls of any places. No memory is taken.
+    pub fn new(alloc: Global, walk: PlaceWalk, calls: Calls) -> PlaceEnds
         ensures walk { result.walk ≡ walk }
         ensures rooms { result.rooms.items ≡ [] }
-        ensures calls { result.calls.items.items ≡ [] }
+        ensures calls { result.calls ≡ calls }
     {
         PlaceEnds {
             walk,
             rooms: Vec::new(alloc),
-            calls: Calls {
-                items: Vec::new(alloc),
-                at: 0,
-            },
+            calls,
         }
     }
 
@@ -173,7 +169,7 @@ impl PlaceEnds {
     }
 
     /// The ends in a room of so many scaled points, and none where they are not kept.
-    pub fn ends_in(&self, room: i64) -> &[End]
+    pub fn ends_in(&self, room: i64) -> &[RoomEnd]
         ensures { result.now ≡ ends_in self.now.rooms.items room }
     {
         match kept(self.rooms.as_slice(), room) {

@@ -1,1 +1,2 @@
 mod PickSteps
+pub mod FewAges

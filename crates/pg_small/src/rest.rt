@@ -1,5 +1,5 @@
 //! What a state holds beside numbers: a wide area, counts and ages.
-ghost use Rattle.std.specs.Prelude.{◌≡◌, IfOk, IfSome, None, take};
+ghost use Rattle.std.specs.Prelude.{◌≡◌, ◌<◌, ◌≤◌, ℕ, IfOk, IfSome, None, get_or, length, take, true};
 ghost use Rattle.pg_small.specs.Seen.{wide_kept, placed_kept, ages_kept};
 
 use crate::lists::{few_ages, few_counts, first_bytes, first_counts};
@@ -72,6 +72,21 @@ fn copy_many(alloc: Global, many: &ManyRest) -> Result<Rest, AllocError>
     many_rest(alloc, many.wide, many.placed.copy()?, many.ages.copy()?)
 }
 
+// Whether the counts are told to be the same by all bytes, those that are none of the list too.
+fn has_same_bytes(a: &FewRest, b: &FewRest) -> bool
+    ensures { result ≡ true → take a.now.count a.now.placed ≡ take b.now.count b.now.placed }
+{
+    a.count == b.count && a.placed == b.placed
+}
+
+// Whether no byte of these ages, those too that are none of the list, is greater than the other's.
+fn are_no_greater(a: &[u8; 6], b: &[u8; 6]) -> bool
+    ensures six { (length a.now ≡ 6) × (length b.now ≡ 6) }
+    ensures each { result ≡ true → (i : ℕ) → i < 6 → get_or a.now i 0 ≤ get_or b.now i 0 }
+{
+    (a[0] <= b[0] && a[1] <= b[1] && a[2] <= b[2]) && (a[3] <= b[3] && a[4] <= b[4] && a[5] <= b[5])
+}
+
 impl Rest {
     pub(crate) fn of(
         alloc: Global,
@@ -124,6 +139,30 @@ impl Rest {
         match self {
             Rest::Few(few) => first_bytes(&few.ages, few.waiting),
             Rest::Many(many) => many.ages.as_slice(),
+        }
+    }
+
+    // Whether the counts are the same, as far as few bytes tell.
+    pub(crate) fn has_surely_same_placed(&self, other: &Rest) -> bool
+        ensures { result ≡ true → placed_kept self.now ≡ placed_kept other.now }
+    {
+        match (self, other) {
+            (Rest::Few(own), Rest::Few(its)) => has_same_bytes(own, its),
+            _ => false,
+        }
+    }
+
+    // Whether there are as many ages and none is greater than the other's, as far as few bytes tell.
+    pub(crate) fn has_surely_no_older(&self, other: &Rest) -> bool
+        ensures long { result ≡ true → length (ages_kept self.now) ≡ length (ages_kept other.now) }
+        ensures young { result ≡ true → (i : ℕ) → i < length (ages_kept self.now) →
+            get_or (ages_kept self.now) i 0 ≤ get_or (ages_kept other.now) i 0 }
+    {
+        match (self, other) {
+            (Rest::Few(own), Rest::Few(its)) => {
+                own.waiting == its.waiting && are_no_greater(&own.ages, &its.ages)
+            }
+            _ => false,
         }
     }
 }

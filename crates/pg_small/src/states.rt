@@ -1,5 +1,5 @@
 //! States in few bytes.
-ghost use Rattle.std.specs.Prelude.{◌≡◌, IfOk};
+ghost use Rattle.std.specs.Prelude.{◌≡◌, ◌<◌, ◌≤◌, ℕ, IfOk, get_or, length, true};
 
 use crate::lists::{ages_from, counts_from};
 use crate::rest::Rest;
@@ -159,6 +159,23 @@ impl SmallState {
         ensures { result.now ≡ self.now.ages }
     {
         self.rest.ages()
+    }
+
+    /// Whether as many floats of each class are placed in another state, as far as few bytes tell: a no proves nothing.
+    pub fn has_surely_same_placed(&self, other: &SmallState) -> bool
+        ensures { result ≡ true → self.now.placed ≡ other.now.placed }
+    {
+        self.rest.has_surely_same_placed(&other.rest)
+    }
+
+    /// Whether there are as many ages as in another state and none is greater, as far as few bytes tell: a no proves
+    /// nothing.
+    pub fn has_surely_no_older(&self, other: &SmallState) -> bool
+        ensures long { result ≡ true → length self.now.ages ≡ length other.now.ages }
+        ensures young { result ≡ true → (i : ℕ) → i < length self.now.ages →
+            get_or self.now.ages i 0 ≤ get_or other.now.ages i 0 }
+    {
+        self.rest.has_surely_no_older(&other.rest)
     }
 
     /// Lets the column before it end at a place, with a fitness. No memory is taken.

@@ -1,4 +1,5 @@
-//! The space of pages of one document, which keeps the walk of the place that was opened last.
+//! The space of pages of one document, which keeps the walk of the place that was opened last, and what is called before
+//! all ends.
 ghost use Rattle.std.specs.Prelude.{◌≡◌, [], pos, IfOk};
 ghost use Rattle.pg_floats.specs.AreFloats.{AreFloats};
 ghost use Rattle.pg_hops.specs.Index.{AreHops};
@@ -6,6 +7,7 @@ ghost use Rattle.pg_hops.specs.OneProof.{AreHops_prop};
 ghost use Rattle.pg_list.specs.GalleyValue.{GalleyValue};
 ghost use Rattle.pg_sources.specs.Document.{doc_of};
 ghost use Rattle.pg_reach_laws.specs.ReachAt.{reach_at};
+ghost use Rattle.pg_rooms.specs.Calls.{AreCalls};
 ghost use Rattle.pg_rooms.specs.PlaceEnds.{ArePlaceEnds};
 ghost use Rattle.pg_rules.specs.IsState.{IsPlace, IsState};
 ghost use Rattle.pg_rules.specs.Legal.{document};
@@ -21,7 +23,7 @@ use pg_hops::BreakIndex;
 use pg_list::{Galley, Place};
 use pg_moves::{open_by, walk_place};
 use pg_plan::{PageKey, State};
-use pg_rooms::PlaceEnds;
+use pg_rooms::{Calls, PlaceEnds};
 use pg_small::{SmallMove, SmallState};
 use pg_states::no_worse;
 use pg_steps::Steps;
@@ -56,6 +58,13 @@ struct Kept<D: Document> {
     ghost reach: { ends.walk.reach ≡ reach_at (document D.galley D.style) from },
 }
 
+// The calls of what is kept of a place, which serve for each other place.
+fn calls_of<D: Document>(kept: Kept<D>) -> Calls
+    ensures { ∥ AreCalls (document D.galley D.style) result.items.items ∥₁ }
+{
+    kept.ends.calls
+}
+
 /// The columns behind a state, and what is kept of its place.
 #[derive(Drop)]
 struct OpenedBy<D: Document> {
@@ -64,7 +73,8 @@ struct OpenedBy<D: Document> {
 }
 
 /// The pages of a galley under a style. States of one place that are opened one after another share one walk, and the
-/// ends in each room that one of them asks for. To a table it offers its columns of text before it makes them.
+/// ends in each room that one of them asks for; states of all places share what is called before ends. To a table it
+/// offers its columns of text before it makes them.
 #[derive(Drop)]
 pub struct KeptPages<'a, D: Document> {
     pub pages: PageSpace<'a>,
@@ -99,31 +109,33 @@ impl<'a, D: Document> KeptPages<'a, D> {
         }
     }
 
-    // The walk from a place.
-    fn walk(&self, from: Place) -> Result<Kept<D>, AllocError>
-        requires { IsPlace self.now.pages.sources.galley.now.blocks from }
+    // The walk from a place, with the calls of others.
+    fn walk(&self, from: Place, calls: Calls) -> Result<Kept<D>, AllocError>
+        requires place { IsPlace self.now.pages.sources.galley.now.blocks from }
+        requires calls { ∥ AreCalls (document D.galley D.style) calls.items.items ∥₁ }
         ensures { IfOk result (λ kept. kept.from ≡ from) }
     {
         let sources = &self.pages.sources;
         let walk = walk_place(sources, self.index, from)?;
         Ok(Kept {
             from,
-            ends: PlaceEnds::new(sources.alloc, walk),
+            ends: PlaceEnds::new(sources.alloc, walk, calls),
             of: PhantomData,
         })
     }
 
-    // What is kept of a place, taken out of the cell, or a walk where it is not this place.
+    // What is kept of a place, taken out of the cell, or a walk where it is not this place, with the calls of that one.
     fn take(&self, from: Place) -> Result<Kept<D>, AllocError>
         requires { IsPlace self.now.pages.sources.galley.now.blocks from }
         ensures { IfOk result (λ kept. kept.from ≡ from) }
     {
-        if let Ok(Some(kept)) = self.kept.try_replace(None) {
-            if kept.from == from {
-                return Ok(kept);
-            }
+        let Ok(Some(kept)) = self.kept.try_replace(None) else {
+            return self.walk(from, Calls::none(self.pages.sources.alloc));
+        };
+        if kept.from == from {
+            return Ok(kept);
         }
-        self.walk(from)
+        self.walk(from, calls_of(kept))
     }
 
     // The columns that may follow a state and are wanted, by what is kept of its place.

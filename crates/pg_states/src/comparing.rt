@@ -39,6 +39,8 @@ fn is_same_height(a: Option<i64>, b: Option<i64>) -> bool
     a == b
 }
 
+#[cold]
+#[inline(never)]
 fn are_same_counts(a: &[u16], b: &[u16]) -> bool
     ensures { result ≡ are_same_counts_of a.now b.now }
 {
@@ -64,6 +66,8 @@ fn is_no_older(age: u8, other: u8) -> bool
 }
 
 // Whether there are as many ages, none greater than the other at its place.
+#[cold]
+#[inline(never)]
 fn are_no_older(a: &[u8], b: &[u8]) -> bool
     ensures { result ≡ are_no_older_of a.now b.now }
 {
@@ -82,11 +86,31 @@ fn are_no_older(a: &[u8], b: &[u8]) -> bool
     right.is_empty()
 }
 
+// Whether the counts of placed floats are the same. Most often few bytes tell.
+fn has_same_placed(a: &SmallState, b: &SmallState) -> bool
+    ensures { result ≡ are_same_counts_of a.now.placed b.now.placed }
+{
+    if a.has_surely_same_placed(b) {
+        return true;
+    }
+    are_same_counts(a.placed(), b.placed())
+}
+
+// Whether there are as many ages, none greater than the other at its place. Most often few bytes tell.
+fn has_no_older(a: &SmallState, b: &SmallState) -> bool
+    ensures { result ≡ are_no_older_of a.now.ages b.now.ages }
+{
+    if a.has_surely_no_older(b) {
+        return true;
+    }
+    are_no_older(a.ages(), b.ages())
+}
+
 // Whether the fitness and the counts of placed floats are the same.
 fn is_same_past(a: &SmallState, b: &SmallState) -> bool
     ensures { result ≡ (is_same_number_of a.now.fitness b.now.fitness && are_same_counts_of a.now.placed b.now.placed) }
 {
-    is_same_number(a.fitness(), b.fitness()) && are_same_counts(a.placed(), b.placed())
+    is_same_number(a.fitness(), b.fitness()) && has_same_placed(a, b)
 }
 
 // Whether the run and the wide area of the page are the same.
@@ -116,5 +140,5 @@ fn is_same_key(a: &SmallState, b: &SmallState) -> bool
 pub fn no_worse(a: &SmallState, b: &SmallState) -> bool
     ensures { result ≡ is_no_worse a.now b.now }
 {
-    is_same_key(a, b) && are_no_older(a.ages(), b.ages())
+    is_same_key(a, b) && has_no_older(a, b)
 }

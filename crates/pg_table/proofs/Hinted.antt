@@ -1,11 +1,11 @@
 -- What a hint finds, and the step that was looked at.
 use Rattle.std.proofs.Common.{◌≡◌, ℕ, List, [], ◌∷◌, ◌++◌, length, get_or, refl, sym, subst, Option, Some, None, true, Bor}
-use Rattle.std.specs.Prelude.{slice_get, nat_lt, is_some, IfSome}
-use Rattle.std.specs.declared.vec.Vec.{Vec}
-use Rattle.std.specs.declared.alloc.Global.{Global}
+use Rattle.std.specs.Prelude.{slice_get, nat_lt, IfSome}
+use Rattle.std.specs.Option.{option_copied}
 use Rattle.std.proofs.lemmas.Option.{slice_get_read}
 use Rattle.pg_lemmas.proofs.Numbers.{less_true}
 use Rattle.pg_table.specs.Pending.{IsHeld}
+use Rattle.pg_table.specs.Bucket.{Labels}
 use Rattle.pg_table.specs.declared.table.Entry.{Entry}
 use Rattle.pg_table.proofs.Lists.{contains_at}
 
@@ -16,15 +16,11 @@ found_at xs ys i x same less is = subst (λ zs. slice_get zs i ≡ Some x) same
     (slice_get_read ys (length ys) i x refl (less_true i (length ys) (sym less)) is)
 
 -- a label that a hint found in a bucket is held
-pub held_in : {S M : Type 0} (bs : List (Vec (Entry S M) Global)) (i j : ℕ) (b : Vec (Entry S M) Global)
-    (ps : List (Entry S M)) (r : Option (Bor (Entry S M))) → slice_get bs i ≡ Some b → ps ≡ b.items →
-    is_some r ≡ nat_lt j (length ps) → IfSome r (λ p. p.now ≡ get_or ps j p.now) →
+pub held_in : {S M : Type 0} (bs : List (Labels S M)) (i j : ℕ) (b : Labels S M)
+    (r : Option (Bor (Entry S M))) → slice_get bs i ≡ Some b → option_copied r ≡ slice_get b.items j →
     IfSome r (λ p. IsHeld bs p.now)
-held_in bs i j b ps None at same some is = tt
-held_in bs i j b ps (Some p) at same some is = (
-  i,
-  (b, (at, contains_at b.items j p.now (found_at b.items ps j p.now same some is))),
-)
+held_in bs i j b None at is = tt
+held_in bs i j b (Some p) at is = (i, (b, (at, contains_at b.items j p.now (sym is))))
 
 -- lists that end alike have the same last element
 pub same_last : {X : Type 0} (xs ys : List X) (x y : X) → xs ++ x ∷ [] ≡ ys ++ y ∷ [] → x ≡ y

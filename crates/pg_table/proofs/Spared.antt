@@ -3,19 +3,18 @@ use Rattle.std.proofs.Common.{◌≡◌, ℕ, ◌+◌, ◌<◌, ◌⊎◌, inl, 
 use Rattle.std.specs.Prelude.{ℤ, ◌&&◌, Contains, nat_lt, int_lt}
 use Rattle.std.specs.Int.Signed.{lt_z_yes}
 use Rattle.std.specs.List.{list_any}
-use Rattle.std.specs.declared.vec.Vec.{Vec}
-use Rattle.std.specs.declared.alloc.Global.{Global}
 use Rattle.std.proofs.lemmas.List.Folds.{Any-from_list_any, list_any-from_Any}
 use Rattle.pg_lemmas.proofs.Bools.{both, both_of, or_cases, or_left, or_right, true_of}
 use Rattle.pg_lemmas.proofs.Numbers.{less_of, less_true}
 use Rattle.pg_table.specs.Space.{Meaning, AreMoves, AreWanted}
 use Rattle.pg_table.specs.Needless.{IsOutdone, IsNeedless, is_outdone_in, is_spared}
 use Rattle.pg_table.specs.Pending.{IsHeld}
+use Rattle.pg_table.specs.Bucket.{Labels}
 use Rattle.pg_table.specs.declared.table.Entry.{Entry}
 use Rattle.pg_table.specs.declared.step.Step.{Step}
 use Rattle.pg_table.proofs.Lists.{contains_at, at_contains}
 
-module _ {S M K : Type 0} (sp : Meaning S M K) (bs : List (Vec (Entry S M) Global)) (u : S) (c : ℤ) where
+module _ {S M K : Type 0} (sp : Meaning S M K) (bs : List (Labels S M)) (u : S) (c : ℤ) where
   -- the label is no worse, and costs less
   abbrev does : Entry S M → Bool
   does e = sp.no_worse e.state u && int_lt e.cost c

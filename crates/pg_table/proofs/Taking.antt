@@ -7,13 +7,12 @@ use Rattle.std.specs.Ordering.{nat_cmp}
 use Rattle.std.specs.List.Sorted.{IsPermutation}
 use Rattle.std.specs.BinaryHeap.{IsHeap, IsUpperBound}
 use Rattle.std.specs.declared.cmp.Reverse.{Reverse}
-use Rattle.std.specs.declared.vec.Vec.{Vec}
-use Rattle.std.specs.declared.alloc.Global.{Global}
 use Rattle.std.proofs.lemmas.Cmp.{by_ranked, ranked}
 use Rattle.std.proofs.lemmas.Option.{slice_get_within, same_Some}
 use Rattle.pg_table.specs.Space.{Meaning, Lawful}
 use Rattle.pg_table.specs.Searching.{Taken, weight}
 use Rattle.pg_table.specs.Pending.{IsHeld, IsClosed, Exact, Stored, load, turn_order}
+use Rattle.pg_table.specs.Bucket.{Labels}
 use Rattle.pg_table.specs.declared.table.Entry.{Entry}
 use Rattle.pg_table.specs.declared.pending.Turn.{Turn}
 use Rattle.pg_table.proofs.Lists.{set_same, set_other}
@@ -21,36 +20,37 @@ use Rattle.pg_table.proofs.Store.{stored_done, load_done, stored_taken, taken_he
 use Rattle.pg_table.proofs.Turns.{exact_done}
 
 -- the bucket of a turn has a label
-pub filled_bucket : {S M : Type 0} (bs : List (Vec (Entry S M) Global)) (ts : List (Reverse Turn)) →
-    Exact bs ts → (t : Reverse Turn) → Contains ts t → (b : Vec (Entry S M) Global) →
+pub filled_bucket : {S M : Type 0} (bs : List (Labels S M)) (ts : List (Reverse Turn)) →
+    Exact bs ts → (t : Reverse Turn) → Contains ts t → (b : Labels S M) →
     slice_get bs t.0.place ≡ Some b → 0 < length b.items
 filled_bucket {S} {M} bs ts x t among b bat =
-    let f : (d : Vec (Entry S M) Global) × ((slice_get bs t.0.place ≡ Some d) × (0 < length d.items)) =
+    let f : (d : Labels S M) × ((slice_get bs t.0.place ≡ Some d) × (0 < length d.items)) =
     x.filled t among in
     let same : f.0 ≡ b = same_Some f.0 b (sym f.1.0 ∙ bat) in
     subst (λ z. 0 < length z.items) same f.1.1
 
-pub turn_within : {S M : Type 0} (bs : List (Vec (Entry S M) Global)) (ts : List (Reverse Turn)) →
+pub turn_within : {S M : Type 0} (bs : List (Labels S M)) (ts : List (Reverse Turn)) →
     Exact bs ts → (t : Reverse Turn) → Contains ts t → t.0.place < length bs
 turn_within bs ts x t among = slice_get_within bs t.0.place (x.filled t among).0 (x.filled t among).1.0
 
-pub not_closed : {S M : Type 0} (bs : List (Vec (Entry S M) Global)) (i : ℕ) (a c : Vec (Entry S M) Global)
-    (r : Bool) → i < length bs → slice_get (set bs i c) i ≡ Some a → r ≡ (a.len == 0) → r ≡ false →
-    c.len ≡ length c.items → 0 < length c.items
-not_closed bs i a c r within at e f ok =
+pub not_closed : {S M : Type 0} (bs : List (Labels S M)) (i : ℕ) (a c : Labels S M)
+    (r : Bool) → i < length bs → slice_get (set bs i c) i ≡ Some a → r ≡ (length a.items == 0) → r ≡ false →
+    0 < length c.items
+not_closed bs i a c r within at e f =
     let same : a ≡ c = same_Some a c (sym at ∙ set_same bs i c within) in
     by_ranked (length c.items < 0) (length c.items ≡ 0) (0 < length c.items) (nat_cmp (length c.items) 0)
     (ranked (length c.items) 0 (nat_cmp (length c.items) 0) refl)
     (λ _ h. absurd (omega arith))
-    (λ _ z. absurd (let t : (a.len == 0) ≡ true = eq-eqb a.len 0 (ap (λ v. v.len) same ∙ (ok ∙ z)) in cc))
+    (λ _ z. absurd (let t : (length a.items == 0) ≡ true = eq-eqb (length a.items) 0 (ap (λ v. length v.items) same ∙
+    z) in cc))
     (λ _ h. h)
 
-pub is_closed : {S M : Type 0} (bs : List (Vec (Entry S M) Global)) (i : ℕ) (a c : Vec (Entry S M) Global)
-    (r : Bool) → i < length bs → slice_get (set bs i c) i ≡ Some a → r ≡ (a.len == 0) → r ≡ true →
-    c.len ≡ length c.items → length c.items ≡ 0
-is_closed bs i a c r within at e f ok =
+pub is_closed : {S M : Type 0} (bs : List (Labels S M)) (i : ℕ) (a c : Labels S M)
+    (r : Bool) → i < length bs → slice_get (set bs i c) i ≡ Some a → r ≡ (length a.items == 0) → r ≡ true →
+    length c.items ≡ 0
+is_closed bs i a c r within at e f =
     let same : a ≡ c = same_Some a c (sym at ∙ set_same bs i c within) in
-    sym ok ∙ (sym (ap (λ v. v.len) same) ∙ eqb-true a.len 0 (sym e ∙ f))
+    sym (ap (λ v. length v.items) same) ∙ eqb-true (length a.items) 0 (sym e ∙ f)
 
 taken_alike : {S M K : Type 0} (sp : Meaning S M K) (es : List (Entry S M)) (y : Entry S M)
     (P Q R : Entry S M → Type 0) → ((p : Entry S M) → R p → Q p) → ((p : Entry S M) → Q p → R p) →
@@ -64,15 +64,15 @@ taken_alike {S} {M} sp es y P Q R to from t = record {
 }
 
 module _ {S M K : Type 0} (eq : K → K → Bool) (laws : IsEquivalence eq) (sp : Meaning S M K)
-    (law : Lawful eq sp) (es : List (Entry S M)) (ks : List K) (bs : List (Vec (Entry S M) Global))
+    (law : Lawful eq sp) (es : List (Entry S M)) (ks : List K) (bs : List (Labels S M))
     (ts : List (Reverse Turn)) (s : Stored eq sp es ks bs ts) (x : Exact bs ts)
     (t : Reverse Turn) (among : Contains ts t) (least : IsUpperBound (λ x y. turn_order y.0 x.0) t ts)
-    (b : Vec (Entry S M) Global) (bat : slice_get bs t.0.place ≡ Some b) (y : Entry S M)
-    (c : Vec (Entry S M) Global) (is : b.items ≡ c.items ++ y ∷ []) where
+    (b : Labels S M) (bat : slice_get bs t.0.place ≡ Some b) (y : Entry S M)
+    (c : Labels S M) (is : b.items ≡ c.items ++ y ∷ []) where
   within : t.0.place < length bs
   within = slice_get_within bs t.0.place b bat
 
-  abbrev left : List (Vec (Entry S M) Global)
+  abbrev left : List (Labels S M)
   left = set bs t.0.place c
 
   stored_left : Stored eq sp es ks left ts
@@ -80,7 +80,7 @@ module _ {S M K : Type 0} (eq : K → K → Bool) (laws : IsEquivalence eq) (sp 
 
   -- that was the last label of the bucket, which is closed
   module _ (none : length c.items ≡ 0) (ts' : List (Reverse Turn)) (perm : IsPermutation ts (t ∷ ts'))
-      (heap : IsHeap (λ x y. turn_order y.0 x.0) ts') (bs' : List (Vec (Entry S M) Global))
+      (heap : IsHeap (λ x y. turn_order y.0 x.0) ts') (bs' : List (Labels S M))
       (closed : IsClosed t.0.place left bs') where
     at : slice_get left t.0.place ≡ Some c
     at = set_same bs t.0.place c within
@@ -92,7 +92,7 @@ module _ {S M K : Type 0} (eq : K → K → Bool) (laws : IsEquivalence eq) (sp 
     pub last_exact : Exact bs' ts'
     last_exact = exact_done bs ts x t ts' perm bs' same
       where
-        same : (j : ℕ) (d : Vec (Entry S M) Global) → j ≢ t.0.place → slice_get bs j ≡ Some d →
+        same : (j : ℕ) (d : Labels S M) → j ≢ t.0.place → slice_get bs j ≡ Some d →
             slice_get bs' j ≡ Some d
         same j d n at =
             subst (λ z. slice_get z j ≡ Some d) (sym closed.1.1) (set_other left t.0.place closed.0

@@ -5,8 +5,6 @@ use Rattle.std.specs.Prelude.{◌==◌, ◌≢◌, Contains, slice_get, sum_by}
 use Rattle.std.specs.Ordering.{nat_cmp}
 use Rattle.std.specs.List.Sorted.{IsPermutation}
 use Rattle.std.specs.declared.cmp.Reverse.{Reverse}
-use Rattle.std.specs.declared.vec.Vec.{Vec}
-use Rattle.std.specs.declared.alloc.Global.{Global}
 use Rattle.std.proofs.lemmas.Cmp.{by_ranked, ranked}
 use Rattle.std.proofs.lemmas.List.Elements.{Contains-append_right, Contains-append_cases}
 use Rattle.std.proofs.lemmas.List.Sums.{sum_by-append, sum_by_push}
@@ -15,6 +13,7 @@ use Rattle.std.proofs.lemmas.Option.{slice_get_within, same_Some}
 use Rattle.pg_table.specs.Space.{Meaning}
 use Rattle.pg_table.specs.Label.{PrunedAmong, BetterLabel}
 use Rattle.pg_table.specs.Pending.{Placed, HasTurn, Exact, turns_at}
+use Rattle.pg_table.specs.Bucket.{Labels}
 use Rattle.pg_table.specs.declared.table.Entry.{Entry}
 use Rattle.pg_table.specs.declared.pending.Turn.{Turn}
 use Rattle.pg_table.proofs.Lists.{slice_get_grow, set_same, set_other, some_length}
@@ -67,7 +66,7 @@ none_at i (x ∷ xs) n =
     let e : turns_at i (x ∷ xs) ≡ at i x + turns_at i xs = first_turn i x xs in
     omega arith
 
-module _ {S M : Type 0} (bs : List (Vec (Entry S M) Global)) (ts : List (Reverse Turn)) where
+module _ {S M : Type 0} (bs : List (Labels S M)) (ts : List (Reverse Turn)) where
   pub exact_none : ts ≡ [] → Exact bs ts
   exact_none e = record {
     filled = λ t c. absurd (none_among t (subst (λ z. Contains z t) e c));
@@ -76,14 +75,14 @@ module _ {S M : Type 0} (bs : List (Vec (Entry S M) Global)) (ts : List (Reverse
 
   module _ (x : Exact bs ts) where
     pub exact_placed : {K : Type 0} (eq : K → K → Bool) (ks : List K) (key : K) (ks' : List K)
-        (bs' : List (Vec (Entry S M) Global)) (i : ℕ) → Placed eq ks bs key ks' bs' i → Exact bs' ts
+        (bs' : List (Labels S M)) (i : ℕ) → Placed eq ks bs key ks' bs' i → Exact bs' ts
     exact_placed {K} eq ks key ks' bs' i pl = record {
       filled = λ t c. grown t (x.filled t c);
       single = x.single;
     }
       where
-        grown : (t : Reverse Turn) → (b : Vec (Entry S M) Global) × ((slice_get bs t.0.place ≡ Some b) ×
-            (0 < length b.items)) → (b : Vec (Entry S M) Global) × ((slice_get bs' t.0.place ≡ Some b) ×
+        grown : (t : Reverse Turn) → (b : Labels S M) × ((slice_get bs t.0.place ≡ Some b) ×
+            (0 < length b.items)) → (b : Labels S M) × ((slice_get bs' t.0.place ≡ Some b) ×
             (0 < length b.items))
         grown t (b, (is, l)) = (
           b,
@@ -98,17 +97,17 @@ module _ {S M : Type 0} (bs : List (Vec (Entry S M) Global)) (ts : List (Reverse
         )
 
     -- a bucket is written that has a label then
-    filled_set : (i : ℕ) (c : Vec (Entry S M) Global) → i < length bs → 0 < length c.items →
-        (t : Reverse Turn) → Contains ts t → (b : Vec (Entry S M) Global) ×
+    filled_set : (i : ℕ) (c : Labels S M) → i < length bs → 0 < length c.items →
+        (t : Reverse Turn) → Contains ts t → (b : Labels S M) ×
         ((slice_get (set bs i c) t.0.place ≡ Some b) × (0 < length b.items))
     filled_set i c within l t has = by (x.filled t has)
       where
-        here : t.0.place ≡ i → (b : Vec (Entry S M) Global) × ((slice_get (set bs i c) t.0.place ≡ Some b) ×
+        here : t.0.place ≡ i → (b : Labels S M) × ((slice_get (set bs i c) t.0.place ≡ Some b) ×
             (0 < length b.items))
         here e = (c, (subst (λ j. slice_get (set bs i c) j ≡ Some c) (sym e) (set_same bs i c within), l))
 
-        by : (b : Vec (Entry S M) Global) × ((slice_get bs t.0.place ≡ Some b) × (0 < length b.items)) →
-            (b : Vec (Entry S M) Global) × ((slice_get (set bs i c) t.0.place ≡ Some b) ×
+        by : (b : Labels S M) × ((slice_get bs t.0.place ≡ Some b) × (0 < length b.items)) →
+            (b : Labels S M) × ((slice_get (set bs i c) t.0.place ≡ Some b) ×
             (0 < length b.items))
         by (b, (is, m)) =
             by_ranked (t.0.place < i) (t.0.place ≡ i) (i < t.0.place) (nat_cmp t.0.place i)
@@ -117,14 +116,14 @@ module _ {S M : Type 0} (bs : List (Vec (Entry S M) Global)) (ts : List (Reverse
             (λ _ e. here e)
             (λ _ h. (b, (set_other bs i c within t.0.place b (λ e. omega arith) is, m)))
 
-    pub exact_set : (i : ℕ) (c : Vec (Entry S M) Global) → i < length bs → 0 < length c.items →
+    pub exact_set : (i : ℕ) (c : Labels S M) → i < length bs → 0 < length c.items →
         Exact (set bs i c) ts
     exact_set i c within l = record { filled = filled_set i c within l; single = x.single }
 
     -- a label is put into a bucket, which has a turn then
     pub exact_inserted : {K : Type 0} (sp : Meaning S M K) (es : List (Entry S M)) (y : Entry S M) (i : ℕ)
-        (ts' : List (Reverse Turn)) → HasTurn sp y.state i bs ts ts' → (b : Vec (Entry S M) Global) →
-        slice_get bs i ≡ Some b → (c : Vec (Entry S M) Global) → PrunedAmong sp es y b.items c.items →
+        (ts' : List (Reverse Turn)) → HasTurn sp y.state i bs ts ts' → (b : Labels S M) →
+        slice_get bs i ≡ Some b → (c : Labels S M) → PrunedAmong sp es y b.items c.items →
         Exact (set bs i c) ts'
     exact_inserted {K} sp es y i ts' turn b bat c pr = elim turn.either [
       | inl o ↦ subst (Exact (set bs i c)) (sym o.0) (exact_set i c within some)
@@ -146,13 +145,13 @@ module _ {S M : Type 0} (bs : List (Vec (Entry S M) Global)) (ts : List (Reverse
           where
             elsewhere : (t : Reverse Turn) → Contains ts t → t.0.place ≢ i
             elsewhere t h = λ e.
-                let f : (d : Vec (Entry S M) Global) × ((slice_get bs t.0.place ≡ Some d) ×
+                let f : (d : Labels S M) × ((slice_get bs t.0.place ≡ Some d) ×
                 (0 < length d.items)) = x.filled t h in
                 let same : f.0 ≡ b = same_Some f.0 b (sym f.1.0 ∙ (ap (slice_get bs) e ∙ bat)) in
                 let n : length f.0.items ≡ length b.items = ap (λ z. length z.items) same in
                 omega (arith, f.1.1)
 
-            filled : (t : Reverse Turn) → Contains ts' t → (d : Vec (Entry S M) Global) ×
+            filled : (t : Reverse Turn) → Contains ts' t → (d : Labels S M) ×
                 ((slice_get (set bs i c) t.0.place ≡ Some d) × (0 < length d.items))
             filled t h = elim (Contains-append_cases (the ∷ []) ts t (Contains-permutation ts' (the ∷ ts) t
                 (IsPermutation-sym (the ∷ ts) ts' perm) h)) [
@@ -201,10 +200,10 @@ module _ {S M : Type 0} (bs : List (Vec (Entry S M) Global)) (ts : List (Reverse
           let m : turns_at t.0.place ts ≤ 1 = x.single t.0.place in
           omega arith
 
-      pub exact_done : (bs' : List (Vec (Entry S M) Global)) → ((j : ℕ) (b : Vec (Entry S M) Global) →
+      pub exact_done : (bs' : List (Labels S M)) → ((j : ℕ) (b : Labels S M) →
           j ≢ t.0.place → slice_get bs j ≡ Some b → slice_get bs' j ≡ Some b) → Exact bs' ts'
       exact_done bs' same = record {
-        filled = λ u c. let f : (b : Vec (Entry S M) Global) × ((slice_get bs u.0.place ≡ Some b) ×
+        filled = λ u c. let f : (b : Labels S M) × ((slice_get bs u.0.place ≡ Some b) ×
             (0 < length b.items)) = x.filled u (stays u c) in (
               f.0,
               (

@@ -1,9 +1,8 @@
 -- What needs no label.
 use Rattle.std.specs.Prelude.{◌≡◌, ℕ, ◌+◌, ◌<◌, ◌⊎◌, ℤ, ◌<ℤ◌, Bool, true, List, ◌&&◌, ◌||◌, nat_lt, int_lt}
 use Rattle.std.specs.List.{list_any}
-use Rattle.std.specs.declared.vec.Vec.{Vec}
-use Rattle.std.specs.declared.alloc.Global.{Global}
 use Rattle.pg_table.specs.Space.{Meaning}
+use Rattle.pg_table.specs.Bucket.{Labels}
 use Rattle.pg_table.specs.declared.table.Entry.{Entry}
 
 -- one of the labels P costs less than c, and is no worse than the state u
@@ -19,9 +18,9 @@ abbrev pub IsNeedless : {S M K : Type 0} → Meaning S M K → ℕ → (Entry S 
 IsNeedless sp t P u c = (sp.block u + 1 < t) ⊎ IsOutdone sp P u c
 
 -- the same of the labels in these buckets, as a test
-abbrev pub is_outdone_in : {S M K : Type 0} → Meaning S M K → List (Vec (Entry S M) Global) → S → ℤ → Bool
+abbrev pub is_outdone_in : {S M K : Type 0} → Meaning S M K → List (Labels S M) → S → ℤ → Bool
 is_outdone_in sp bs u c = list_any (λ b. list_any (λ e. sp.no_worse e.state u && int_lt e.cost c) b.items) bs
 
 -- a move to the state u needs no label, where its run costs c
-unfoldable pub is_spared : {S M K : Type 0} → Meaning S M K → ℕ → List (Vec (Entry S M) Global) → S → ℤ → Bool
+unfoldable pub is_spared : {S M K : Type 0} → Meaning S M K → ℕ → List (Labels S M) → S → ℤ → Bool
 is_spared sp t bs u c = nat_lt (sp.block u + 1) t || is_outdone_in sp bs u c

@@ -1,9 +1,11 @@
-use Rattle.std.proofs.Common.{rules, arith, sym, ap, ◌∙◌, w64, to_z, of_z}
+use Rattle.std.proofs.Common.{rules, arith, sym, ap, ◌∙◌, ◌++◌, List, ℕ, w64, to_z, of_z}
+use Rattle.pg_list.specs.Places.{place}
 use Rattle.std.proofs.lemmas.Int.{to_z-of_z}
 use mir.Val.{SFits}
 use Rattle.pg_rules.specs.Legal.{document}
 use Rattle.pg_column.specs.Passed.{fits}
-use Rattle.pg_stretch.specs.Ahead.{front_ahead}
+use Rattle.pg_stretch.specs.Ahead.{front_ahead, items_ahead}
+use Rattle.pg_walk_laws.specs.Walk.{ends_along}
 use Rattle.pg_stretch.specs.Quiet.{is_quiet}
 use Rattle.pg_stretch.specs.View.{view}
 use Rattle.pg_stretch.specs.declared.passed.Passed.{Passed}
@@ -27,10 +29,13 @@ returns-in_default-go-clause-ends c =
     let f1 : SFits w64 c.args.demerits = search rules in
     let doc = document c.args.galley.now c.args.style.now in
     stop_ends doc c.args.top c.ahead.at c.place-here.result c.place-here.ensures (view c.ahead.passed)
-    c.args.picks.now c.args.demerits c.ahead.found c.end_at.new.found
+    c.in_ok-shared.shared.value c.args.demerits c.ahead.found c.end_at.new.found
     (simp to_z-of_z at (c.in_ok-end_at.ensures c.args.galley.now c.is_end_ahead-is_end.ensures))
     c.in_default-go.ensures.stops
-    ∙ (simp to_z-of_z at c.ahead.invariant.ends)
+    ∙ ((simp to_z-of_z at c.ahead.invariant.ends)
+    ∙ ap (λ (picks : List ℕ). c.args.found.now ++ ends_along doc c.args.top picks c.args.demerits
+    (place (front_ahead c.args.galley.now.blocks c.args.start) 0 0) (view c.args.before)
+    (items_ahead c.args.galley.now.blocks c.args.start)) c.in_ok-shared.ensures)
 
 pub returns-in_default-go-clause-past : goal.returns-in_default-go-clause-past
 returns-in_default-go-clause-past c =
@@ -46,13 +51,16 @@ returns-then-not-fits-clause-ends c =
     let f1 : SFits w64 c.args.demerits = search rules in
     let doc = document c.args.galley.now c.args.style.now in
     over_ends doc c.args.top c.ahead.at c.place-here.result c.place-here.ensures (view c.ahead.passed)
-    c.args.picks.now c.args.demerits c.ahead.found c.end_at.new.found
+    c.in_ok-shared.shared.value c.args.demerits c.ahead.found c.end_at.new.found
     (simp to_z-of_z at (c.in_ok-end_at.ensures c.args.galley.now c.is_end_ahead-is_end.ensures))
     c.in-Some-go.next (view c.go.new.passed) c.in-Some-go.ensures.goes
     (sym (c.fits.ensures
     ∙ ap (fits c.go.new.passed.bound) (to_z-of_z w64 c.args.top (record { sfits = search rules })))
     ∙ c.if-not-fits.true)
-    ∙ (simp to_z-of_z at c.ahead.invariant.ends)
+    ∙ ((simp to_z-of_z at c.ahead.invariant.ends)
+    ∙ ap (λ (picks : List ℕ). c.args.found.now ++ ends_along doc c.args.top picks c.args.demerits
+    (place (front_ahead c.args.galley.now.blocks c.args.start) 0 0) (view c.args.before)
+    (items_ahead c.args.galley.now.blocks c.args.start)) c.in_ok-shared.ensures)
 
 pub returns-then-not-fits-clause-past : goal.returns-then-not-fits-clause-past
 returns-then-not-fits-clause-past c =
@@ -85,7 +93,7 @@ ahead-preserved c =
       sums = counts.0.passed ∙ c.ahead.invariant.sums;
       notes = counts.1.passed ∙ c.ahead.invariant.notes;
       past = step_past doc top c.ahead.at to old new went bound ∙ c.ahead.invariant.past;
-      ends = step_ends doc top c.ahead.at c.place-here.result c.place-here.ensures old c.args.picks.now demerits
+      ends = step_ends doc top c.ahead.at c.place-here.result c.place-here.ensures old c.in_ok-shared.shared.value demerits
           c.ahead.found c.end_at.new.found
           (c.in_ok-end_at.ensures c.args.galley.now c.is_end_ahead-is_end.ensures) to new went bound
           ∙ c.ahead.invariant.ends;
@@ -101,9 +109,12 @@ returns-clause-ends c =
     let f1 : SFits w64 c.args.demerits = search rules in
     let doc = document c.args.galley.now c.args.style.now in
     end_ends doc c.args.top c.ahead.at c.ahead.invariant.settled c.in_default.ensures.item (view c.ahead.passed)
-    c.args.picks.now c.args.demerits c.place-front.result c.place-front.ensures c.ahead.found c.end_at-2.new.found
+    c.in_ok-shared.shared.value c.args.demerits c.place-front.result c.place-front.ensures c.ahead.found c.end_at-2.new.found
     (simp to_z-of_z at (c.in_ok-end_at-2.ensures c.args.galley.now c.is_end-is_end.ensures))
-    ∙ (simp to_z-of_z at c.ahead.invariant.ends)
+    ∙ ((simp to_z-of_z at c.ahead.invariant.ends)
+    ∙ ap (λ (picks : List ℕ). c.args.found.now ++ ends_along doc c.args.top picks c.args.demerits
+    (place (front_ahead c.args.galley.now.blocks c.args.start) 0 0) (view c.args.before)
+    (items_ahead c.args.galley.now.blocks c.args.start)) c.in_ok-shared.ensures)
 
 pub returns-clause-past : goal.returns-clause-past
 returns-clause-past c =

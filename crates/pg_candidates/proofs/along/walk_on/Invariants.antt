@@ -22,9 +22,9 @@ invariant-ahead l = record {
       ≡ l.fn.before.notes.count + length (items_ahead l.galley.blocks l.fn.start);
   past : past_stretch (document l.galley l.style) l.top (view l.passed) (items_ahead l.galley.blocks l.at)
       ≡ past_stretch (document l.galley l.style) l.top (view l.fn.before) (items_ahead l.galley.blocks l.fn.start);
-  ends : l.found ++ ends_along (document l.galley l.style) l.top l.picks l.demerits
+  ends : l.found ++ ends_along (document l.galley l.style) l.top l.shared.value l.demerits
       (place (front_ahead l.galley.blocks l.at) 0 0) (view l.passed) (items_ahead l.galley.blocks l.at)
-      ≡ l.initial.found ++ ends_along (document l.galley l.style) l.top l.picks l.demerits
+      ≡ l.initial.found ++ ends_along (document l.galley l.style) l.top l.shared.value l.demerits
       (place (front_ahead l.galley.blocks l.fn.start) 0 0) (view l.fn.before) (items_ahead l.galley.blocks l.fn.start);
   reach : max l.greatest (reach_along (document l.galley l.style) l.top (front_ahead l.galley.blocks l.at)
       (view l.passed) (items_ahead l.galley.blocks l.at))

@@ -1,12 +1,13 @@
 use Rattle.std.proofs.Common.{List, subst}
 use Rattle.std.specs.List.Sorted.{IsPartitionedBy}
-use Rattle.pg_ends.specs.declared.end.End.{End}
-use Rattle.pg_candidates.specs.Spots.{end_by, is_before}
+use Rattle.pg_candidates.specs.RoomEnds.{end_by}
+use Rattle.pg_candidates.specs.Spots.{is_before}
+use Rattle.pg_candidates.specs.declared.room_end.RoomEnd.{RoomEnd}
 use Rattle.pg_candidates.proofs.Putting.{Point}
 use Rattle.pg_candidates.proofs.best.keep_best.Goals as goal
 
 pub put_in-requires-clause-point : goal.put_in-requires-clause-point
 put_in-requires-clause-point c =
-    let own = end_by c.args.candidate.now c.args.cost in
-    subst (λ (fs : List End). IsPartitionedBy (λ f. is_before f own) fs → Point own fs c.count_before-at.result)
-    c.as_slice.ensures c.count_before-at.ensures.point
+    let own = end_by c.args.near.now c.args.cost in
+    subst (λ (fs : List RoomEnd). IsPartitionedBy (λ f. is_before f own) fs → Point own fs c.count_before-at.result)
+    c.as_slice.ensures.value c.count_before-at.ensures.point

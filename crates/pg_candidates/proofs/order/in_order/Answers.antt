@@ -1,14 +1,14 @@
-use Rattle.std.proofs.Common.{map}
-use Rattle.std.proofs.lemmas.List.Sorted.{Contains-permutation, IsPermutation-map}
-use Rattle.pg_walk_laws.proofs.BestLaws.{among_contains, contains_among}
+use Rattle.std.proofs.Common.{◌<◌, ◌≡◌, ◌∙◌, List, ap, length, map, subst, sym, ℕ}
+use Rattle.std.proofs.lemmas.Result.{IfOk-weaker}
+use Rattle.pg_walk_laws.specs.Best.{IsAmong}
+use Rattle.pg_candidates.specs.Groups.{indices_in}
 use Rattle.pg_candidates.specs.declared.order.Ranked.{Ranked}
 use Rattle.pg_candidates.proofs.order.in_order.Goals as goal
 
 pub returns : goal.returns
-returns c = λ i less.
+returns c =
     let at = λ (it : Ranked). it.at in
-    let old = c.in_ok-order.order.items in
-    let new = c.sort_unstable_by.new.self.items in
-    contains_among (map at new) i (Contains-permutation (map at old) (map at new) i
-    (IsPermutation-map at old new c.sort_unstable_by.ensures.permutation)
-    (among_contains (map at old) i (c.in_ok-order.ensures i less)))
+    IfOk-weaker c.joined.result (λ order. map at order.items ≡ indices_in c.as_slice.result.now)
+    (λ order. (i : ℕ) → i < length c.args.candidates.now → IsAmong i (map at order.items))
+    (λ order all i less. subst (λ (is : List ℕ). IsAmong i is)
+    (sym (all ∙ ap indices_in c.as_slice.ensures.value)) (c.in_ok-groups.ensures i less)) c.joined.ensures

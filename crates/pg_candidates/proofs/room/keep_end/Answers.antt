@@ -1,33 +1,32 @@
-use Rattle.std.proofs.Common.{◌∙◌, ◌++◌, ◌∷◌, [], ap, sym, subst, w64, ℤ, Some, None}
-use Rattle.std.specs.Prelude.{if◌then◌else◌}
+use Rattle.std.proofs.Common.{◌∙◌, ap, map, sym, w64, ℤ, ◌-ℤ◌}
 use Rattle.std.proofs.lemmas.Int.{to_z-of_z}
 use Rattle.std.proofs.lemmas.Result.{on_ok_weaker}
+use Rattle.pg_column.specs.Numbers.{cost_for}
 use Rattle.pg_rules.specs.Legal.{document}
-use Rattle.pg_walk_laws.specs.Best.{AreBest}
-use Rattle.pg_walk_laws.specs.Candidates.{end_in, keeps_in, kept_ends}
-use Rattle.pg_candidates.specs.Spots.{end_by}
+use Rattle.pg_candidates.specs.RoomEnds.{ends_of}
 use Rattle.pg_candidates.specs.View.{candidate_of}
-use Rattle.pg_candidates.proofs.Kept.{keep_more, no_end, some_end}
+use Rattle.pg_candidates.proofs.Nears.{best_kept, best_refused}
 use Rattle.pg_candidates.proofs.room.keep_end.Goals as goal
 
-pub returns-in-Some : goal.returns-in-Some
-returns-in-Some c = on_ok_weaker c.keep_best.result (λ added g cs is best.
+pub returns-then-not-is_tolerable : goal.returns-then-not-is_tolerable
+returns-then-not-is_tolerable c = λ g cs it there is best.
     let doc = document g c.args.style.now in
-    let it = candidate_of c.args.candidate.now in
+    let ds = map candidate_of c.args.candidates.now in
+    let near = c.args.near.now in
     let room = to_z-of_z w64 c.args.room (record { sfits = c.ranges.room.sfits }) in
-    subst (AreBest (kept_ends doc c.args.room (cs ++ it ∷ [])))
-    (sym (added best.ascend ∙ some_end (keeps_in doc c.args.room it) (end_in doc c.args.room it)
-    (end_by c.args.candidate.now c.in-Some.cost) c.args.ends.now (c.in-Some.ensures g is
-    ∙ ap (λ (z : ℤ). if keeps_in doc z it then Some (end_in doc z it) else None) room)))
-    (keep_more doc c.args.room cs it c.args.ends.now best)) c.keep_best.ensures
+    let made = c.cost_of-cost.ensures
+    ∙ ap (λ (z : ℤ). cost_for c.args.style.now (z -ℤ near.notes) near.totals near.kind.is_spent near.kind.penalty) room in
+    best_refused doc c.args.room it near is c.cost_of-cost.result made cs ds there (ends_of ds c.args.ends.now.items) best
+    c.requires.high (sym c.is_tolerable.ensures ∙ c.if-not-is_tolerable.true)
 
-pub returns-in-None : goal.returns-in-None
-returns-in-None c = λ g cs is best.
+pub returns : goal.returns
+returns c = on_ok_weaker c.keep_best.result (λ added g cs it there is best.
     let doc = document g c.args.style.now in
-    let it = candidate_of c.args.candidate.now in
+    let ds = map candidate_of c.args.candidates.now in
+    let near = c.args.near.now in
     let room = to_z-of_z w64 c.args.room (record { sfits = c.ranges.room.sfits }) in
-    subst (AreBest (kept_ends doc c.args.room (cs ++ it ∷ [])))
-    (sym (no_end (keeps_in doc c.args.room it) (end_in doc c.args.room it) c.args.ends.now
-    (c.in-None.ensures g is
-    ∙ ap (λ (z : ℤ). if keeps_in doc z it then Some (end_in doc z it) else None) room)))
-    (keep_more doc c.args.room cs it c.args.ends.now best)
+    let made = c.cost_of-cost.ensures
+    ∙ ap (λ (z : ℤ). cost_for c.args.style.now (z -ℤ near.notes) near.totals near.kind.is_spent near.kind.penalty) room in
+    best_kept doc c.args.room it near is c.cost_of-cost.result made cs ds there (ends_of ds c.args.ends.now.items) best
+    c.requires.high (sym c.is_tolerable.ensures ∙ c.if-not-is_tolerable.false) (ends_of ds c.keep_best.new.ends.items)
+    (added best.ascend)) c.keep_best.ensures

@@ -2,6 +2,7 @@ use Rattle.std.proofs.Common.{◌∙◌, sym, rules, of_z, to_z}
 use Rattle.std.proofs.lemmas.Int.{to_z-of_z}
 use Rattle.std.specs.Int.{w128}
 use Rattle.pg_sources.specs.Document.{doc_of}
+use Rattle.pg_candidates.specs.RoomEnds.{picks_at}
 use Rattle.pg_moves.specs.Stepping.{IsBehind}
 use Rattle.pg_layouts.specs.Layouts.{move_of}
 use Rattle.pg_moves.proofs.Built.{asked_is, step, still_behind}
@@ -23,34 +24,41 @@ rank-requires g c = (behind g (goal.at.rank-requires g c).After-end_at).tail
 
 pub returns-then-ends_here-clause-added : goal.returns-then-ends_here-clause-added
 returns-then-ends_here-clause-added g c = λ goes. not_stepped (doc_of c.args.sources.now) c.args.state.now
-    c.args.laid.now c.requires.laid (g.W.Wants.spares c.args.wants.now) c.args.end.now c.args.settled.now
-    c.args.steps.now (sym c.ends_here.ensures ∙ c.if-ends_here.true) goes
+    c.args.laid.now c.requires.laid (g.W.Wants.spares c.args.wants.now) c.args.near.now.candidates
+    c.args.end.now c.args.settled.now c.args.steps.now (sym c.ends_here.ensures ∙ c.if-ends_here.true) goes
 
 pub returns-then-not-wants-clause-behind : goal.returns-then-not-wants-clause-behind
 returns-then-not-wants-clause-behind g c = behind g (goal.at.returns-then-not-wants-clause-behind g c).After-end_at
 
 pub returns-then-not-wants-clause-added : goal.returns-then-not-wants-clause-added
 returns-then-not-wants-clause-added g c = λ goes. not_wanted (doc_of c.args.sources.now) c.args.state.now
-    c.args.laid.now c.requires.laid (g.W.Wants.spares c.args.wants.now) c.args.end.now c.args.settled.now
+    c.args.laid.now c.requires.laid (g.W.Wants.spares c.args.wants.now) c.args.near.now.candidates
+    c.args.end.now c.args.settled.now
     (step (doc_of c.args.sources.now) c.args.state.now c.args.laid.now c.requires.laid c.end_at.new.self.state
-    (move_of c.args.state.now c.args.laid.now.layout c.args.end.now.to c.args.end.now.picks)
+    (move_of c.args.state.now c.args.laid.now.layout c.args.end.now.to
+    (picks_at c.args.near.now.candidates c.args.end.now.at))
     (to_z w128 (of_z w128 c.cost_to-cost.result)))
     (sym c.ends_here.ensures ∙ c.if-ends_here.false)
-    (asked_is (doc_of c.args.sources.now) c.args.state.now c.args.laid.now c.requires.laid c.args.end.now
-    c.args.settled.now c.args.behind.now c.end_at.new.self _ c.end_at.ensures c.requires.behind
-    (to_z-of_z w128 c.cost_to-cost.result (record { sfits = search rules }) ∙ c.cost_to-cost.ensures)) goes c.args.steps.now (c.wants.ensures c.if-not-wants.true)
+    (asked_is (doc_of c.args.sources.now) c.args.state.now c.args.laid.now c.requires.laid
+    c.args.near.now.candidates c.args.end.now c.args.settled.now c.args.behind.now c.end_at.new.self _
+    c.end_at.ensures c.requires.behind
+    (to_z-of_z w128 c.cost_to-cost.result (record { sfits = search rules }) ∙ c.cost_to-cost.ensures))
+    goes c.args.steps.now (c.wants.ensures c.if-not-wants.true)
 
 pub returns-clause-behind : goal.returns-clause-behind
 returns-clause-behind g c = behind g (goal.at.returns-clause-behind g c).After-end_at
 
 pub returns-clause-added : goal.returns-clause-added
 returns-clause-added g c = λ goes. stepped (doc_of c.args.sources.now) c.args.state.now
-    c.args.laid.now c.requires.laid (g.W.Wants.spares c.args.wants.now) c.args.end.now c.args.settled.now
+    c.args.laid.now c.requires.laid (g.W.Wants.spares c.args.wants.now) c.args.near.now.candidates
+    c.args.end.now c.args.settled.now
     (step (doc_of c.args.sources.now) c.args.state.now c.args.laid.now c.requires.laid c.end_at.new.self.state
-    (move_of c.args.state.now c.args.laid.now.layout c.args.end.now.to c.args.end.now.picks)
+    (move_of c.args.state.now c.args.laid.now.layout c.args.end.now.to
+    (picks_at c.args.near.now.candidates c.args.end.now.at))
     (to_z w128 (of_z w128 c.cost_to-cost.result)))
     (sym c.ends_here.ensures ∙ c.if-ends_here.false)
-    (asked_is (doc_of c.args.sources.now) c.args.state.now c.args.laid.now c.requires.laid c.args.end.now
-    c.args.settled.now c.args.behind.now c.end_at.new.self _ c.end_at.ensures c.requires.behind
+    (asked_is (doc_of c.args.sources.now) c.args.state.now c.args.laid.now c.requires.laid
+    c.args.near.now.candidates c.args.end.now c.args.settled.now c.args.behind.now c.end_at.new.self _
+    c.end_at.ensures c.requires.behind
     (to_z-of_z w128 c.cost_to-cost.result (record { sfits = search rules }) ∙ c.cost_to-cost.ensures))
     goes c.args.steps.now c.push_step.new.steps c.in_ok-push_step.ensures

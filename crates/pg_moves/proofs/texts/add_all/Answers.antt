@@ -12,7 +12,8 @@ loop-it-init g c = λ right. adds_none (g.W.Wants.spares c.args.wants.now) c.arg
 
 pub loop-it-preserved : goal.loop-it-preserved
 loop-it-preserved g c = λ right. layouts_more
-    (steps_in (doc_of c.args.sources.now) c.args.state.now c.args.kept.now.rooms.items)
+    (steps_in (doc_of c.args.sources.now) c.args.state.now c.args.kept.now.walk.near.candidates
+    c.args.kept.now.rooms.items)
     (g.W.Wants.spares c.args.wants.now) c.args.steps.now c.loop-it.steps c.add_laid.new.steps c.args.laid.now
     c.loop-it.it-index c.it-item.result (search rules) (search rules) (c.loop-it.invariant right)
     (c.in_ok-add_laid.ensures right)
@@ -21,5 +22,6 @@ pub returns : goal.returns
 returns g c = λ right.
     let e : c.loop-it.it-index ≡ length c.args.laid.now = search rules in
     adds_same (g.W.Wants.spares c.args.wants.now) c.args.steps.now c.loop-it.steps _ _
-    (ap (flat_map (steps_in (doc_of c.args.sources.now) c.args.state.now c.args.kept.now.rooms.items))
+    (ap (flat_map (steps_in (doc_of c.args.sources.now) c.args.state.now c.args.kept.now.walk.near.candidates
+    c.args.kept.now.rooms.items))
     (ap (λ (n : ℕ). take n c.args.laid.now) e ∙ take-length c.args.laid.now)) (c.loop-it.invariant right)

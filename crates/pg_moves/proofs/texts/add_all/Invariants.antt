@@ -8,4 +8,5 @@ use Rattle.pg_moves.proofs.texts.add_all.Given as goal
 
 abbrev pub invariant-loop-it : goal.invariant-loop-it
 invariant-loop-it g l = ArePlaceEnds (doc_of l.sources) l.state.place l.kept → Adds (g.W.Wants.spares l.wants)
-    l.initial.steps (flat_map (steps_in (doc_of l.sources) l.state l.kept.rooms.items) (take l.it-index l.laid)) l.steps
+    l.initial.steps (flat_map (steps_in (doc_of l.sources) l.state l.kept.walk.near.candidates l.kept.rooms.items)
+    (take l.it-index l.laid)) l.steps

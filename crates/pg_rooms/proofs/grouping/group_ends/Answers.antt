@@ -1,10 +1,10 @@
-use Rattle.std.proofs.Common.{refl, sym, subst, ◌∙◌, ◌+◌, ◌++◌, rules, arith, List}
+use Rattle.std.proofs.Common.{refl, sym, subst, ◌∙◌, ◌+◌, ◌++◌, rules, arith, List, get_or}
 use Rattle.std.proofs.lemmas.List.{take_rest}
 use Rattle.pg_sources.specs.Document.{doc_of}
 use Rattle.pg_rooms.specs.PlaceEnds.{AreGroups}
 use Rattle.pg_rooms.specs.declared.grouping.Group.{Group}
 use Rattle.pg_rooms.proofs.Called.{all_like}
-use Rattle.pg_rooms.proofs.Grouped.{all_grouped, one_group, split_first, still_few}
+use Rattle.pg_rooms.proofs.Grouped.{all_grouped, no_end, one_group, split_read, still_few}
 use Rattle.pg_rooms.proofs.grouping.group_ends.Goals as goal
 
 pub groups-init : goal.groups-init
@@ -20,16 +20,16 @@ groups-preserved c = record {
   groups = λ all.
       let calls = c.groups.invariant.calls all in
       one_group (doc_of c.args.sources.now) c.groups.groups.items c.push.new.self.items c.args.ends.now
-      c.groups.rest.now _ _ c.first-item.result
+      c.groups.rest.now _ _ (get_or c.groups.rest.now 0 no_end)
       (record { called = c.in_ok-called.called; count = c.in_ok-more.more + 1 }) c.in_ok-more.more
-      (c.groups.invariant.groups all) (split_first c.groups.rest.now c.first-item.result (search rules) c.first-item.is)
+      (c.groups.invariant.groups all) (split_read c.groups.rest.now no_end (search rules))
       refl (c.in_ok-called.ensures ∙ (c.in_ok-like.ensures.like calls).same)
       (all_like (doc_of c.args.sources.now) _ _ _ c.in_ok-called.ensures
       (c.in_ok-more.ensures.same (c.in_ok-like.ensures.calls calls)))
       (search rules) (take_rest _ c.in_ok-more.more);
   calls = λ all. c.in_ok-more.ensures.calls (c.in_ok-like.ensures.calls (c.groups.invariant.calls all));
-  few = still_few c.args.ends.now c.groups.rest.now _ _ c.first-item.result c.in_ok-more.more
-      (split_first c.groups.rest.now c.first-item.result (search rules) c.first-item.is)
+  few = still_few c.args.ends.now c.groups.rest.now _ _ (get_or c.groups.rest.now 0 no_end) c.in_ok-more.more
+      (split_read c.groups.rest.now no_end (search rules))
       (take_rest _ c.in_ok-more.more) c.groups.invariant.few;
 }
 

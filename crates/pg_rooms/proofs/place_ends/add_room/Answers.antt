@@ -15,7 +15,7 @@ returns-clause-keeps c = λ other h. has_still c.args.rooms.now.items c.push.new
 
 pub returns-clause-right : goal.returns-clause-right
 returns-clause-right c = λ from near within calls are. rooms_added (doc_of c.args.sources.now) from
-    c.args.rooms.now.items c.push.new.self.items c.in_ok-ends.ends (search rules) are
+    c.args.near.now.candidates c.args.rooms.now.items c.push.new.self.items c.in_ok-ends.ends (search rules) are
     (c.in_ok-ends.ensures.right from near (subst (λ (z : ℤ). z ≤ℤ tallest c.args.sources.now.style.now)
     (sym (to_z-of_z w64 c.args.room (record { sfits = c.ranges.room.sfits }))) within) calls)
 

@@ -15,7 +15,7 @@ invariant-loop-it l = record {
   right : (from : Place) → AreNearFrom (doc_of l.sources) from (tallest (doc_of l.sources).style) l.near →
       AllByRecursion (λ (it : Laid). it.room ≤ℤ tallest (doc_of l.sources).style) l.laid →
       AreCalls (doc_of l.sources) l.initial.calls.items.items →
-      AllByRecursion (AreRoomEnds (doc_of l.sources) from) l.initial.rooms.items →
-      AllByRecursion (AreRoomEnds (doc_of l.sources) from) l.rooms.items;
+      AllByRecursion (AreRoomEnds (doc_of l.sources) from l.near.candidates) l.initial.rooms.items →
+      AllByRecursion (AreRoomEnds (doc_of l.sources) from l.near.candidates) l.rooms.items;
   calls : AreCalls (doc_of l.sources) l.initial.calls.items.items → AreCalls (doc_of l.sources) l.calls.items.items;
 }

@@ -10,7 +10,7 @@ returns-clause-right c = λ from near within calls. record {
   ends = c.in_ok-ends.ensures.ends from (tallest c.args.sources.now.style.now) near.candidates near.near
       (subst (λ (z : ℤ). z ≤ℤ tallest c.args.sources.now.style.now)
       (sym (to_z-of_z w64 c.args.room (record { sfits = c.ranges.room.sfits }))) within) near.found;
-  groups = subst (AreGroups (doc_of c.args.sources.now) c.in_ok-groups.groups.items) c.as_slice.ensures
+  groups = subst (AreGroups (doc_of c.args.sources.now) c.in_ok-groups.groups.items) c.as_slice.ensures.value
       (c.in_ok-groups.ensures.groups calls);
 }
 

@@ -5,7 +5,7 @@ use Rattle.pg_table.proofs.pending.find_better.Given as goal
 
 abbrev pub invariant-held : goal.invariant-held
 invariant-held g l = AllWithin (λ p. NotBetterLabel
-    (g.S.Space.meaning l.space) l.entries p l.label) l.pending 0 l.i
+    (g.S.Space.meaning l.space) l.entries p l.label) l.pending.items 0 l.i
 
 abbrev pub decreases-held : goal.decreases-held
-decreases-held g l = length l.pending - l.i
+decreases-held g l = length l.pending.items - l.i

@@ -4,13 +4,15 @@ use Rattle.pg_rules.specs.Legal.{document}
 use Rattle.pg_walk_laws.specs.Best.{AreBest}
 use Rattle.pg_walk_laws.specs.Candidates.{kept_ends}
 use Rattle.pg_candidates.specs.Nears.{IsNearIn, needed_in}
+use Rattle.pg_candidates.specs.RoomEnds.{ends_of}
 use Rattle.pg_candidates.specs.View.{candidate_of}
-use Rattle.pg_candidates.proofs.near.NearList.ends_in.Given as goal
+use Rattle.pg_candidates.proofs.near.NearList.room_ends.Given as goal
 
 abbrev pub invariant-each : goal.invariant-each
 invariant-each l = record {
   best : AllByRecursion (IsNearIn (document l.galley l.style) (map candidate_of l.candidates))
       (take l.near-index l.near-items) →
       AreBest (kept_ends (document l.galley l.style) l.room
-      (needed_in l.room (map candidate_of l.candidates) (take l.near-index l.near-items))) l.ends;
+      (needed_in l.room (map candidate_of l.candidates) (take l.near-index l.near-items)))
+      (ends_of (map candidate_of l.candidates) l.ends.items);
 }

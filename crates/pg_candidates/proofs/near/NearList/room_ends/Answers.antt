@@ -1,0 +1,56 @@
+use Rattle.std.proofs.Common.{◌∙◌, ap, List, map, subst, take, to_z, of_z, w64, ◌+◌}
+use Rattle.std.proofs.lemmas.Int.{to_z-of_z}
+use Rattle.std.proofs.lemmas.List.{take_all}
+use Rattle.pg_lemmas.proofs.Lists.{one_more}
+use Rattle.pg_ends.specs.Ends.{AreEnds}
+use Rattle.pg_rules.specs.Legal.{document}
+use Rattle.pg_walk_laws.specs.Best.{AreBest}
+use Rattle.pg_walk_laws.specs.Candidates.{Candidate, kept_ends}
+use Rattle.pg_candidates.specs.Nears.{NearsValue, needed_in}
+use Rattle.pg_candidates.specs.RoomEnds.{ends_of}
+use Rattle.pg_candidates.specs.View.{candidate_of}
+use Rattle.pg_candidates.proofs.Nears.{best_near, best_of_all}
+use Rattle.pg_candidates.proofs.Needed.{best_of_some}
+use Rattle.pg_candidates.proofs.near.NearList.room_ends.Goals as goal
+
+pub each-preserved : goal.each-preserved
+each-preserved c =
+    let ds = map candidate_of c.as_slice-candidates.result.now in
+    let items = c.as_slice-near-items.result.now in
+    let i = c.each.near-index in
+    let z = to_z w64 (of_z w64 c.args.room) in
+    record {
+      best = best_near (document c.args.galley.now c.args.style.now) z ds (take (i + 1) items) (take i items)
+          c.near-item.result (ends_of ds c.each.ends.items) (ends_of ds c.keep_near.new.ends.items)
+          (one_more items i c.near-item.result c.each-test.true c.near-item.is) c.each.invariant.best
+          (c.in_ok-hint.ensures c.args.galley.now (needed_in z ds (take i items)));
+    }
+
+pub returns-clause-best : goal.returns-clause-best
+returns-clause-best c = λ right.
+    let doc = document c.args.galley.now c.args.style.now in
+    let same = c.as_slice-candidates.ensures ∙ ap (λ (v : NearsValue). v.candidates) c.self.view_is in
+    let nears = c.args.self.now.nears in
+    subst (λ (cs : List Candidate). AreBest (kept_ends doc c.args.room (needed_in c.args.room c.args.self.now.candidates nears))
+    (ends_of cs c.each.ends.items)) same
+    (best_of_all doc c.args.room _
+    (to_z-of_z w64 c.args.room (record { sfits = c.ranges.room.sfits })) c.args.self.now.candidates _ same nears _
+    (take_all c.each.near-index c.as_slice-near-items.result.now c.each-test.false
+    ∙ c.as_slice-near-items.ensures.value ∙ ap (λ (v : NearsValue). v.nears) c.self.view_is)
+    (ends_of (map candidate_of c.as_slice-candidates.result.now) c.each.ends.items)
+    c.each.invariant.best right)
+
+pub returns-clause-ends : goal.returns-clause-ends
+returns-clause-ends c = λ from top cs are upper cands.
+    let doc = document c.args.galley.now c.args.style.now in
+    let same = c.as_slice-candidates.ensures ∙ ap (λ (v : NearsValue). v.candidates) c.self.view_is in
+    let bs = ends_of (map candidate_of c.as_slice-candidates.result.now) c.each.ends.items in
+    subst (λ (ds : List Candidate). AreEnds doc from c.args.room (ends_of ds c.each.ends.items)) same
+    (c.candidates_give_ends.ensures.one from top c.args.room cs bs upper cands
+    (best_of_some _ _ bs (are.suffice c.args.room)
+    (best_of_all doc c.args.room _
+    (to_z-of_z w64 c.args.room (record { sfits = c.ranges.room.sfits })) cs _ (same ∙ are.same)
+    c.args.self.now.nears _
+    (take_all c.each.near-index c.as_slice-near-items.result.now c.each-test.false
+    ∙ c.as_slice-near-items.ensures.value ∙ ap (λ (v : NearsValue). v.nears) c.self.view_is) bs
+    c.each.invariant.best are.right)))

@@ -1,0 +1,7 @@
+use Rattle.std.proofs.Common.{◌≡◌, map, take}
+use Rattle.pg_candidates.specs.RoomEnds.{ends_of}
+use Rattle.pg_candidates.specs.View.{candidate_of}
+use Rattle.pg_candidates.proofs.room_end.all_with_picks.Given as goal
+
+abbrev pub invariant-loop-it : goal.invariant-loop-it
+invariant-loop-it l = record { ends : l.ends ≡ ends_of (map candidate_of l.candidates) (take l.it-index l.its) }
