@@ -162,6 +162,10 @@ impl NearList {
         room: i64,
     ) -> Result<EndList, AllocError>
         requires { nat_abs room < 2 ^ 40 }
+        ensures best { IfOk result (λ ends.
+            AllByRecursion (IsNearIn (document galley.now style.now) self.now.candidates) self.now.nears →
+            AreBest (kept_ends (document galley.now style.now) room
+            (needed_in room self.now.candidates self.now.nears)) ends) }
         ensures ends { IfOk result (λ ends. (from : APlace) (top : ℤ) (cs : List ACandidate) →
             AreNear (document galley.now style.now) cs self.now → room ≤ℤ top →
             AreCandidates (document galley.now style.now) from top cs →

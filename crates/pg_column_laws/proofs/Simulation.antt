@@ -76,7 +76,7 @@ counts_same (x ∷ xs) [] e = absurd cc
 counts_same (x ∷ xs) (y ∷ ys) e = let t = both_of (x == y) (are_same_counts xs ys) e in let p : x ≡ y =
     eqb-true x y t.0 in let q : xs ≡ ys = counts_same xs ys t.1 in cc
 
-counts_refl : (a : List ℕ) → are_same_counts a a ≡ true
+pub counts_refl : (a : List ℕ) → are_same_counts a a ≡ true
 counts_refl [] = refl
 counts_refl (x ∷ xs) = both (x == x) (are_same_counts xs xs) (eq_refl x) (counts_refl xs)
 
