@@ -57,7 +57,7 @@ served_hopeless doc one c (Some from) h = λ room le keeps. absurd (not_both (ke
 
 -- ---- two of one place, both of the worst badness
 
-loosest : (v : Bool) (total goal : ℤ) (b : ℕ) → total <ℤ goal → b ≡ 10000 →
+pub loosest : (v : Bool) (total goal : ℤ) (b : ℕ) → total <ℤ goal → b ≡ 10000 →
     (if v then 2 else fitness_by total goal b) ≡ (if v then 2 else 0)
 loosest v total goal b short bad =
     let less : int_lt total goal ≡ true = grind (arith, ints, short) in rw (less, bad) refl

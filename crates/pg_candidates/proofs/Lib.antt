@@ -3,6 +3,7 @@ pub mod Putting
 pub mod Kept
 pub mod Short
 pub mod Beside
+pub mod Worst
 pub mod Needed
 pub mod Nears
 pub mod TooLow

@@ -1,16 +1,16 @@
--- An end put in at its spot, by a search in ends that are in order.
+-- An end put in at its spot among ends that are in order.
 use Rattle.std.proofs.Common.{◌≡◌, refl, sym, ap, ◌∙◌, subst, ℕ, zero, suc, ◌-◌, ◌≤◌, ◌<◌, List, [], ◌∷◌, length, arith, Bool, true, false}
 use Rattle.std.specs.Prelude.{if◌then◌else◌, get_or, option_map, slice_get, slice_set}
-use Rattle.std.specs.List.{insert}
+use Rattle.std.specs.List.{AllWithin, insert}
 use Rattle.std.specs.List.Sorted.{IsPartitionedBy, IsPartitionPoint}
 use Rattle.std.specs.Ordering.{ordering_reverse}
 use Rattle.std.specs.declared.cmp.Ordering.{Ordering}
 use Rattle.std.specs.declared.cmp.Ordering.TheVariants.{Less, Equal, Greater}
+use Rattle.std.proofs.lemmas.List.{get_or_default}
 use Rattle.pg_ends.specs.declared.end.End.{End}
 use Rattle.pg_walk_laws.specs.Best.{Ascend, IsFirst, end_cmp, insert_end, is_better, placed_by}
 use Rattle.pg_walk_laws.specs.Candidates.{Candidate}
 use Rattle.pg_walk_laws.proofs.BestLaws.{end_total}
-use Rattle.pg_lemmas.proofs.Bools.{not_both}
 use Rattle.pg_candidates.specs.RoomEnds.{end_of, ends_of}
 use Rattle.pg_candidates.specs.Spots.{is_before, is_less, spot_by, spot_in}
 use Rattle.pg_candidates.specs.declared.best.Spot.{Spot}
@@ -117,19 +117,13 @@ module _ (cs : List Candidate) where
       fs i e)) q
       ∙ put_is e fs i (subst (λ (zs : List RoomEnd). i ≤ length zs) p le) there)
 
--- ---- a place that is looked at is the point
+-- ---- the point is behind the last end that stands before
 
-pub point_at : (e : RoomEnd) (fs : List RoomEnd) (i : ℕ) → i ≤ length fs →
-    ((d : RoomEnd) → 0 < i → is_before (get_or fs (i - 1) d) e ≡ true) →
-    ((d : RoomEnd) → i < length fs → is_before (get_or fs i d) e ≡ false) →
-    IsPartitionedBy (λ f. is_before f e) fs → Point e fs i
-point_at e fs i within low high parted = (
-  λ k d lo hi. parted k (i - 1) d (omega (arith, hi)) (omega (arith, hi, within)) (low d (omega (arith, hi))),
-  λ k d lo hi. by k d (omega (arith, lo)) (omega (arith, hi)) (is_before (get_or fs k d) e) refl,
+pub point_behind : (e : RoomEnd) (fs : List RoomEnd) (i : ℕ) (f : RoomEnd) → 0 < i → i ≤ length fs →
+    is_before (get_or fs (i - 1) f) e ≡ true → AllWithin (λ g. is_before g e ≡ false) fs i (length fs) →
+    IsPartitionedBy (λ g. is_before g e) fs → Point e fs i
+point_behind e fs i f more within before behind by = (
+  λ k d lo hi. by k (i - 1) d (omega (arith, hi)) (omega (arith, more, within))
+      (ap (λ (g : RoomEnd). is_before g e) (get_or_default fs (i - 1) d f (omega (arith, more, within))) ∙ before),
+  behind,
 )
-  where
-    by : (k : ℕ) (d : RoomEnd) → i ≤ k → k < length fs → (b : Bool) → is_before (get_or fs k d) e ≡ b →
-        is_before (get_or fs k d) e ≡ false
-    by k d lo hi false is = is
-    by k d lo hi true is =
-        absurd (not_both (is_before (get_or fs i d) e) (parted i k d lo hi is) (high d (omega (arith, lo, hi))))

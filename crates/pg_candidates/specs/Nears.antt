@@ -1,13 +1,14 @@
 -- What is worked out once of candidates for several rooms.
-use Rattle.std.specs.Prelude.{◌≡◌, ◌<◌, ◌^◌, ◌≤ℤ◌, ◌<ℤ◌, ◌+ℤ◌, ◌-ℤ◌, ◌&&◌, ℕ, Bool, true, false, if◌then◌else◌, not, List, [], ◌∷◌, flat_map, Option, Some, None, ℤ, pos, int_le, int_lt, nat_abs, slice_get, unwrap_or}
+use Rattle.std.specs.Prelude.{◌≡◌, ◌<◌, ◌^◌, ◌≤ℤ◌, ◌<ℤ◌, ◌+ℤ◌, ◌-ℤ◌, ◌&&◌, ℕ, Bool, true, false, if◌then◌else◌, not, List, [], ◌∷◌, flat_map, Option, Some, None, IfSome, ℤ, pos, int_le, int_lt, nat_abs, slice_get, unwrap_or}
 use Rattle.std.specs.Int.{int_min}
 use Rattle.std.specs.List.{AllByRecursion}
 use Rattle.std.specs.declared.cmp.Ordering.TheVariants.{Equal}
 use Rattle.pg_list.specs.declared.blocks.Block.{Block}
 use Rattle.pg_list.specs.declared.galley.Place.{Place}
 use Rattle.pg_breaks.specs.Near.{place_forced, place_penalty, place_spent}
-use Rattle.pg_column.specs.Numbers.{goal_by}
+use Rattle.pg_column.specs.Numbers.{cost_for, goal_by}
 use Rattle.pg_column.specs.Passed.{fits, note_height}
+use Rattle.pg_column.specs.declared.cost.TextCost.{TextCost}
 use Rattle.pg_ends.specs.declared.end.End.{End}
 use Rattle.pg_rules.specs.Room.{Document}
 use Rattle.pg_style.specs.Values.{StyleValue}
@@ -20,8 +21,8 @@ use Rattle.pg_candidates.specs.declared.kind.EndKind.{EndKind}
 -- ---- what no room changes
 
 -- what callers see of it: which candidate it is of, where its end is, the sums and the height of the notes of what was
--- passed, the demerits of its picks, what its end is, the room from which on that end is not needed, if there is one, and
--- the least room for a column to it
+-- passed, the demerits of its picks, what its end is, the room from which on that end is not needed, if there is one, the
+-- least room for a column to it, and the numbers of the end at a goal at which its badness is the worst, if one was found
 pub record NearValue : Type 0 where
   pub at : ℕ
   pub to : Place
@@ -31,6 +32,7 @@ pub record NearValue : Type 0 where
   pub kind : EndKind
   pub until : Option ℤ
   pub least : ℤ
+  pub worst : Option TextCost
 
 -- the least room in which such sums with notes of this height are not over
 abbrev pub least_by : Totals → ℤ → ℤ
@@ -63,6 +65,35 @@ is_room_for doc room c =
 abbrev pub IsLeastRoom : Document → Candidate → ℤ → Type 0
 IsLeastRoom doc c least = (room : ℤ) → is_room_for doc room c ≡ int_le least room
 
+-- a goal below 2^52 in size that sums are so far below that their badness is the worst
+pub record IsWorstGoal (totals : Totals) (goal : ℤ) : Type 0 where
+  pub size : nat_abs goal < 2 ^ 52
+  pub short : totals.total <ℤ goal
+  pub bad : badness_by false goal totals ≡ 10000
+
+-- the numbers of an end that is not spent, at a goal at which its badness is the worst
+pub record IsWorstCost (style : StyleValue) (kind : EndKind) (totals : Totals) (cost : TextCost) : Type 0 where
+  pub unspent : kind.is_spent ≡ false
+  pub short : totals.total <ℤ cost.goal
+  pub bad : badness_by false cost.goal totals ≡ 10000
+  pub is : cost ≡ cost_for style cost.goal totals kind.is_spent kind.penalty
+
+-- the same numbers at another goal
+abbrev pub at_goal : ℤ → TextCost → TextCost
+at_goal goal cost = record {
+  goal = goal;
+  total = cost.total;
+  badness = cost.badness;
+  fitness = cost.fitness;
+  penalty = cost.penalty;
+  demerits = cost.demerits;
+}
+
+-- the worst numbers at another goal, where that is not below theirs
+abbrev pub worst_at : ℤ → Option TextCost → Option TextCost
+worst_at goal None = None
+worst_at goal (Some worst) = if int_lt goal worst.goal then None else Some (at_goal goal worst)
+
 -- what no room changes of a candidate
 pub record IsNear (doc : Document) (c : Candidate) (near : NearValue) : Type 0 where
   pub to : near.to ≡ c.to
@@ -71,6 +102,7 @@ pub record IsNear (doc : Document) (c : Candidate) (near : NearValue) : Type 0 w
   pub pick_demerits : near.pick_demerits ≡ c.pick_demerits
   pub kind : near.kind ≡ kind_at doc.blocks c.to
   pub least : IsLeastRoom doc c near.least
+  pub worst : IfSome near.worst (IsWorstCost doc.style near.kind near.totals)
 
 -- of the candidate at its index
 abbrev pub IsNearIn : Document → List Candidate → NearValue → Type 0

@@ -1,5 +1,5 @@
 //! The best of the ends, for each place and fitness.
-ghost use Rattle.std.specs.Prelude.{◌≡◌, ◌≤◌, ◌<◌, ◌-◌, ◌+ℤ◌, OnOk, MatchOption, [], get_or, length, map, slice_get, true, false};
+ghost use Rattle.std.specs.Prelude.{◌≡◌, ◌≤◌, ◌+ℤ◌, OnOk, MatchOption, [], length, map, slice_get, true, false};
 ghost use Rattle.std.specs.Option.{option_map};
 ghost use Rattle.std.specs.Ordering.{nat_cmp, ordering_then};
 ghost use Rattle.std.specs.List.{insert};
@@ -16,7 +16,7 @@ use crate::near::Near;
 use crate::room_end::{RoomEnd, picks_of};
 use pg_column::TextCost;
 use pg_list::Place;
-use pg_plan::{compare_picks, compare_places};
+use pg_plan::compare_picks;
 use std::alloc::AllocError;
 use std::cmp::Ordering;
 
@@ -28,14 +28,26 @@ enum Spot {
     Nowhere,
 }
 
-// Compares two ends by their places, and at one place by their fitness.
+// Compares two ends by their places, and at one place by their fitness. The first number in which they differ decides, and
+// no later one is looked at.
+#[inline]
 fn compare_ends(a: &Place, fitness: u8, b: &Place, other: u8) -> Ordering
     ensures { result ≡ ordering_then (place_cmp a.now b.now) (nat_cmp fitness other) }
 {
-    compare_places(a, b).then(fitness.cmp(&other))
+    if a.block != b.block {
+        return a.block.cmp(&b.block);
+    }
+    if a.variant != b.variant {
+        return a.variant.cmp(&b.variant);
+    }
+    if a.index != b.index {
+        return a.index.cmp(&b.index);
+    }
+    fitness.cmp(&other)
 }
 
 // Whether an end stands before that of a candidate with these numbers.
+#[inline]
 fn is_before(end: &RoomEnd, near: &Near, cost: &TextCost) -> bool
     ensures { result ≡ is_before_of end.now (end_by near.now cost.now) }
 {
@@ -91,54 +103,20 @@ fn is_better(candidates: &[Candidate], near: &Near, cost: &TextCost, other: &Roo
         )
 }
 
-// Whether the end in front of an index, if there is one, stands before that of a candidate.
-fn comes_behind(ends: &[RoomEnd], at: usize, near: &Near, cost: &TextCost) -> bool
-    requires { at ≤ length ends.now }
-    ensures { result ≡ true → (d : ARoomEnd) → 0 < at →
-        is_before_of (get_or ends.now (at - 1) d) (end_by near.now cost.now) ≡ true }
-{
-    at == 0 || is_before(&ends[at - 1], near, cost)
-}
-
-// Whether the end at an index, if there is one, does not stand before that of a candidate.
-fn comes_in_front(ends: &[RoomEnd], at: usize, near: &Near, cost: &TextCost) -> bool
-    requires { at ≤ length ends.now }
-    ensures { result ≡ true → (d : ARoomEnd) → at < length ends.now →
-        is_before_of (get_or ends.now at d) (end_by near.now cost.now) ≡ false }
-{
-    at == ends.len() || !is_before(&ends[at], near, cost)
-}
-
-// Whether so many of the ends stand before that of a candidate, and the next one does not.
-fn is_point(ends: &[RoomEnd], at: usize, near: &Near, cost: &TextCost) -> bool
-    ensures within { result ≡ true → at ≤ length ends.now }
-    ensures point { result ≡ true →
-        IsPartitionedBy (λ (other : ARoomEnd). is_before_of other (end_by near.now cost.now)) ends.now →
-        IsPartitionPoint (λ (other : ARoomEnd). is_before_of other (end_by near.now cost.now) ≡ true)
-        (λ (other : ARoomEnd). is_before_of other (end_by near.now cost.now) ≡ false) ends.now at }
-{
-    if at > ends.len() || !comes_behind(ends, at, near, cost) {
-        return false;
-    }
-    comes_in_front(ends, at, near, cost)
-}
-
-// How many of the ends stand before that of a candidate. A hint that is right, or one too many since an end of the same
-// place is there, saves the search.
-fn count_before(ends: &[RoomEnd], hint: usize, near: &Near, cost: &TextCost) -> usize
+// How many of the ends stand before that of a candidate, by a look from the last one back. Candidates come in the order of
+// their places, so that few ends at the end of the list do not; in another order this would take longer and find the same.
+#[inline]
+fn count_before(ends: &[RoomEnd], near: &Near, cost: &TextCost) -> usize
     ensures point { IsPartitionedBy (λ (other : ARoomEnd). is_before_of other (end_by near.now cost.now)) ends.now →
         IsPartitionPoint (λ (other : ARoomEnd). is_before_of other (end_by near.now cost.now) ≡ true)
         (λ (other : ARoomEnd). is_before_of other (end_by near.now cost.now) ≡ false) ends.now result }
     ensures within { result ≤ length ends.now }
 {
-    if is_point(ends, hint, near, cost) {
-        return hint;
+    let mut at = ends.len();
+    'back: while at > 0 && !is_before(&ends[at - 1], near, cost) {
+        at -= 1;
     }
-    let fewer = hint.saturating_sub(1);
-    if is_point(ends, fewer, near, cost) {
-        return fewer;
-    }
-    ends.partition_point(|other| is_before(other, near, cost))
+    at
 }
 
 // Where the end of a candidate goes at this index.
@@ -219,21 +197,18 @@ fn put_in(
 }
 
 /// Adds the end of a candidate with these numbers to those that are in order, one for each place and fitness; the better one
-/// stays. It answers behind how many ends the next one is likely to belong. So does the hint say of this one; where it is
-/// wrong, the spot is searched.
+/// stays.
 pub(crate) fn keep_best(
     candidates: &[Candidate],
     ends: &mut Vec<RoomEnd>,
-    hint: usize,
     near: &Near,
     cost: TextCost,
-) -> Result<usize, AllocError>
+) -> Result<(), AllocError>
     ensures { OnOk result (Ascend (ends_of (map candidate_of candidates.now) ends.old.items) →
         ends_of (map candidate_of candidates.now) ends.new.items
         ≡ insert_end (end_of (map candidate_of candidates.now) (end_by near.now cost))
         (ends_of (map candidate_of candidates.now) ends.old.items)) }
 {
-    let at = count_before(ends.as_slice(), hint, near, &cost);
-    put_in(candidates, ends, at, near, cost)?;
-    Ok(at + 1)
+    let at = count_before(ends.as_slice(), near, &cost);
+    put_in(candidates, ends, at, near, cost)
 }

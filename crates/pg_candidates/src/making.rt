@@ -1,9 +1,10 @@
-//! What no room changes, worked out candidate by candidate.
+//! What no room changes, worked out candidate by candidate: also the numbers, but for the goal, of an end that is far too
+//! short.
 ghost use Rattle.std.specs.Prelude.{◌≡◌, ◌++◌, ◌∷◌, [], IfOk, IfSome, List, Some, map, slice_get, true, ℕ};
 ghost use Rattle.pg_list.specs.GalleyValue.{GalleyValue};
 ghost use Rattle.pg_rules.specs.Legal.{document};
 ghost use Rattle.pg_walk_laws.specs.Candidates.{Candidate as ACandidate};
-ghost use Rattle.pg_candidates.specs.Nears.{IsHopelessFrom, IsNear, IsServedFrom, IsWorst, kind_at as kind_at_of};
+ghost use Rattle.pg_candidates.specs.Nears.{IsHopelessFrom, IsNear, IsServedFrom, IsWorst, IsWorstCost, IsWorstGoal, kind_at as kind_at_of};
 ghost use Rattle.pg_candidates.specs.Seen.{AreSeen, AreServed};
 ghost use Rattle.pg_candidates.specs.View.{candidate_of};
 
@@ -12,9 +13,11 @@ use crate::kind::{EndKind, kind_at};
 use crate::least::least_of;
 use crate::near::Near;
 use crate::order::Ranked;
-use crate::until::{until_alone, until_beside, worst_from};
+use crate::until::{room_for, until_alone, until_beside, worst_goal};
+use pg_column::{TextCost, cost_for};
 use pg_list::{Galley, Place};
 use pg_style::Style;
+use pg_sums::Sums;
 use std::alloc::{AllocError, Global};
 
 // The first candidate of a place, the kind of its end, which all ends there share, and a room in which its badness is the
@@ -47,14 +50,17 @@ fn first_beside(candidates: &[Candidate], first: Option<First>, to: Place) -> Op
     }
 }
 
-// What no room changes of a candidate, whose end is of this kind and not needed from a room on.
+// What no room changes of a candidate, whose end is of this kind, not needed from a room on, and has these numbers at a goal
+// at which its badness is the worst.
 fn near_of(
     style: &Style,
     at: usize,
     kind: EndKind,
     until: Option<i64>,
+    worst: Option<TextCost>,
     candidate: &Candidate,
 ) -> Near
+    requires { IfSome worst (IsWorstCost style.now kind candidate.now.passed.sums.totals) }
     ensures at { result.at ≡ at }
     ensures near { (g : GalleyValue) → kind ≡ kind_at_of g.blocks candidate.now.to →
         IsNear (document g style.now) (candidate_of candidate.now) result }
@@ -70,11 +76,27 @@ fn near_of(
         kind,
         until,
         least: least_of(style, candidate),
+        worst,
     }
 }
 
-// Of a candidate that is the first of its place.
-fn near_first(style: &Style, first: First, candidate: &Candidate) -> Near
+// The numbers of an end of this kind at a goal at which its badness is the worst, if one was found; none where it is spent.
+fn worst_cost(style: &Style, kind: EndKind, goal: Option<i64>, sums: &Sums) -> Option<TextCost>
+    requires { IfSome goal (IsWorstGoal sums.now.totals) }
+    ensures { IfSome result (IsWorstCost style.now kind sums.now.totals) }
+{
+    if kind.is_spent {
+        return None;
+    }
+    match goal {
+        Some(least) => Some(cost_for(style, least, sums, false, kind.penalty)),
+        None => None,
+    }
+}
+
+// Of a candidate that is the first of its place, with a goal at which its badness is the worst, if one was found.
+fn near_first(style: &Style, first: First, goal: Option<i64>, candidate: &Candidate) -> Near
+    requires { IfSome goal (IsWorstGoal candidate.now.passed.sums.totals) }
     ensures at { result.at ≡ first.at }
     ensures near { (g : GalleyValue) → first.kind ≡ kind_at_of g.blocks candidate.now.to →
         IsNear (document g style.now) (candidate_of candidate.now) result }
@@ -83,7 +105,8 @@ fn near_first(style: &Style, first: First, candidate: &Candidate) -> Near
         IfSome result.until (IsHopelessFrom (document g style.now) (candidate_of candidate.now)) }
 {
     let until = until_alone(style, first.kind, first.worst);
-    near_of(style, first.at, first.kind, until, candidate)
+    let worst = worst_cost(style, first.kind, goal, &candidate.passed.sums);
+    near_of(style, first.at, first.kind, until, worst, candidate)
 }
 
 // The room from which on the end of a candidate is not needed beside the first one of its place, if one was found.
@@ -102,7 +125,8 @@ fn until_behind(
     until_beside(style, first.kind, first.worst, one, candidate)
 }
 
-// Of a candidate behind the first one of its place.
+// Of a candidate behind the first one of its place. Few rooms ask for it where its badness is the worst, so that no numbers
+// are worked out for that.
 fn near_behind(
     style: &Style,
     candidates: &[Candidate],
@@ -120,7 +144,7 @@ fn near_behind(
         IfSome result.until (IsServedFrom (document g style.now) one (candidate_of candidate.now)) }
 {
     let until = until_behind(style, candidates, first, candidate);
-    near_of(style, at, first.kind, until, candidate)
+    near_of(style, at, first.kind, until, None, candidate)
 }
 
 // Adds what no room changes of the candidate that is told, and answers which is the first of its place.
@@ -144,12 +168,13 @@ fn add_near(
         nears.push(near_behind(style, candidates, same, it.at, candidate))?;
         return Ok(Some(same));
     }
+    let goal = worst_goal(&candidate.passed.sums);
     let own = First {
         at: it.at,
         kind: kind_at(galley, candidate.to),
-        worst: worst_from(style, candidate),
+        worst: room_for(style, candidate, goal),
     };
-    nears.push(near_first(style, own, candidate))?;
+    nears.push(near_first(style, own, goal, candidate))?;
     Ok(Some(own))
 }
 

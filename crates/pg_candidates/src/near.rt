@@ -1,11 +1,12 @@
 //! What the rooms of a place share of its candidates.
 ghost use Rattle.std.specs.Prelude.{◌≡◌, IfNone, IfSome, [], int_lt};
 ghost use Rattle.pg_candidates.specs.RoomEnds.{picks_at};
-ghost use Rattle.pg_candidates.specs.Nears.{is_needed as is_needed_of};
+ghost use Rattle.pg_candidates.specs.Nears.{at_goal as at_goal_of, is_needed as is_needed_of, worst_at as worst_at_of};
 
 use crate::candidate::CandidateList;
 use crate::kind::EndKind;
 use crate::room_end::picks_of;
+use pg_column::TextCost;
 use pg_list::Place;
 use pg_plan::Picks;
 use pg_sums::Sums;
@@ -13,7 +14,9 @@ use std::marker::Model;
 
 /// What no room changes of a candidate, in scaled points: which one of the list it is, where its end is, the sums of what
 /// was passed and the height of its notes, the demerits of its picks, the kind of its end, the room from which on that end
-/// is not needed, if there is one, and the least room for a column to it. All that a room asks stands together here.
+/// is not needed, if there is one, the least room for a column to it, and the numbers of the end at a goal at which its
+/// badness is the worst, if one was found: at each greater goal they are the same but for the goal. All that a room asks
+/// stands together here.
 #[derive(Drop)]
 pub struct Near {
     pub at: usize,
@@ -24,6 +27,7 @@ pub struct Near {
     pub kind: EndKind,
     pub until: Option<i64>,
     pub least: i64,
+    pub worst: Option<TextCost>,
 }
 
 impl Model for Near {
@@ -40,9 +44,26 @@ impl Model for Near {
       kind = a.kind;
       until = a.until;
       least = a.least;
+      worst = a.worst;
     } };
 
     ghost invariant = { λ a. IsWellKept a.notes a.sums.totals a.least };
+}
+
+// Whether a goal is below the one of these numbers.
+#[inline]
+fn is_below(goal: i64, cost: &TextCost) -> bool
+    ensures { result ≡ int_lt goal cost.now.goal }
+{
+    goal < cost.goal
+}
+
+// The same numbers at another goal.
+#[inline]
+fn at_goal(goal: i64, cost: &TextCost) -> TextCost
+    ensures { result ≡ at_goal_of goal cost.now }
+{
+    TextCost { goal, ..*cost }
 }
 
 impl Near {
@@ -61,6 +82,18 @@ impl Near {
         ensures { result ≡ int_lt room self.now.least }
     {
         room < self.least
+    }
+
+    // The numbers at a goal, where its badness is known to be the worst.
+    #[inline]
+    pub(crate) fn worst_at(&self, goal: i64) -> Option<TextCost>
+        ensures { result ≡ worst_at_of goal self.now.worst }
+    {
+        let worst = self.worst.as_ref()?;
+        if is_below(goal, worst) {
+            return None;
+        }
+        Some(at_goal(goal, worst))
     }
 }
 

@@ -1,5 +1,5 @@
 //! The ends in a room among candidates.
-ghost use Rattle.std.specs.Prelude.{◌≡◌, ◌<◌, ◌^◌, ◌≤ℤ◌, ◌-ℤ◌, ◌||◌, ◌++◌, ◌∷◌, [], ℤ, List, false, int_lt, map, nat_le, OnOk, IfOk, nat_abs, slice_get, Some};
+ghost use Rattle.std.specs.Prelude.{◌≡◌, ◌<◌, ◌^◌, ◌≤ℤ◌, ◌-ℤ◌, ◌||◌, ◌++◌, ◌∷◌, [], ℤ, List, false, int_lt, map, nat_le, OnOk, IfOk, IfSome, nat_abs, slice_get, Some};
 ghost use Rattle.std.specs.List.{AllByRecursion};
 ghost use Rattle.pg_list.specs.GalleyValue.{GalleyValue};
 ghost use Rattle.pg_list.specs.declared.galley.Place.{Place as APlace};
@@ -8,7 +8,7 @@ ghost use Rattle.pg_ends.specs.Ends.{AreEnds};
 ghost use Rattle.pg_rules.specs.Legal.{document};
 ghost use Rattle.pg_walk_laws.specs.Best.{AreBest};
 ghost use Rattle.pg_walk_laws.specs.Candidates.{AreCandidates, Candidate as ACandidate, kept_ends};
-ghost use Rattle.pg_candidates.specs.Nears.{AreNear, IsNear, IsNearIn, needed_in, needed_of};
+ghost use Rattle.pg_candidates.specs.Nears.{AreNear, IsNear, IsNearIn, IsWorstCost, needed_in, needed_of};
 ghost use Rattle.pg_candidates.specs.RoomEnds.{ends_of};
 ghost use Rattle.pg_candidates.specs.View.{candidate_of};
 
@@ -49,29 +49,32 @@ fn is_tolerable(style: &Style, near: &Near, badness: u16) -> bool
 fn cost_of(style: &Style, room: i64, near: &Near) -> TextCost
     requires size { nat_abs room < 2 ^ 40 }
     requires high { int_lt room near.now.least ≡ false }
-    ensures { result ≡ cost_for_goal style.now (room -ℤ near.now.notes) near.now.totals near.now.kind.is_spent
+    ensures { IfSome near.now.worst (IsWorstCost style.now near.now.kind near.now.totals) →
+        result ≡ cost_for_goal style.now (room -ℤ near.now.notes) near.now.totals near.now.kind.is_spent
         near.now.kind.penalty }
 {
     let goal = goal_of(room, near);
-    cost_for(
-        style,
-        goal,
-        &near.sums,
-        near.kind.is_spent,
-        near.kind.penalty,
-    )
+    match near.worst_at(goal) {
+        Some(cost) => cost,
+        None => cost_for(
+            style,
+            goal,
+            &near.sums,
+            near.kind.is_spent,
+            near.kind.penalty,
+        ),
+    }
 }
 
 // Adds the end of the candidate that this is of, where it keeps the rules in a room that is not below its least one and no
-// end there is better. It answers behind how many ends the next one is likely to belong, as the hint says of this one.
+// end there is better.
 fn keep_end(
     style: &Style,
     room: i64,
     candidates: &[Candidate],
     near: &Near,
-    hint: usize,
     ends: &mut Vec<RoomEnd>,
-) -> Result<usize, AllocError>
+) -> Result<(), AllocError>
     requires size { nat_abs room < 2 ^ 40 }
     requires high { int_lt room near.now.least ≡ false }
     ensures { OnOk result ((g : GalleyValue) (cs : List ACandidate) (c : ACandidate) →
@@ -82,9 +85,9 @@ fn keep_end(
 {
     let cost = cost_of(style, room, near);
     if !is_tolerable(style, near, cost.badness) {
-        return Ok(hint);
+        return Ok(());
     }
-    keep_best(candidates, ends, hint, near, cost)
+    keep_best(candidates, ends, near, cost)
 }
 
 // Adds the end of the candidate that this is of, where it is needed in a room.
@@ -93,9 +96,8 @@ fn keep_near(
     room: i64,
     candidates: &[Candidate],
     near: &Near,
-    hint: usize,
     ends: &mut Vec<RoomEnd>,
-) -> Result<usize, AllocError>
+) -> Result<(), AllocError>
     requires { nat_abs room < 2 ^ 40 }
     ensures { OnOk result ((g : GalleyValue) (cs : List ACandidate) →
         IsNearIn (document g style.now) (map candidate_of candidates.now) near.now →
@@ -105,15 +107,15 @@ fn keep_near(
         (ends_of (map candidate_of candidates.now) ends.new.items)) }
 {
     if near.is_too_low(room) {
-        return Ok(hint);
+        return Ok(());
     }
     if !near.is_needed(room) {
-        return Ok(hint);
+        return Ok(());
     }
     if near.at >= candidates.len() {
-        return Ok(hint);
+        return Ok(());
     }
-    keep_end(style, room, candidates, near, hint, ends)
+    keep_end(style, room, candidates, near, ends)
 }
 
 impl NearList {
@@ -144,9 +146,8 @@ impl NearList {
         candidates_give_ends(galley, style);
         let candidates = self.candidates.as_slice();
         let mut ends = Vec::with_capacity(alloc, self.nears.len().min(ROOM))?;
-        let mut hint = 0usize;
         'each: for near in self.nears.as_slice() {
-            hint = keep_near(style, room, candidates, near, hint, &mut ends)?;
+            keep_near(style, room, candidates, near, &mut ends)?;
         }
         Ok(ends)
     }

@@ -7,7 +7,7 @@ ghost use Rattle.pg_rules.specs.Legal.{document};
 ghost use Rattle.pg_sums.specs.Step.{badness_by};
 ghost use Rattle.pg_walk_laws.specs.Best.{IsCheaper};
 ghost use Rattle.pg_walk_laws.specs.Candidates.{Candidate as ACandidate};
-ghost use Rattle.pg_candidates.specs.Nears.{IsHopelessFrom, IsServedFrom, IsWorst, kind_at};
+ghost use Rattle.pg_candidates.specs.Nears.{IsHopelessFrom, IsServedFrom, IsWorst, IsWorstGoal, kind_at};
 ghost use Rattle.pg_candidates.specs.View.{candidate_of};
 
 use crate::candidate::Candidate;
@@ -53,18 +53,34 @@ fn is_worst(sums: &Sums, goal: i64) -> bool
     sums.total() < goal && sums.page_badness(goal, false) == 10000
 }
 
-// A room in which what was passed is so far below its goal that the badness is the worst, if one was found. So it is in
-// each greater room.
-pub(crate) fn worst_from(style: &Style, candidate: &Candidate) -> Option<i64>
-    ensures { IfSome result (IsWorst style.now (candidate_of candidate.now)) }
+// A goal that sums are so far below that their badness is the worst, if one was found. So it is at each greater goal.
+pub(crate) fn worst_goal(sums: &Sums) -> Option<i64>
+    ensures { IfSome result (IsWorstGoal sums.now.totals) }
 {
-    let sums = &candidate.passed.sums;
     let goal = far_goal(sums.total(), sums.totals().finite)?;
     if is_worst(sums, goal) {
-        Some(plus(goal, candidate.passed.notes.height(style)))
+        Some(goal)
     } else {
         None
     }
+}
+
+// The room that leaves what was passed such a goal, if there is one. In each greater room the badness is the worst too.
+pub(crate) fn room_for(style: &Style, candidate: &Candidate, goal: Option<i64>) -> Option<i64>
+    requires { IfSome goal (IsWorstGoal candidate.now.passed.sums.totals) }
+    ensures { IfSome result (IsWorst style.now (candidate_of candidate.now)) }
+{
+    match goal {
+        Some(least) => Some(plus(least, candidate.passed.notes.height(style))),
+        None => None,
+    }
+}
+
+// A room in which what was passed is so far below its goal that the badness is the worst, if one was found.
+fn worst_from(style: &Style, candidate: &Candidate) -> Option<i64>
+    ensures { IfSome result (IsWorst style.now (candidate_of candidate.now)) }
+{
+    room_for(style, candidate, worst_goal(&candidate.passed.sums))
 }
 
 // Whether the worst badness is no end of this kind: it is neither forced nor spent, and the tolerance is below that.

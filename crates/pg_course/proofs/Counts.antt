@@ -87,13 +87,13 @@ pub taken_counted : (style : StyleValue) (galley : GalleyValue) (shown : List Sh
 taken_counted style galley shown before after known few counted =
     subst (λ (xs : List Show). AreCounted style xs before after) (sym (taken_all style galley shown known few)) counted
 
--- a session that was solved for its galley as it stands showed it
+-- a session that was solved or paginated for its galley as it stands showed it
 pub shown_counted : (old new : SessionValue) (before after : ℕ) → IsShown old new before after →
     AreCounted old.style (show_of old ∷ []) before after
 shown_counted old new before after shown =
     all_counted old.style (show_of old ∷ []) before after
-    (show_counted old.style [] old new shown.outcome before before after refl (none_counted old.style before)
-    shown.solved)
+    (show_counted old.style [] old shown.number before before after refl (none_counted old.style before) shown.counts
+    shown.bounded)
 
 -- what is counted of a new session's galley
 pub new_counted : (galley : GalleyValue) (style : StyleValue) (made : SessionValue) (before after : ℕ) →
@@ -102,10 +102,10 @@ pub new_counted : (galley : GalleyValue) (style : StyleValue) (made : SessionVal
 new_counted galley style made before after is counted =
     subst (λ (session : SessionValue). AreCounted session.style (show_of session ∷ []) before after) is.is counted
 
--- a new session was solved once
-pub solved_once : (galley : GalleyValue) (style : StyleValue) (made new : SessionValue) (before after : ℕ) →
+-- a new session was solved or paginated once
+pub shown_once : (galley : GalleyValue) (style : StyleValue) (made new : SessionValue) (before after : ℕ) →
     IsNew galley style made → IsShown made new before after → AreCounted style (one_show galley) before after
-solved_once galley style made new before after is shown =
+shown_once galley style made new before after is shown =
     new_counted galley style made before after is (shown_counted made new before after shown)
 
 pub ok_of : {T E P : Type 0} → (r : Result T E) → P → OnOk r P

@@ -32,6 +32,7 @@ use Rattle.pg_course.specs.Out.{RunOut}
 use Rattle.pg_course.specs.Steps.{AreMade, IsChange, IsForgotten, IsNoStep, IsRefused, IsShow, IsStep, IsUnwritten, ending_of_made, shown_end}
 use Rattle.pg_course.proofs.Checks.{earlier_rose}
 use Rattle.pg_course.proofs.Runs.{appends_none}
+use Rattle.pg_course.proofs.Shown.{shown_next}
 
 pub none_made : (labels : Bool) (first : SessionValue) (old : Option (List ℕ)) (before : ℕ) →
     AreMade labels first [] first true old old before before
@@ -120,7 +121,7 @@ module _ (labels : Bool) (first : SessionValue) where
       AreMade labels first made now legal old mid before middle → IsShow labels now new shown mid newest middle after →
       AreMade labels first (made ++ AShow ∷ []) new (legal && shown) old newest before after
   show_made now new made legal shown old mid newest before middle after m s = record {
-    style = ap (λ (v : SessionValue). v.style) s.shown.solved.is ∙ m.style;
+    style = s.shown.style ∙ m.style;
     texts = m.texts ++ s.text ∷ [];
     goes_on = λ rest later last line steps.
         rw (append_assoc made (AShow ∷ []) rest, append_assoc m.texts (s.text ∷ []) later)
@@ -146,21 +147,21 @@ module _ (labels : Bool) (first : SessionValue) where
         ∙ m.shows_on (AShow ∷ rest)
         ∙ ap (λ (xs : List Show). m.shown ++ (show_of now ∷ xs)) (rest_is rest)
         ∙ sym (append_assoc m.shown (show_of now ∷ []) (shows_from (show_of new) first.style rest));
-    counted =
-        show_counted first.style m.shown now new s.shown.outcome before middle after m.style m.counted s.shown.solved;
+    counted = show_counted first.style m.shown now s.shown.number before middle after m.style m.counted s.shown.counts
+        s.shown.bounded;
   }
     where
       out : RunOut labels now.galley first.style s.text (shown_end shown)
       out = subst (λ (style : StyleValue). RunOut labels now.galley style s.text (shown_end shown)) m.style s.out
 
       galley_is : new.galley ≡ now.galley
-      galley_is = ap (λ (v : SessionValue). v.galley) s.shown.solved.is
+      galley_is = s.shown.galley
 
       count : length (made ++ AShow ∷ []) + 1 ≡ length made + 1 + 1
       count = ap (λ (n : ℕ). n + 1) (one_more made AShow)
 
       next_is : show_of new ≡ after_show (show_of now)
-      next_is = ap show_of s.shown.solved.is
+      next_is = shown_next now new middle after s.shown
 
       rest_is : (rest : List ScriptStep) → shows_from (after_show (show_of now)) first.style rest
           ≡ shows_from (show_of new) first.style rest

@@ -4,6 +4,7 @@ pub mod WorkedLines
 pub mod Checks
 pub mod Edited
 pub mod Complete
+pub mod Shown
 pub mod Counts
 pub mod Scripts
 pub mod Stepping

@@ -1,15 +1,14 @@
 -- How many steps the solving of a command's galleys may take.
-use Rattle.std.specs.Prelude.{◌≡◌, ◌^◌, ℕ, List, [], nat_le, ⊤, Option, Some, None, Result, Ok, Err, IfSome}
+use Rattle.std.specs.Prelude.{◌≡◌, ◌+◌, ◌≤◌, ◌^◌, ℕ, List, [], nat_le, ⊤, Option, Some, None, Result, Ok, Err, IfSome}
 use Rattle.std.specs.Prelude.{if◌then◌else◌}
 use Rattle.std.specs.Option.{option_map_or}
 use Rattle.pg_list.specs.GalleyValue.{GalleyValue}
 use Rattle.pg_style.specs.Values.{StyleValue}
 use Rattle.pg_floats.specs.AreFloats.{unknown_class, float_total}
-use Rattle.pg_space.specs.declared.solving.Outcome.{Outcome}
 use Rattle.pg_edits.specs.declared.script.ScriptStep.{ScriptStep}
 use Rattle.pg_session.specs.SessionValue.{SessionValue}
-use Rattle.pg_session.specs.Sessions.{IsSolved}
-use Rattle.pg_session.specs.Shows.{AreCounted, Show, one_show, shows_from, unseen}
+use Rattle.pg_session.specs.Sessions.{above_all}
+use Rattle.pg_session.specs.Shows.{AreCounted, Counts, Show, one_show, show_of, shows_from, unseen}
 use Rattle.pg_make.specs.Generated.{made_galley}
 use Rattle.pg_make.specs.Made.{made_style}
 use Rattle.pg_outside.specs.Outside.{Held}
@@ -69,7 +68,13 @@ abbrev pub UnlessMemory : Status → Type 0 → Type 0
 UnlessMemory Memory P = ⊤
 UnlessMemory status P = P
 
--- a session was solved for its galley as it stands
+-- a session was solved or paginated for its galley as it stands: that was shown, nothing is touched behind it, and the
+-- steps rose by at most the number of the show
 pub record IsShown (old new : SessionValue) (before after : ℕ) : Type 0 where
-  pub outcome : Outcome
-  pub solved : IsSolved old outcome new before after
+  pub galley : new.galley ≡ old.galley
+  pub style : new.style ≡ old.style
+  pub floats : new.floats ≡ old.floats
+  pub untouched : new.touched ≡ above_all
+  pub number : ℕ
+  pub counts : Counts old.style (show_of old) number
+  pub bounded : after ≤ before + number

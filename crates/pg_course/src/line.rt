@@ -115,7 +115,7 @@ fn line_for_none(
     Ok(text)
 }
 
-/// The line of the galley of so many paragraphs, which has so many items and is solved, with so many labels.
+/// The line of the galley of so many paragraphs, which has so many items and labels, and this outcome.
 pub fn line_of(
     alloc: Global,
     count: u32,

@@ -63,15 +63,9 @@ fn line_under<L: Ledger>(
     ensures counted { OnOk result (AreCounted made_style (one_show (made_galley count)) steps.old steps.new) }
 {
     let mut session = session_of(alloc, count)?;
-    let outcome = session.solve(steps)?;
+    let told = session.paginate(steps)?;
     let items = session.galley().count_items();
-    line_of(
-        alloc,
-        count,
-        items,
-        &outcome,
-        session.labels().as_slice().len(),
-    )
+    line_of(alloc, count, items, &told.outcome, told.labels)
 }
 
 // Writes the line of the galley of so many paragraphs in one piece, and answers how that ends the run.

@@ -1,5 +1,5 @@
 //! What is written for a galley.
-ghost use Rattle.std.specs.Prelude.{◌≡◌, ◌++◌, IfOk, OnOk};
+ghost use Rattle.std.specs.Prelude.{◌≡◌, ◌++◌, true, false, IfOk, OnOk};
 ghost use Rattle.pg_floats.specs.AreFloats.{AreFloats};
 ghost use Rattle.pg_space.specs.Solves.{Solves};
 ghost use Rattle.pg_text_laws.specs.Texts.{LegalHaveEachOnce};
@@ -110,16 +110,14 @@ fn with_labels(text: PageText, labels: &LabelList, style: &Style) -> Result<Page
     }
 }
 
-/// The text for the galley of a session as it stands, which is solved for it: of its best pagination, or the line for
-/// none where none is legal; where `labels` is true with the text of the frontier's labels behind it.
-pub fn page_text_of<L: Ledger>(
+// The text for the galley of a session as it stands, which is solved for it, with the text of its labels behind it.
+fn labelled_text_of<L: Ledger>(
     alloc: Global,
     session: &mut Session,
-    labels: bool,
     steps: &mut Steps<L>,
 ) -> Result<PageText, AllocError>
     ensures text { IfOk result (λ page.
-        RunOut labels session.old.galley session.old.style (bytes_of page) (end_of page)) }
+        RunOut true session.old.galley session.old.style (bytes_of page) (end_of page)) }
     ensures shown { OnOk result (IsShown session.old session.new steps.old steps.new) }
 {
     let outcome = session.solve(steps)?;
@@ -130,9 +128,45 @@ pub fn page_text_of<L: Ledger>(
         session.floats(),
         &outcome,
     )?;
+    with_labels(text, session.labels(), session.style())
+}
+
+// The same without labels, which are not listed.
+fn plain_text_of<L: Ledger>(
+    alloc: Global,
+    session: &mut Session,
+    steps: &mut Steps<L>,
+) -> Result<PageText, AllocError>
+    ensures text { IfOk result (λ page.
+        RunOut false session.old.galley session.old.style (bytes_of page) (end_of page)) }
+    ensures shown { OnOk result (IsShown session.old session.new steps.old steps.new) }
+{
+    let told = session.paginate(steps)?;
+    text_of(
+        alloc,
+        session.galley(),
+        session.style(),
+        session.floats(),
+        &told.outcome,
+    )
+}
+
+/// The text for the galley of a session as it stands: of its best pagination, or the line for none where none is
+/// legal; where `labels` is true with the text of the frontier's labels behind it. No labels are listed where it is
+/// not.
+pub fn page_text_of<L: Ledger>(
+    alloc: Global,
+    session: &mut Session,
+    labels: bool,
+    steps: &mut Steps<L>,
+) -> Result<PageText, AllocError>
+    ensures text { IfOk result (λ page.
+        RunOut labels session.old.galley session.old.style (bytes_of page) (end_of page)) }
+    ensures shown { OnOk result (IsShown session.old session.new steps.old steps.new) }
+{
     if labels {
-        with_labels(text, session.labels(), session.style())
+        labelled_text_of(alloc, session, steps)
     } else {
-        Ok(text)
+        plain_text_of(alloc, session, steps)
     }
 }

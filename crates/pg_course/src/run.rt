@@ -24,7 +24,7 @@ use std::alloc::Global;
 use std::sync::ledger::Ledger;
 
 /// Writes the text for the galley of a session as it stands in one piece, where `labels` is true with its labels, and
-/// answers how that ends the run. Unless memory runs out, the session is solved behind it.
+/// answers how that ends the run. Unless memory runs out, nothing of the session is touched behind it.
 pub fn write_shown<'a, O: Sink, L: Ledger>(
     alloc: Global,
     session: &mut Session,

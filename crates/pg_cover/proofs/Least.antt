@@ -1,6 +1,6 @@
 -- The least place where a step ends that no label covers.
 use Rattle.std.proofs.Common.{◌≡◌, refl, sym, ap, subst, ◌∙◌, ◌⊎◌, inl, inr, zero, suc, ◌<◌, List, [], ◌∷◌, ◌++◌, Bool, true, false, Option, Some, None, append_assoc, arith}
-use Rattle.std.specs.Prelude.{Contains, if◌then◌else◌, IfOk, Result, Ok, Err, ◌+ℤ◌}
+use Rattle.std.specs.Prelude.{Contains, if◌then◌else◌, ◌+ℤ◌}
 use Rattle.std.specs.Bool.{Decides}
 use Rattle.std.specs.Ordering.{is_lt}
 use Rattle.std.specs.declared.cmp.Ordering.TheVariants.{Less}
@@ -10,18 +10,15 @@ use Rattle.pg_plan.specs.Order.{place_cmp}
 use Rattle.pg_plan.specs.declared.pages.PageMove.{PageMove}
 use Rattle.pg_plan.specs.declared.states.Label.{Label}
 use Rattle.pg_plan.specs.declared.states.State.{State}
-use Rattle.pg_table.specs.Space.{AreMoves, Lawful, Meaning}
+use Rattle.pg_table.specs.Space.{AreWanted, Lawful, Meaning}
 use Rattle.pg_table.specs.declared.step.Step.{Step}
 use Rattle.std.proofs.lemmas.Option.{same_Some}
 use Rattle.std.proofs.lemmas.List.{append-nil}
-use Rattle.pg_cover.specs.Covered.{CoveredBy, CoversStep, IsNotBefore, IsOpenEnd, IsOpenOf, LeastBehind, LeastOf, OpenTo, least_with}
+use Rattle.pg_cover.specs.Covered.{CoveredBy, CoversStep, has_cover, IsNotBefore, IsOpenEnd, IsOpenOf, LeastBehind, LeastOf, OpenTo, least_with}
 use Rattle.pg_plan.proofs.OrderLaws.{place_total}
 use Rattle.pg_lemmas.proofs.Bools.{not_both}
 use Rattle.pg_cover.proofs.Places.{less_chain, lt_less, not_less_itself}
-
-pub if_ok : {A E : Type 0} {P Q : A → Type 0} (r : Result A E) → IfOk r P → ((x : A) → P x → Q x) → IfOk r Q
-if_ok (Ok x) p f = f x p
-if_ok (Err e) p f = p
+use Rattle.pg_cover.proofs.Spared.{cover_of}
 
 module _ {K : Type 0} (sp : Meaning State PageMove K) (labels : List Label) (label : Label) where
   pub least_first : (all : List (Step State PageMove)) → LeastBehind sp labels label all all None
@@ -146,40 +143,53 @@ module _ {K : Type 0} (sp : Meaning State PageMove K) (labels : List Label) (lab
       (sym (old.all_is ∙ ap (λ (z : List (Step State PageMove)). z ++ old.done) e))
       (Contains-append_left (new ++ x ∷ []) old.done x (Contains-append_right new (x ∷ []) x (0, omega arith, refl))))
 
-  -- ---- all steps of a label
+  -- ---- the wanted steps of a label
 
-  pub open_least : (steps : List (Step State PageMove)) (least : Option Place) → AreMoves sp label.state steps →
+  -- what leads to what no label covers is among them
+  among_wanted : (steps : List (Step State PageMove)) →
+      AreWanted sp label.state (λ v c. has_cover sp labels v (label.cost +ℤ c)) steps → (to : Place) →
+      (o : OpenTo sp labels label to) → Contains steps (record { to = o.next; by = o.move; cost = o.pays })
+  among_wanted steps wanted to o = by (wanted.whole o.move o.next o.pays o.follow)
+    where
+      by : Contains steps (record { to = o.next; by = o.move; cost = o.pays })
+          ⊎ (has_cover sp labels o.next (label.cost +ℤ o.pays) ≡ true) →
+          Contains steps (record { to = o.next; by = o.move; cost = o.pays })
+      by (inl at) = at
+      by (inr h) = absurd (o.uncovered (cover_of sp labels o.next (label.cost +ℤ o.pays) h))
+
+  pub open_least : (steps : List (Step State PageMove)) (least : Option Place) →
+      AreWanted sp label.state (λ v c. has_cover sp labels v (label.cost +ℤ c)) steps →
       LeastOf sp labels label steps least → IsOpenOf sp labels label least
-  open_least steps None moves l = none
+  open_least steps None wanted l = none
     where
       none : (to : Place) → OpenTo sp labels label to → ⊥
-      none to o = by (l.bound (record { to = o.next; by = o.move; cost = o.pays })
-          (moves.whole o.move o.next o.pays o.follow))
+      none to o = by (l.bound (record { to = o.next; by = o.move; cost = o.pays }) (among_wanted steps wanted to o))
         where
           by : CoveredBy sp labels o.next (label.cost +ℤ o.pays) ⊎ ⊥ → ⊥
           by (inl k) = o.uncovered k
           by (inr z) = z
-  open_least steps (Some to) moves l = (some (l.found to refl), before)
+  open_least steps (Some to) wanted l = (some (l.found to refl), before)
     where
       some : IsOpenEnd sp labels label steps to → OpenTo sp labels label to
       some o = record {
         move = o.step.by;
         next = o.step.to;
         pays = o.step.cost;
-        follow = moves.sound o.step o.listed;
+        follow = wanted.sound o.step o.listed;
         ends = o.ends;
         uncovered = o.uncovered;
       }
 
       before : (other : Place) → place_cmp other to ≡ Less → OpenTo sp labels label other → ⊥
       before other less o = by (l.bound (record { to = o.next; by = o.move; cost = o.pays })
-          (moves.whole o.move o.next o.pays o.follow))
+          (among_wanted steps wanted other o))
         where
           by : CoveredBy sp labels o.next (label.cost +ℤ o.pays) ⊎ (place_cmp o.move.column.to to ≡ Less → ⊥) → ⊥
           by (inl k) = o.uncovered k
           by (inr n) = n (subst (λ (z : Place). place_cmp z to ≡ Less) (sym o.ends) less)
 
   pub own_steps : (eq : K → K → Bool) → Lawful eq sp → sp.Own label.state → (steps : List (Step State PageMove)) →
-      AreMoves sp label.state steps → (step : Step State PageMove) → Contains steps step → sp.Own step.to
-  own_steps eq law own steps moves step c =
-      law.own_next label.state step.by step.to step.cost own (moves.sound step c)
+      AreWanted sp label.state (λ v c. has_cover sp labels v (label.cost +ℤ c)) steps →
+      (step : Step State PageMove) → Contains steps step → sp.Own step.to
+  own_steps eq law own steps wanted step c =
+      law.own_next label.state step.by step.to step.cost own (wanted.sound step c)

@@ -1,3 +1,4 @@
 mod Least
 mod Places
 mod Searched
+mod Spared

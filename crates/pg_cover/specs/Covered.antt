@@ -1,5 +1,6 @@
 -- Labels that cover states of a space.
-use Rattle.std.specs.Prelude.{◌≡◌, ◌<◌, ◌⊎◌, ◌++◌, ℕ, Bool, true, false, if◌then◌else◌, List, Option, Some, None, slice_get, ℤ, ◌+ℤ◌, ◌≤ℤ◌, Contains}
+use Rattle.std.specs.Prelude.{◌≡◌, ◌<◌, ◌⊎◌, ◌++◌, ◌&&◌, ℕ, Bool, true, false, if◌then◌else◌, List, Option, Some, None, slice_get, ℤ, ◌+ℤ◌, ◌≤ℤ◌, int_le, Contains}
+use Rattle.std.specs.List.{list_any}
 use Rattle.std.specs.Ordering.{is_lt}
 use Rattle.std.specs.declared.cmp.Ordering.TheVariants.{Less}
 use Rattle.pg_list.specs.declared.galley.Place.{Place}
@@ -26,6 +27,10 @@ pub record CoveredBy {M K : Type 0} (sp : Meaning State M K) (labels : List Labe
   pub label : Label
   pub listed : Contains labels label
   pub does : DoesCover sp label state cost
+
+-- the same as a test
+unfoldable pub has_cover : {M K : Type 0} → Meaning State M K → List Label → State → ℤ → Bool
+has_cover sp labels state cost = list_any (λ label. sp.no_worse label.state state && int_le label.cost cost) labels
 
 -- a label covers what the step of a label leads to
 abbrev pub CoversStep : {K : Type 0} → Meaning State PageMove K → List Label → Label → Step State PageMove → Type 0

@@ -1,32 +1,23 @@
 //! Labels tested whether they are closed.
-ghost use Rattle.std.specs.Prelude.{◌≡◌, true, length, Contains, IfOk, Some, None, ◌≤ℤ◌, ◌+ℤ◌};
+ghost use Rattle.std.specs.Prelude.{◌≡◌, true, length, Contains, IfOk, Some, None, ◌+ℤ◌};
 ghost use Rattle.std.specs.Bool.{Decides};
 ghost use Rattle.pg_plan.specs.declared.states.Label.{Label as ALabel};
-ghost use Rattle.pg_table.specs.Space.{AreMoves};
+ghost use Rattle.pg_table.specs.Space.{AreWanted};
 ghost use Rattle.pg_table.specs.declared.step.Step.{Step as AStep};
 ghost use Rattle.pg_plan.specs.declared.pages.PageMove.{PageMove as AMove};
 ghost use Rattle.pg_plan.specs.declared.states.State.{State as AState};
 ghost use Rattle.pg_cover.specs.declared.cover.Open.{Open as AnOpen};
-ghost use Rattle.pg_cover.specs.Covered.{AreOwn, CoveredBy, DoesCover, CoversStep, LeastOf, least_with, IsOpenOf, NoneOpenBefore, IsFirstOpen};
+ghost use Rattle.pg_cover.specs.Covered.{AreOwn, CoveredBy, DoesCover, CoversStep, LeastOf, least_with, has_cover, IsOpenOf, NoneOpenBefore, IsFirstOpen};
 
+use crate::covering::{Covering, is_within};
 use crate::hints::{Hints, hints_of};
 use pg_list::Place;
 use pg_plan::compare_places;
 use pg_small::{SmallLabel, SmallMove, SmallState};
 use pg_steps::Steps;
-use pg_table::{Space, Step, StepList};
+use pg_table::{Offering, Space, Step, StepList};
 use std::alloc::{AllocError, Global};
 use std::sync::ledger::Ledger;
-
-// Whether a cost is at most the sum of two, which may be beyond 128 bits.
-fn is_within(cost: i128, base: i128, pays: i128) -> bool
-    ensures { Decides result (cost ≤ℤ (base +ℤ pays)) }
-{
-    match base.checked_add(pays) {
-        Some(sum) => cost <= sum,
-        None => pays > 0,
-    }
-}
 
 // Whether the label has a state that is no worse, at a cost that is at most the sum of two.
 fn label_covers<S: Space<State = SmallState>>(
@@ -64,11 +55,11 @@ pub fn covers<S: Space<State = SmallState>>(
     false
 }
 
-// Whether one of the labels at these places covers what a step of a label leads to.
-fn among_covers<S: Space<State = SmallState, Move = SmallMove>>(
+// Whether one of the labels in the chain for a rank covers what a step of a label leads to.
+fn chain_covers<S: Space<State = SmallState, Move = SmallMove>>(
     space: &S,
     labels: &[SmallLabel],
-    places: &[usize],
+    hints: &Hints,
     label: &SmallLabel,
     step: &Step<SmallState, SmallMove>,
 ) -> bool
@@ -76,33 +67,33 @@ fn among_covers<S: Space<State = SmallState, Move = SmallMove>>(
     requires to { (S.meaning space.now).Own step.now.to }
     ensures { result ≡ true → CoversStep (S.meaning space.now) labels.now label.now step.now }
 {
-    for place in places {
-        if *place < labels.len()
-            && label_covers(space, &labels[*place], &step.to, label.cost, step.cost)
+    let mut number = hints.first(space.block(&step.to), space.rank(&step.to));
+    'chain: while number > 0 {
+        let index = number - 1;
+        if index < labels.len()
+            && label_covers(space, &labels[index], &step.to, label.cost, step.cost)
         {
             return true;
         }
+        number = hints.behind(index);
     }
     false
 }
 
-// Whether a label covers what a step of a label leads to. The labels of its key are looked at first.
+// Whether a label covers what a step of a label leads to. The labels of its rank are looked at first.
 fn covers_step<S: Space<State = SmallState, Move = SmallMove>>(
     space: &S,
     labels: &[SmallLabel],
-    hints: &Hints<S::Key>,
+    hints: &Hints,
     label: &SmallLabel,
     step: &Step<SmallState, SmallMove>,
-) -> Result<bool, AllocError>
+) -> bool
     requires labels { AreOwn (S.meaning space.now) labels.now }
     requires to { (S.meaning space.now).Own step.now.to }
-    ensures { IfOk result (λ r. Decides r (CoversStep (S.meaning space.now) labels.now label.now step.now)) }
+    ensures { Decides result (CoversStep (S.meaning space.now) labels.now label.now step.now) }
 {
-    let key = space.key(&step.to)?;
-    if among_covers(space, labels, hints.places_of(&key), label, step) {
-        return Ok(true);
-    }
-    Ok(covers(space, labels, &step.to, label.cost, step.cost))
+    chain_covers(space, labels, hints, label, step)
+        || covers(space, labels, &step.to, label.cost, step.cost)
 }
 
 // The least of places, with one more unless what ends there is covered.
@@ -139,40 +130,49 @@ fn least_by(
 fn least_open<S: Space<State = SmallState, Move = SmallMove>>(
     space: &S,
     labels: &[SmallLabel],
-    hints: &Hints<S::Key>,
+    hints: &Hints,
     label: &SmallLabel,
     steps: StepList<SmallState, SmallMove>,
-) -> Result<Option<Place>, AllocError>
+) -> Option<Place>
     requires labels { AreOwn (S.meaning space.now) labels.now }
     requires steps { (step : AStep AState AMove) → Contains steps step → (S.meaning space.now).Own step.to }
-    ensures { IfOk result (LeastOf (S.meaning space.now) labels.now label.now steps) }
+    ensures { LeastOf (S.meaning space.now) labels.now label.now steps result }
 {
     let mut steps = steps;
     let mut least = None;
     while let Some(step) = steps.pop() {
-        let is_covered = covers_step(space, labels, hints, label, &step)?;
+        let is_covered = covers_step(space, labels, hints, label, &step);
         least = least_by(is_covered, least, &step);
     }
-    Ok(least)
+    least
 }
 
-// All columns that may follow a label.
-fn steps_of<S: Space<State = SmallState, Move = SmallMove>, L: Ledger>(
+// The columns that may follow a label, but for some of which a label is found that covers what they lead to.
+fn steps_of<S: Offering<State = SmallState, Move = SmallMove>, L: Ledger>(
     space: &S,
+    labels: &[SmallLabel],
+    hints: &Hints,
     label: &SmallLabel,
     steps: &mut Steps<L>,
 ) -> Result<StepList<SmallState, SmallMove>, AllocError>
     requires { (S.meaning space.now).Own label.now.state }
-    ensures { IfOk result (AreMoves (S.meaning space.now) label.now.state) }
+    ensures { IfOk result (AreWanted (S.meaning space.now) label.now.state
+        (λ v c. has_cover (S.meaning space.now) labels.now v (label.now.cost +ℤ c))) }
 {
-    Ok(space.expand(&label.state, steps)?.steps)
+    let wants = Covering {
+        space,
+        labels,
+        hints,
+        cost: label.cost,
+    };
+    Ok(space.offer(&label.state, steps, &wants)?.steps)
 }
 
 // The least place where a column that follows a label ends, and no label covers what it leads to.
-fn open_of<S: Space<State = SmallState, Move = SmallMove>, L: Ledger>(
+fn open_of<S: Offering<State = SmallState, Move = SmallMove>, L: Ledger>(
     space: &S,
     labels: &[SmallLabel],
-    hints: &Hints<S::Key>,
+    hints: &Hints,
     label: &SmallLabel,
     steps: &mut Steps<L>,
 ) -> Result<Option<Place>, AllocError>
@@ -180,8 +180,8 @@ fn open_of<S: Space<State = SmallState, Move = SmallMove>, L: Ledger>(
     requires label { (S.meaning space.now).Own label.now.state }
     ensures { IfOk result (IsOpenOf (S.meaning space.now) labels.now label.now) }
 {
-    let opened = steps_of(space, label, steps)?;
-    least_open(space, labels, hints, label, opened)
+    let opened = steps_of(space, labels, hints, label, steps)?;
+    Ok(least_open(space, labels, hints, label, opened))
 }
 
 /// A label, by its index from 0, behind which stands a column that leads to what no label covers, and the least place
@@ -194,7 +194,7 @@ pub struct Open {
 
 /// The first label with a column behind it that leads to what no label covers; None where there is no such label. Each
 /// label up to that one is opened once, and counted as a step. The only refusal is for want of memory.
-pub fn first_open<S: Space<State = SmallState, Move = SmallMove>, L: Ledger>(
+pub fn first_open<S: Offering<State = SmallState, Move = SmallMove>, L: Ledger>(
     alloc: Global,
     space: &S,
     labels: &[SmallLabel],

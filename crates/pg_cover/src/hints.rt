@@ -1,62 +1,83 @@
-//! Where the labels of a key stand. What is kept here decides nothing: it is only looked at first.
+//! Where the labels of a rank stand. What is kept here decides nothing: it is only looked at first.
+ghost use Rattle.std.specs.Prelude.{◌≤◌};
 ghost use Rattle.pg_cover.specs.Covered.{AreOwn};
 
-use indexmap::IndexSet;
 use pg_small::{SmallLabel, SmallState};
 use pg_table::Space;
 use std::alloc::{AllocError, Global};
-use std::hash::Hash;
 
-/// For each key the places of the labels that have it.
+/// How many numbers a chain tells apart.
+const NUMBERS: usize = 1 << 32;
+
+/// Labels in chains, by a hash of block and rank. A label has as its number its index and one more, and 0 stands behind
+/// the last one of a chain. Nothing is promised of a number: who follows it has to look at what is there.
 #[derive(Drop)]
-pub(crate) struct Hints<K: Eq + Hash> {
-    keys: IndexSet<K>,
-    places: Vec<Vec<usize>>,
+pub(crate) struct Hints {
+    heads: Vec<u32>,
+    nexts: Vec<u32>,
+    /// How many bits of a hash are left out.
+    shift: u32,
 }
 
-impl<K: Eq + Hash + Drop> Hints<K> {
-    /// The places of the labels of a key.
-    pub(crate) fn places_of(&self, key: &K) -> &[usize] {
-        match self.keys.get_index_of(key) {
-            Some(at) => {
-                if at < self.places.len() {
-                    self.places[at].as_slice()
-                } else {
-                    &[]
-                }
-            }
-            None => &[],
+impl Hints {
+    /// Empty chains, more than so many labels.
+    fn new(alloc: Global, count: usize) -> Result<Hints, AllocError> {
+        let log = count.max(1).ilog2();
+        Ok(Hints {
+            heads: vec![in alloc; 0u32; 2 << log]?,
+            nexts: vec![in alloc; 0u32; count]?,
+            shift: 63 - log,
+        })
+    }
+
+    /// Which of the chains is for labels of this block and rank.
+    fn spot_of(&self, block: u32, rank: u64) -> usize {
+        let mixed = rank ^ u64::from(block).rotate_left(40);
+        mixed
+            .wrapping_mul(0x9E37_79B9_7F4A_7C15)
+            .wrapping_shr(self.shift) as usize
+    }
+
+    /// Puts the label at an index in front of the chain for its block and rank.
+    fn put(&mut self, index: usize, block: u32, rank: u64) {
+        let spot = self.spot_of(block, rank);
+        if spot < self.heads.len() && index < self.nexts.len() {
+            self.nexts[index] = self.heads[spot];
+            self.heads[spot] = ((index + 1) % NUMBERS) as u32;
         }
     }
 
-    fn add(&mut self, key: K, place: usize) -> Result<(), AllocError> {
-        let (at, _) = self.keys.insert_full(key)?;
-        if at >= self.places.len() {
-            let empty = Vec::new(*self.places.allocator());
-            self.places.push(empty)?;
+    /// The number of the first label in the chain for a block and a rank; 0 where there is none.
+    pub(crate) fn first(&self, block: u32, rank: u64) -> usize {
+        match self.heads.get(self.spot_of(block, rank)) {
+            Some(number) => *number as usize,
+            None => 0,
         }
-        if at < self.places.len() {
-            self.places[at].push(place)?;
+    }
+
+    /// The number of the label behind the one at an index, which is of a lesser index; 0 where there is none.
+    pub(crate) fn behind(&self, index: usize) -> usize
+        ensures { result ≤ index }
+    {
+        match self.nexts.get(index) {
+            Some(number) => index.min(*number as usize),
+            None => 0,
         }
-        Ok(())
     }
 }
 
-/// The places of labels by their keys.
+/// The chains of labels.
 pub(crate) fn hints_of<S: Space<State = SmallState>>(
     alloc: Global,
     space: &S,
     labels: &[SmallLabel],
-) -> Result<Hints<S::Key>, AllocError>
+) -> Result<Hints, AllocError>
     requires { AreOwn (S.meaning space.now) labels.now }
 {
-    let mut hints = Hints {
-        keys: IndexSet::new(alloc),
-        places: Vec::new(alloc),
-    };
-    for place in 0..labels.len() {
-        let label = &labels[place];
-        hints.add(space.key(&label.state)?, place)?;
+    let mut hints = Hints::new(alloc, labels.len())?;
+    for index in 0..labels.len() {
+        let label = &labels[index];
+        hints.put(index, space.block(&label.state), space.rank(&label.state));
     }
     Ok(hints)
 }

@@ -3,11 +3,13 @@
 //!
 //! Proved for every space whose states and moves are those of pages: `first_open` answers the first label with a column
 //! that leads to what no label covers, and the least place where such a column ends, or None where there is none; costs
-//! are compared as whole numbers. The definitions are in `specs/Covered`. That a label is found by hashing, and not by
-//! looking through all, is no part of what is proved.
+//! are compared as whole numbers. The definitions are in `specs/Covered`. Before a column is made, the space asks whether
+//! a label is found that covers what it leads to, and such a column is not made. That a label is found by hashing, and
+//! not by looking through all, is no part of what is proved.
 #![tactic(auto)]
 
 mod cover;
+mod covering;
 mod hints;
 
 pub use cover::{Open, covers, first_open};

@@ -49,7 +49,7 @@ module _ (n : ℕ) (blocks others : List Block) (same : SameBlocks n blocks othe
   at_same : (at : Place) → at.block < n → item_at blocks at ≡ item_at others at
   at_same at h = ap (λ (items : List Item). slice_get items at.index) (around_same at h)
 
-  ahead_same : (c : Cursor) → c.block < n → item_ahead blocks c ≡ item_ahead others c
+  pub ahead_same : (c : Cursor) → c.block < n → item_ahead blocks c ≡ item_ahead others c
   ahead_same c h = by c.is_inner
     where
       by : (b : Bool) →
@@ -111,7 +111,7 @@ module _ (n : ℕ) (blocks others : List Block) (same : SameBlocks n blocks othe
       by true = refl
       by false = refl
 
-  break_same : (c : Cursor) → c.block + 1 < n →
+  pub break_same : (c : Cursor) → c.block + 1 < n →
       is_some (place_penalty blocks (place_ahead c)) ≡ is_some (place_penalty others (place_ahead c))
   break_same c h = let p = place_block c in
       ap (λ (o : Option ℤ). is_some o) (penalty_same (place_ahead c) (omega (arith, p, h)))
@@ -120,7 +120,7 @@ module _ (n : ℕ) (blocks others : List Block) (same : SameBlocks n blocks othe
   ends_same c x h = ap (λ (b : Bool). is_insert x || b) (break_same c h)
 
   -- the next place is at most one block on
-  near_next : (c : Cursor) → (settled blocks (stepped c)).block ≤ c.block + 1
+  pub near_next : (c : Cursor) → (settled blocks (stepped c)).block ≤ c.block + 1
   near_next c = by c.is_inner
     where
       inner : Cursor
@@ -137,7 +137,7 @@ module _ (n : ℕ) (blocks others : List Block) (same : SameBlocks n blocks othe
       by false = omega arith
 
   module _ (maxdepth : ℤ) where
-    one_same : (h : HopValue) (x : Item) → h.to.block < n →
+    pub one_same : (h : HopValue) (x : Item) → h.to.block < n →
         past_one blocks maxdepth h x ≡ past_one others maxdepth h x
     one_same h x l = ap (λ (c : Cursor). record (past_one others maxdepth h x) { to = c }) (next_same h.to l)
 

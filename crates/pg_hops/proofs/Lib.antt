@@ -3,5 +3,9 @@ pub mod OneStep
 pub mod PlainOn
 pub mod OneMore
 pub mod BelowCut
+pub mod LeapOne
+pub mod LeapBelow
+pub mod LeapOn
+pub mod LeapBound
 pub mod RowHops
 pub mod Stepped

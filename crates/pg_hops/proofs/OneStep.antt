@@ -36,7 +36,7 @@ no_more a = omega arith
 no_less : (a r : ℕ) → a ≤ max a r
 no_less a r = omega arith
 
-greater_is : (a r : ℕ) → a ≤ r → max a r ≡ r
+pub greater_is : (a r : ℕ) → a ≤ r → max a r ≡ r
 greater_is a r h = omega (arith, h)
 
 -- ---- past the item ahead

@@ -10,6 +10,7 @@ use Rattle.pg_list.specs.declared.item.Item.TheVariants.{BoxItem, Rule, Glue, Ke
 use Rattle.pg_list.specs.declared.blocks.Block.{Block}
 use Rattle.pg_list.specs.Shapes.{IsBlock, is_insert}
 use Rattle.pg_style.specs.declared.style.Class.{Class}
+use Rattle.pg_flat.specs.Break.{is_forcing}
 use Rattle.pg_breaks.specs.Near.{place_forced, place_penalty}
 use Rattle.pg_lemmas.proofs.Bools.{if_false, if_true}
 use Rattle.pg_notes.specs.declared.sums.NoteSum.{NoteSum}
@@ -62,7 +63,7 @@ module _ (blocks : List Block) (maxdepth : ℤ) (P : HopValue → Type 0)
 
 -- ---- one item
 
-on_block : (blocks : List Block) (c : Cursor) → c.block ≤ (settled blocks (stepped c)).block
+pub on_block : (blocks : List Block) (c : Cursor) → c.block ≤ (settled blocks (stepped c)).block
 on_block blocks c =
     let more = behind (stepped c) (is_behind blocks (stepped c)) in
     let least = step c.is_inner in
@@ -97,13 +98,67 @@ same_sums p t u m n e f = ap (λ (v : Totals). with_sums p v m) e ∙ ap (λ (v 
 
 module _ (doc : Document) (p : Passed) (box : p.totals.has_box ≡ true) (item : Item) (plain : is_insert item ≡ false) where
   -- behind a box an item that is no insert shifts the sums alone
-  next_moved : (s : Shift) → with_next doc.style (moved p s) item ≡ moved p (with_shift doc.style.maxdepth s item)
+  pub next_moved : (s : Shift) → with_next doc.style (moved p s) item ≡ moved p (with_shift doc.style.maxdepth s item)
   next_moved s = same_sums p _ _ _ _ (shift_step doc.style.topskip doc.style.maxdepth p.totals s box item)
       (keep_notes doc.style.classes p.notes item plain)
 
   next_first : with_next doc.style p item ≡ moved p (with_shift doc.style.maxdepth no_shift item)
   next_first = ap (λ (t : Totals). with_next doc.style (with_sums p t p.notes) item) (sym (shift_none p.totals))
       ∙ next_moved no_shift
+
+-- past an item at no break
+pub plain_passed : (doc : Document) (c : Cursor) (item : Item) (ahead : Some item ≡ item_ahead doc.blocks c)
+    (q : Passed) → q.totals.has_box ≡ true → is_some (place_penalty doc.blocks (place_ahead c)) ≡ false →
+    pass_item doc q (one doc c item ahead q) ≡ Some (with_next doc.style q item)
+plain_passed doc c item ahead q box none =
+    let at = place_ahead c in
+    let no_end : is_end_here doc.blocks q at ≡ false =
+    ap (λ (t : Bool). t && is_some (place_penalty doc.blocks at)) box ∙ none in
+    if_false (is_end_here doc.blocks q at)
+    (if place_forced doc.blocks at then None else Some (with_next doc.style (crossed doc.style q) item))
+    (Some (with_next doc.style q item)) no_end
+
+-- past one at a break that it does not force
+pub free_passed : (doc : Document) → AllByRecursion IsBlock doc.blocks → (c : Cursor) (item : Item)
+    (ahead : Some item ≡ item_ahead doc.blocks c) → is_some (place_penalty doc.blocks (place_ahead c)) ≡ true →
+    is_forcing item ≡ false → (q : Passed) → q.totals.has_box ≡ true →
+    pass_item doc q (one doc c item ahead q) ≡ Some (with_next doc.style (crossed doc.style q) item)
+free_passed doc all c item ahead is_break is_free q box =
+    let at = place_ahead c in
+    let is_end : is_end_here doc.blocks q at ≡ true =
+    ap (λ (t : Bool). t && is_some (place_penalty doc.blocks at)) box ∙ is_break in
+    if_true (is_end_here doc.blocks q at)
+    (if place_forced doc.blocks at then None else Some (with_next doc.style (crossed doc.style q) item))
+    (Some (with_next doc.style q item)) is_end
+    ∙ if_false (place_forced doc.blocks at) None (Some (with_next doc.style (crossed doc.style q) item))
+    (break_free doc.blocks all c item (sym ahead) is_break is_free)
+
+-- past the first one, from such a break
+pub first_passed : (doc : Document) → AllByRecursion IsBlock doc.blocks → (c : Cursor) (item : Item)
+    (ahead : Some item ≡ item_ahead doc.blocks c) → is_some (place_penalty doc.blocks (place_ahead c)) ≡ true →
+    is_forcing item ≡ false → (p : Passed) → p.totals.has_box ≡ true →
+    pass_item doc p (one doc c item ahead p)
+    ≡ Some (moved (crossed doc.style p) (with_shift doc.style.maxdepth no_shift item))
+first_passed doc all c item ahead is_break is_free p box = free_passed doc all c item ahead is_break is_free p box
+    ∙ ap Some (next_first doc (crossed doc.style p) box item
+    (break_insert doc.blocks all c item (sym ahead) is_break))
+
+-- ---- as many are passed as are counted
+
+module _ (blocks : List Block) (maxdepth : ℤ) (from : Cursor) where
+  abbrev pub AreCounted : HopValue → Type 0
+  AreCounted h = (h.added.count + length (items_ahead blocks h.to) ≡ length (items_ahead blocks from))
+      × (1 ≤ h.added.count)
+
+  pub first_counted : (item : Item) → item_ahead blocks from ≡ Some item →
+      AreCounted (past_one blocks maxdepth (standing from) item)
+  first_counted item a = let long = ap length (ahead_is blocks from item a) in (omega (arith, long), omega arith)
+
+  pub more_counted : (h : HopValue) (item : Item) → item_ahead blocks h.to ≡ Some item → AreCounted h →
+      AreCounted (past_one blocks maxdepth h item)
+  more_counted h item a are =
+      let long = ap length (ahead_is blocks h.to item a) in
+      (omega (arith, long, are.0), omega (arith, are.1))
 
 -- ---- all items of a hop
 
@@ -115,20 +170,11 @@ module _ (doc : Document) (from : Cursor) (item : Item) (ahead : Some item ≡ i
   abbrev begun : HopValue
   begun = past_one doc.blocks doc.style.maxdepth (standing from) item
 
-  -- as many are passed as are counted
-  abbrev AreCounted : HopValue → Type 0
-  AreCounted h = (h.added.count + length (items_ahead doc.blocks h.to) ≡ length (items_ahead doc.blocks from))
-      × (1 ≤ h.added.count)
-
-  pub hop_counts : AreCounted hop
-  hop_counts = past_all doc.blocks doc.style.maxdepth AreCounted step hop (hop.added.count - 1) begun over.plain
-      (let long = ap length (ahead_is doc.blocks from item (sym ahead)) in omega (arith, long), omega arith)
-    where
-      step : (h : HopValue) (x : Item) → item_ahead doc.blocks h.to ≡ Some x → ends_hop doc.blocks h.to x ≡ false →
-          AreCounted h → AreCounted (past_one doc.blocks doc.style.maxdepth h x)
-      step h x a free are =
-          let long = ap length (ahead_is doc.blocks h.to x a) in
-          (omega (arith, long, are.0), omega (arith, are.1))
+  pub hop_counts : AreCounted doc.blocks doc.style.maxdepth from hop
+  hop_counts = past_all doc.blocks doc.style.maxdepth (AreCounted doc.blocks doc.style.maxdepth from)
+      (λ h x a free are. more_counted doc.blocks doc.style.maxdepth from h x a are)
+      hop (hop.added.count - 1) begun over.plain
+      (first_counted doc.blocks doc.style.maxdepth from item (sym ahead))
 
   module _ (all : AllByRecursion IsBlock doc.blocks) (p : Passed) (box : p.totals.has_box ≡ true) where
     abbrev over_it : Passed
@@ -136,19 +182,6 @@ module _ (doc : Document) (from : Cursor) (item : Item) (ahead : Some item ≡ i
 
     abbrev Reaches : HopValue → Type 0
     Reaches h = Goes doc from h.to p (moved over_it h.added.shift)
-
-    first_passed : pass_item doc p (one doc from item ahead p) ≡ Some (moved over_it begun.added.shift)
-    first_passed =
-        let at = place_ahead from in
-        let is_end : is_end_here doc.blocks p at ≡ true =
-        ap (λ (t : Bool). t && is_some (place_penalty doc.blocks at)) box ∙ over.is_break in
-        if_true (is_end_here doc.blocks p at)
-        (if place_forced doc.blocks at then None else Some (with_next doc.style over_it item))
-        (Some (with_next doc.style p item)) is_end
-        ∙ (if_false (place_forced doc.blocks at) None (Some (with_next doc.style over_it item))
-        (break_free doc.blocks all from item (sym ahead) over.is_break over.is_free)
-        ∙ ap Some (next_first doc over_it box item
-        (break_insert doc.blocks all from item (sym ahead) over.is_break)))
 
     plain_step : (h : HopValue) (x : Item) → item_ahead doc.blocks h.to ≡ Some x → ends_hop doc.blocks h.to x ≡ false →
         Reaches h → Reaches (past_one doc.blocks doc.style.maxdepth h x)
@@ -160,9 +193,7 @@ module _ (doc : Document) (from : Cursor) (item : Item) (ahead : Some item ≡ i
         ap (λ (t : Bool). t && is_some (place_penalty doc.blocks at)) box ∙ none.1 in
         let passed : pass_item doc q (one doc h.to x (sym a) q)
         ≡ Some (moved over_it (with_shift doc.style.maxdepth h.added.shift x)) =
-        if_false (is_end_here doc.blocks q at)
-        (if place_forced doc.blocks at then None else Some (with_next doc.style (crossed doc.style q) x))
-        (Some (with_next doc.style q x)) no_end
+        plain_passed doc h.to x (sym a) q box none.1
         ∙ ap Some (next_moved doc over_it box x none.0 h.added.shift) in
         goes_on doc from h.to (settled doc.blocks (stepped h.to)) p q
         (moved over_it (with_shift doc.style.maxdepth h.added.shift x)) went
@@ -172,4 +203,5 @@ module _ (doc : Document) (from : Cursor) (item : Item) (ahead : Some item ≡ i
     -- past a break and the plain items behind it
     pub hop_goes : Goes doc from hop.to p (moved over_it hop.added.shift)
     hop_goes = past_all doc.blocks doc.style.maxdepth Reaches plain_step hop (hop.added.count - 1) begun over.plain
-        (goes_one doc from item ahead p (moved over_it begun.added.shift) first_passed)
+        (goes_one doc from item ahead p (moved over_it begun.added.shift)
+        (first_passed doc all from item ahead over.is_break over.is_free p box))

@@ -47,8 +47,25 @@ pub fn is_end_ahead(
     hop.is_some() || passed.ends_at(galley, at, here, item)
 }
 
+/// Past the items of a way.
+pub(crate) fn add_items(way: &Hop, passed: &mut Passed)
+    requires few { (passed.old.sums.count + way.now.added.count ≤ 2 ^ 20)
+        × (passed.old.notes.count + way.now.added.count ≤ 2 ^ 20) }
+    ensures value { view passed.new ≡ moved (view passed.old) way.now.added.shift }
+    ensures kept { (passed.new.sums.topskip ≡ passed.old.sums.topskip)
+        × (passed.new.sums.maxdepth ≡ passed.old.sums.maxdepth) }
+    ensures counts { (passed.new.sums.count ≡ passed.old.sums.count + way.now.added.count)
+        × (passed.new.notes.count ≡ passed.old.notes.count + way.now.added.count) }
+{
+    let added = way.added();
+    passed.sums.stays_bounded();
+    let totals = added.moved(passed.sums.totals());
+    passed.sums.take_totals(totals, added.count());
+    passed.notes.count_others(added.count());
+}
+
 // Past a break and the items of a hop from it.
-fn leap(style: &Style, hop: &Hop, passed: &mut Passed)
+fn hop_over(style: &Style, hop: &Hop, passed: &mut Passed)
     requires style { IsFor style.now passed.old }
     requires few { (passed.old.sums.count + hop.now.added.count ≤ 2 ^ 20)
         × (passed.old.notes.count + hop.now.added.count ≤ 2 ^ 20) }
@@ -58,11 +75,7 @@ fn leap(style: &Style, hop: &Hop, passed: &mut Passed)
         × (passed.new.notes.count ≡ passed.old.notes.count + hop.now.added.count) }
 {
     passed.cross(style);
-    let added = hop.added();
-    passed.sums.stays_bounded();
-    let totals = added.moved(passed.sums.totals());
-    passed.sums.take_totals(totals, added.count());
-    passed.notes.count_others(added.count());
+    add_items(hop, passed);
 }
 
 /// One step from a cursor: past all items of a hop from it, or past its next item. Answers where the step leads; none where
@@ -99,7 +112,7 @@ pub fn go(
     let _shape = galley.blocks().as_slice();
     match hop {
         Some(hop) => {
-            leap(style, hop, passed);
+            hop_over(style, hop, passed);
             Some(hop.to())
         }
         None => {

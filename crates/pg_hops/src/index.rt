@@ -1,25 +1,41 @@
-//! The hops of a whole galley.
-ghost use Rattle.std.specs.Prelude.{◌≡◌, ℤ, ℕ, List, Some, IfOk, slice_get, take};
+//! The hops and leaps of a whole galley.
+ghost use Rattle.std.specs.Prelude.{◌≡◌, ℤ, ℕ, List, Some, None, IfOk, IfSome, slice_get, take};
 ghost use Rattle.std.specs.Option.{option_copied};
 ghost use Rattle.pg_list.specs.declared.blocks.Block.{Block as ABlock};
-ghost use Rattle.pg_hops.specs.Index.{AreHops, AreRowHops, AreVariantHops, hop_at, hop_in as hop_in_of};
+ghost use Rattle.pg_hops.specs.Leap.{IsLeap};
+ghost use Rattle.pg_hops.specs.Index.{AreHops, AreHopsInside, AreRowHops, AreVariantHops, hop_at, hop_in as hop_in_of, leap_at, leap_in as leap_in_of, leap_here as leap_here_of, within};
 
-use crate::finding::hop_from;
+use crate::finding::{hop_from, is_insert, leap_from};
 use crate::hop::Hop;
-use pg_list::{Block, Galley, Variant};
+use crate::leap::Leap;
+use pg_list::{Block, Galley, Item, Variant};
 use pg_stretch::Cursor;
 use pg_style::Style;
 use std::alloc::{AllocError, Global};
 use std::marker::Model;
 
+/// The leap from an item of a variant.
+#[derive(Clone, Copy, Debug)]
+pub(crate) struct LeapAt {
+    index: u32,
+    leap: Leap,
+}
+
+/// The hops from each item of a variant, and the leap from its first break behind all inserts.
+#[derive(Drop)]
+pub(crate) struct VariantHops {
+    hops: Vec<Option<Hop>>,
+    leap: Option<LeapAt>,
+}
+
 /// The hops from the places of a block: of a single item, or of each item of each variant.
 #[derive(Drop)]
 pub(crate) enum Row {
     Single(Option<Hop>),
-    Variants(Vec<Vec<Option<Hop>>>),
+    Variants(Vec<VariantHops>),
 }
 
-/// The hops of a galley, block by block. What is not kept is found item by item.
+/// The hops and leaps of a galley, block by block. What is not kept is found item by item.
 #[derive(Drop)]
 pub struct BreakIndex {
     rows: Vec<Row>,
@@ -34,14 +50,14 @@ impl Model for BreakIndex {
     ghost view = { λ a. a.rows.items };
 }
 
-// How far behind a block the last item may be that tells where its hops lead: two more than the items of the longest hop.
-const REACH: usize = 66;
+// How far behind a block the last item may be that tells where its leaps lead: two more than the items of the longest leap.
+const REACH: usize = 258;
 
 // No galley has more items.
 const MOST: u32 = 1 << 20;
 
 // The hops from the items of a variant, of which there are so many.
-fn variant_hops(
+fn hops_inside(
     alloc: Global,
     galley: &Galley,
     style: &Style,
@@ -49,7 +65,7 @@ fn variant_hops(
     variant: u32,
     count: usize,
 ) -> Result<Vec<Option<Hop>>, AllocError>
-    ensures { IfOk result (λ hops. AreVariantHops galley.now.blocks style.now.maxdepth block variant (Some hops)) }
+    ensures { IfOk result (λ hops. AreHopsInside galley.now.blocks style.now.maxdepth block variant hops.items) }
 {
     let mut hops = Vec::new(alloc);
     hops.reserve(count)?;
@@ -67,6 +83,72 @@ fn variant_hops(
     Ok(hops)
 }
 
+// How many items stand up to the last insert.
+fn behind_inserts(items: &[Item]) -> usize {
+    let mut rest = items;
+    'items: while let [before @ .., last] = rest {
+        if is_insert(last) {
+            break;
+        }
+        rest = before;
+    }
+    rest.len()
+}
+
+// The first index from one on at which a hop is kept.
+fn first_hop(hops: &[Option<Hop>], from: usize) -> Option<u32> {
+    let mut index = from;
+    'hops: while index < MOST as usize {
+        if hops.get(index)?.is_some() {
+            return Some(index as u32);
+        }
+        index += 1;
+    }
+    None
+}
+
+// The leap from an item of a variant.
+fn leap_inside(
+    galley: &Galley,
+    style: &Style,
+    block: u32,
+    variant: u32,
+    index: u32,
+) -> Option<LeapAt>
+    ensures { IfSome result (λ it.
+        IsLeap galley.now.blocks style.now.maxdepth (within block variant it.index) it.leap) }
+{
+    let from = Cursor {
+        block,
+        variant,
+        index,
+        is_inner: true,
+    };
+    Some(LeapAt {
+        index,
+        leap: leap_from(galley, style, from)?,
+    })
+}
+
+// The hops from the items of a variant, and the leap from its first break behind all inserts.
+fn variant_hops(
+    alloc: Global,
+    galley: &Galley,
+    style: &Style,
+    block: u32,
+    variant: u32,
+    items: &[Item],
+) -> Result<VariantHops, AllocError>
+    ensures { IfOk result (λ it. AreVariantHops galley.now.blocks style.now.maxdepth block variant (Some it)) }
+{
+    let hops = hops_inside(alloc, galley, style, block, variant, items.len())?;
+    let leap = match first_hop(hops.as_slice(), behind_inserts(items)) {
+        Some(index) => leap_inside(galley, style, block, variant, index),
+        None => None,
+    };
+    Ok(VariantHops { hops, leap })
+}
+
 // The hops from the items of each variant of a choice.
 fn choice_hops(
     alloc: Global,
@@ -74,7 +156,7 @@ fn choice_hops(
     style: &Style,
     block: u32,
     variants: &[Variant],
-) -> Result<Vec<Vec<Option<Hop>>>, AllocError>
+) -> Result<Vec<VariantHops>, AllocError>
     ensures { IfOk result (λ all. (variant : ℕ) →
         AreVariantHops galley.now.blocks style.now.maxdepth block variant (slice_get all.items variant)) }
 {
@@ -84,8 +166,7 @@ fn choice_hops(
         let Some(it) = variants.get(variant as usize) else {
             break;
         };
-        let count = it.items.as_slice().len();
-        all.push(variant_hops(alloc, galley, style, block, variant, count)?)?;
+        all.push(variant_hops(alloc, galley, style, block, variant, it.items.as_slice())?)?;
         variant += 1;
     }
     Ok(all)
@@ -151,8 +232,41 @@ fn hop_in(row: &Row, at: Cursor) -> Option<&Hop>
             if at.is_inner {
                 variants
                     .get(at.variant as usize)?
+                    .hops
                     .get(at.index as usize)?
                     .as_ref()
+            } else {
+                None
+            }
+        }
+    }
+}
+
+// The leap of a variant, if it is the one from this index.
+fn leap_here(leap: &Option<LeapAt>, index: u32) -> Option<&Leap>
+    ensures { option_copied result ≡ leap_here_of leap.now index }
+{
+    match leap {
+        Some(it) => {
+            if it.index == index {
+                Some(&it.leap)
+            } else {
+                None
+            }
+        }
+        None => None,
+    }
+}
+
+// The leap from a cursor at the block of a row.
+fn leap_in(row: &Row, at: Cursor) -> Option<&Leap>
+    ensures { option_copied result ≡ leap_in_of (Some row.now) at.is_inner at.variant at.index }
+{
+    match row {
+        Row::Single(_) => None,
+        Row::Variants(variants) => {
+            if at.is_inner {
+                leap_here(&variants.get(at.variant as usize)?.leap, at.index)
             } else {
                 None
             }
@@ -195,5 +309,12 @@ impl BreakIndex {
         ensures { option_copied result ≡ hop_at self.now at }
     {
         hop_in(self.rows.get(at.block as usize)?, at)
+    }
+
+    /// The leap from a cursor, where one is kept.
+    pub fn leap(&self, at: Cursor) -> Option<&Leap>
+        ensures { option_copied result ≡ leap_at self.now at }
+    {
+        leap_in(self.rows.get(at.block as usize)?, at)
     }
 }

@@ -10,6 +10,7 @@ ghost use Rattle.pg_hops.specs.Index.{AreHops};
 
 use crate::going::{go, hop_ahead, is_end_ahead};
 use crate::index::BreakIndex;
+use crate::leaping::leap_over;
 use pg_list::Galley;
 use pg_stretch::{Cursor, Passed};
 use pg_style::Style;
@@ -30,7 +31,7 @@ fn greater(a: u32, b: u32) -> u32
     if a < b { b } else { a }
 }
 
-/// Goes through the items ahead, by hops where the index knows them, up to a break that is forced or that no room up to the
+/// Goes through the items ahead, by leaps and hops where the index knows them, up to a break that is forced or that no room up to the
 /// greatest one lets pass.
 ///
 /// Conditions: the index is of the galley and style, what was passed before is of this style and lets some such room pass,
@@ -63,6 +64,10 @@ pub fn pass_on(
     let mut passed = before;
     let mut greatest = 0;
     'ahead: while let Some(item) = at.item(galley) {
+        if let Some(next) = leap_over(galley, style, index, top, at, &mut passed) {
+            at = next;
+            continue;
+        }
         let here = at.place();
         greatest = greater(greatest, here.block);
         let hop = hop_ahead(index, &passed, at);

@@ -134,11 +134,11 @@ rank_is doc u place tail p t = omega (arith, p, t)
 
 pub behind_is : (style : StyleValue) (u : State) (laid : Laid) (settled : Settled) (to : Place) (fitness : Option ℕ)
     (next state : State) (page : ℤ) (tail : ℕ) → next ≡ state_behind style u laid to fitness settled.ages →
-    page ≡ page_price style u laid settled.price → nat_abs page ≤ 2 ^ 52 → tail ≡ rank_tail next → state ≡ next →
+    page ≡ page_price style u laid settled.price → nat_abs page ≤ 2 ^ 52 → tail ≡ rank_tail state → state ≡ next →
     IsBehind style u laid settled (record { state = state; page = page; tail = tail })
 behind_is style u laid settled to fitness next state page tail is price small told same = record {
   state = subst (λ (v : State). v ≡ state_behind style u laid v.place v.fitness settled.ages) (sym (same ∙ is)) refl;
   page = price;
   small = small;
-  tail = told ∙ ap (λ (v : State). rank_tail v) (sym same);
+  tail = told;
 }

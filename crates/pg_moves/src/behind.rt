@@ -1,24 +1,22 @@
 //! The state behind a column, made once for all ends of a layout, so that a step can be asked about before it is made.
-ghost use Rattle.std.specs.Prelude.{◌≡◌, ◌≤◌, ◌+◌, ◌*◌, ◌^◌, ◌%◌, ◌==◌, if◌then◌else◌, nat_abs, ◌+ℤ◌, IfOk, length};
-ghost use Rattle.std.specs.Option.{option_map_or};
-ghost use Rattle.pg_plan.specs.declared.states.Side.TheVariants.{R};
+ghost use Rattle.std.specs.Prelude.{◌≡◌, ◌≤◌, ◌+◌, ◌*◌, ◌^◌, ◌%◌, nat_abs, ◌+ℤ◌, IfOk};
 ghost use Rattle.pg_rules.specs.Floats.{total_count};
 ghost use Rattle.pg_rules.specs.IsState.{IsState};
-ghost use Rattle.pg_rules.specs.NoWorse.{is_same_side};
 ghost use Rattle.pg_rules.specs.Room.{Document};
 ghost use Rattle.pg_move_laws.specs.Steps.{fitness_cost as fitness_cost_of, kept_fitness as kept_fitness_of};
 ghost use Rattle.pg_sources.specs.Document.{doc_of};
 ghost use Rattle.pg_laid.specs.Laid.{laid_of};
-ghost use Rattle.pg_space_laws.specs.PageSpace.{place_rank as place_rank_of, rank, side_run as side_run_of};
+ghost use Rattle.pg_space_laws.specs.PageSpace.{rank};
 ghost use Rattle.pg_moves.specs.Stepping.{IsBehind, rank_tail};
 
 use crate::steps::{fitness_price, kept_fitness, page_price, state_behind, text_price};
 use pg_areas::total;
 use pg_candidates::RoomEnd;
 use pg_laid::Laid;
-use pg_plan::{Side, State};
+use pg_plan::State;
 use pg_small::SmallState;
 use pg_sources::Sources;
+use pg_states::{place_rank, rest_rank};
 use pg_style::Style;
 use pg_waiting::Settled;
 use pg_whole::large_plus;
@@ -34,50 +32,12 @@ pub(crate) struct Behind {
     pub(crate) tail: u64,
 }
 
-// The run, or that there is none.
-fn run_rank(run: Option<u8>) -> u64
-    ensures value { result ≡ option_map_or (λ run. run + 1) run 0 }
-    ensures few { result ≤ 256 }
-{
-    match run {
-        None => 0,
-        Some(run) => u64::from(run) + 1,
-    }
-}
-
-// The run and whether the side is a right one, as one number.
-fn side_run(state: &State) -> u64
-    ensures value { result ≡ side_run_of state.now }
-    ensures few { result ≤ 2 ^ 10 }
-{
-    2 * run_rank(state.run) + side_rank(state.side)
-}
-
-// Whether a side is a right one, as a number.
-fn side_rank(side: Side) -> u64
-    ensures value { result ≡ (if is_same_side side R then 1 else 0) }
-    ensures few { result ≤ 1 }
-{
-    match side {
-        Side::R => 1,
-        _ => 0,
-    }
-}
-
-// The first column of a page comes after the second one of the page before.
-fn column_rank(column: u8) -> u64
-    ensures value { result ≡ (if column == 1 then 16 else 0) }
-    ensures few { result ≤ 16 }
-{
-    if column == 1 { 16 } else { 0 }
-}
-
 // What a state gives to its rank, but for its place, where so many floats are placed.
-fn tail_of(state: &State, placed: u32) -> u64
+fn tail_of(state: &SmallState, placed: u32) -> u64
     requires { placed ≡ total_count state.now.placed }
     ensures { result ≡ rank_tail state.now }
 {
-    32 * u64::from(placed) + column_rank(state.column) + side_run(state)
+    rest_rank(state, placed)
 }
 
 // How many floats are placed behind a column.
@@ -88,14 +48,6 @@ fn count_after(sources: &Sources<'_>, state: &State, laid: &Laid) -> u32
     // hands on that the classes are few
     let _ = sources.slots();
     total(laid.after.as_slice())
-}
-
-// The block, the variant and the index of a state's place as one number, the block first.
-fn place_rank(state: &SmallState) -> u64
-    ensures { result ≡ place_rank_of state.now.place }
-{
-    let at = state.place();
-    (1 << 20) * (8 * u64::from(at.block) + u64::from(at.variant)) + u64::from(at.index)
 }
 
 // A rank of its two parts, in 64 bits.
@@ -121,8 +73,8 @@ pub(crate) fn first_behind(
     let placed = count_after(sources, state, laid);
     let page = page_price(style, state, laid, settled.price);
     let next = state_behind(style, state, laid, state.place, None, settled.ages.copy()?)?;
-    let tail = tail_of(&next, placed);
     let small = SmallState::of(sources.alloc, next)?;
+    let tail = tail_of(&small, placed);
     Ok(Behind {
         state: small,
         page,

@@ -1,22 +1,42 @@
--- No place reaches as far as the block that stands for what nobody touched.
-use Rattle.std.proofs.Common.{◌≡◌, sym, subst, ℕ, ◌<◌, ◌≤◌, ◌⊎◌, inl, inr, length, arith}
-use Rattle.std.specs.Prelude.{◌==◌}
+-- No label reaches as far as the block that stands for what nobody touched.
+use Rattle.std.proofs.Common.{◌≡◌, refl, sym, ap, subst, ◌∙◌, ℕ, ◌+◌, ◌<◌, ◌≤◌, ◌⊎◌, inl, inr, Bool, List, [], ◌∷◌, false, length, arith}
+use Rattle.std.specs.Prelude.{◌==◌, cond, nat_le}
+use Rattle.std.specs.List.{count_by}
+use Rattle.std.proofs.lemmas.List.Sums.{sum_by-cons}
 use Rattle.std.proofs.lemmas.Bool.{eqb-true}
 use Rattle.pg_flat.specs.Flat.{flat_items_at, fronts}
-use Rattle.pg_lemmas.proofs.Bools.{both_of}
+use Rattle.pg_lemmas.proofs.Bools.{both_of, by_bool}
+use Rattle.pg_lemmas.proofs.Numbers.{le_true}
 use Rattle.pg_list.specs.Counts.{item_count, item_limit}
 use Rattle.pg_list.specs.GalleyValue.{GalleyValue}
 use Rattle.pg_list.specs.declared.galley.Place.{Place}
 use Rattle.pg_list.proofs.Sizes.{blocks_le}
+use Rattle.pg_plan.specs.Order.{columns}
+use Rattle.pg_plan.specs.declared.states.Label.{Label}
+use Rattle.pg_plan.specs.declared.states.State.{State}
 use Rattle.pg_style.specs.Values.{StyleValue}
-use Rattle.pg_rules.specs.IsState.{IsPlace}
+use Rattle.pg_rules.specs.Cost.{cost}
+use Rattle.pg_rules.specs.Frontier.{Frontier, IsLabel}
+use Rattle.pg_rules.specs.IsState.{IsPlace, IsState}
 use Rattle.pg_rules.specs.Legal.{document}
 use Rattle.pg_rules.specs.Ranges.{AreInRange}
+use Rattle.pg_rules.specs.NoWorse.{is_same_key}
 use Rattle.pg_rules.specs.Reach.{IsReach}
+use Rattle.pg_rules.specs.States.{state_of}
+use Rattle.pg_member_laws.proofs.Members.{among_contains}
+use Rattle.pg_place_laws.proofs.Among.{Among}
 use Rattle.pg_place_laws.specs.Past.{IsPast}
 use Rattle.pg_place_laws.proofs.Measures.{place_within}
 use Rattle.pg_place_laws.proofs.Places.{ends_at}
-use Rattle.pg_session.specs.Sessions.{above_all}
+use Rattle.pg_reach_laws.proofs.ReachAt.{reach_is}
+use Rattle.pg_reach_laws.specs.ReachAt.{reach_at}
+use Rattle.pg_space.specs.declared.solving.Outcome.{Outcome}
+use Rattle.pg_space_laws.proofs.Bounds.{pages_lawful}
+use Rattle.pg_space_laws.proofs.Contracts.{beginnings_are_runs}
+use Rattle.pg_space_laws.specs.PageSpace.{wide_meaning}
+use Rattle.pg_table.proofs.Runs.{own}
+use Rattle.pg_session.specs.SessionValue.{SessionValue}
+use Rattle.pg_session.specs.Sessions.{IsSolved, above_all, labels_reaching}
 
 pub all_below : (g : GalleyValue) (s : StyleValue) (from : Place) (reach : ℕ) → AreInRange g s → IsPlace g.blocks from →
     IsReach (document g s) from reach → reach < above_all
@@ -33,3 +53,42 @@ all_below g s from reach range place is =
     within to (inl same) =
         subst (λ (x : Place). x.block ≤ length g.blocks) (sym same) (place_within g.blocks from place)
     within to (inr past) = place_within g.blocks to past.place
+
+-- tests that all fail count none
+count_none : {X : Type 0} (p : X → Bool) (xs : List X) → ((x : X) → Among x xs → p x ≡ false) → count_by p xs ≡ 0
+count_none p [] fails = refl
+count_none p (x ∷ xs) fails =
+    let first : cond {A = ℕ} (p x) 1 0 ≡ 0 = ap (λ (b : Bool). cond {A = ℕ} b 1 0) (fails x (inl refl)) in
+    let rest : count_by p xs ≡ 0 = count_none p xs (λ y among. fails y (inr among)) in
+    let split : count_by p (x ∷ xs) ≡ cond (p x) 1 0 + count_by p xs = sum_by-cons (λ y. cond (p y) 1 0) x xs in
+    omega (arith, first, rest, split)
+
+-- no label of a frontier reaches it
+pub none_reach : (g : GalleyValue) (s : StyleValue) (labels : List Label) → AreInRange g s → Frontier g s labels →
+    labels_reaching above_all g s labels ≡ 0
+none_reach g s labels range frontier =
+    count_none (λ (label : Label). nat_le above_all (reach_at (document g s) label.state.place)) labels
+    (λ label among. low label ((frontier.complete label).0 (among_contains labels label among)))
+  where
+    low : (label : Label) → IsLabel g s label → nat_le above_all (reach_at (document g s) label.state.place) ≡ false
+    low label is =
+        let own_state : IsState (document g s) (state_of g s is.plan) =
+        own is_same_key (wide_meaning (document g s)) (pages_lawful g s range) (columns is.plan)
+        (state_of g s is.plan) (cost g s is.plan) (beginnings_are_runs g s range is.plan is.prefix).run in
+        let place : IsPlace g.blocks label.state.place =
+        subst (λ (u : State). IsPlace g.blocks u.place) is.state own_state.place in
+        let less : reach_at (document g s) label.state.place < above_all =
+        all_below g s label.state.place (reach_at (document g s) label.state.place) range place
+        (reach_is (document g s) range.blocks label.state.place place) in
+        by_bool (nat_le above_all (reach_at (document g s) label.state.place))
+        (λ e. absurd (let l : above_all ≤ reach_at (document g s) label.state.place =
+        le_true above_all (reach_at (document g s) label.state.place) e in omega (arith, less, l))) (λ e. e)
+
+-- so a session of which nothing is touched is solved without a step
+pub solved_still : (old new : SessionValue) (outcome : Outcome) (before after : ℕ) → AreInRange old.galley old.style →
+    old.touched ≡ above_all → IsSolved old outcome new before after → after ≤ before
+solved_still old new outcome before after range untouched solved =
+    let none : labels_reaching old.touched old.galley old.style new.labels ≡ 0 =
+    ap (λ (block : ℕ). labels_reaching block old.galley old.style new.labels) untouched
+    ∙ none_reach old.galley old.style new.labels range solved.frontier in
+    let bounded = solved.bounded in omega (arith, none, bounded)

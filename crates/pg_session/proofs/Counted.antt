@@ -1,9 +1,7 @@
 -- The steps of a script, show by show.
-use Rattle.std.proofs.Common.{◌≡◌, refl, sym, ap, subst, ℕ, ◌+◌, List, [], ◌∷◌, ◌++◌, length, take, arith}
+use Rattle.std.proofs.Common.{◌≡◌, refl, sym, ap, subst, ℕ, ◌+◌, ◌≤◌, List, [], ◌∷◌, ◌++◌, length, take, arith}
 use Rattle.pg_style.specs.Values.{StyleValue}
-use Rattle.pg_space.specs.declared.solving.Outcome.{Outcome}
 use Rattle.pg_session.specs.SessionValue.{SessionValue}
-use Rattle.pg_session.specs.Sessions.{IsSolved, labels_reaching}
 use Rattle.pg_session.specs.Shows.{AreAllCounted, AreCounted, Counts, Show, SumsTo, show_of}
 
 sums_more : (style : StyleValue) (shown : List Show) (show : Show) (k n : ℕ) → SumsTo style shown k →
@@ -18,22 +16,16 @@ sums_more style (x ∷ shown) show k n (i, j, (own, rest, sum)) c =
 pub none_counted : (style : StyleValue) (before : ℕ) → AreAllCounted style [] before before
 none_counted style before = record { total = 0; sums = refl; bounded = omega arith }
 
--- a solution adds the number of its show
-pub show_counted : (style : StyleValue) (shown : List Show) (old new : SessionValue) (outcome : Outcome)
-    (before middle after : ℕ) → old.style ≡ style → AreAllCounted style shown before middle →
-    IsSolved old outcome new middle after → AreAllCounted style (shown ++ show_of old ∷ []) before after
-show_counted style shown old new outcome before middle after e all solved =
-    subst (λ (x : StyleValue). AreAllCounted x (shown ++ show_of old ∷ []) before after) e (more
-    (subst (λ (x : StyleValue). AreAllCounted x shown before middle) (sym e) all))
-  where
-    more : AreAllCounted old.style shown before middle →
-        AreAllCounted old.style (shown ++ show_of old ∷ []) before after
-    more a = record {
-      total = a.total + labels_reaching old.touched old.galley old.style new.labels;
-      sums = sums_more old.style shown (show_of old) _ _ a.sums
-          (record { labels = new.labels; frontier = solved.frontier; number_is = refl });
-      bounded = let b = a.bounded in let d = solved.bounded in omega (arith, b, d);
-    }
+-- a show adds its number
+pub show_counted : (style : StyleValue) (shown : List Show) (old : SessionValue) (number before middle after : ℕ) →
+    old.style ≡ style → AreAllCounted style shown before middle → Counts old.style (show_of old) number →
+    after ≤ middle + number → AreAllCounted style (shown ++ show_of old ∷ []) before after
+show_counted style shown old number before middle after e all counts bounded = record {
+  total = all.total + number;
+  sums = sums_more style shown (show_of old) _ _ all.sums
+      (subst (λ (x : StyleValue). Counts x (show_of old) number) e counts);
+  bounded = let b = all.bounded in omega (arith, b, bounded);
+}
 
 -- what is counted for the first shows is counted for all of them
 pub firsts_counted : (style : StyleValue) (shown rest : List Show) (before after : ℕ) →

@@ -11,25 +11,13 @@ use Rattle.pg_style.specs.Values.{StyleValue}
 use Rattle.pg_rules.specs.Ranges.{AreInRange}
 use Rattle.pg_rules.specs.Reach.{touched}
 use Rattle.pg_session.specs.Edits.{edited}
-use Rattle.pg_session.specs.Kept.{IsRight, IsSession, StaysRight}
-use Rattle.pg_session.specs.SessionValue.{SessionValue}
+use Rattle.pg_session.specs.Kept.{IsRight, IsSession, StaysRight, seen}
 use Rattle.pg_session.specs.Sessions.{IsEdited}
 use Rattle.pg_session.specs.declared.kept.Kept.{Kept}
 
 -- what is kept behind an edit that touches a block
 abbrev pub touched_at : Kept → ℕ → Kept
 touched_at kept block = record kept { labels = []; touched = min kept.touched block; solved = false }
-
--- what contracts see of these fields
-abbrev pub seen : GalleyValue → StyleValue → List ClassFloatsValue → Kept → SessionValue
-seen galley style floats kept = record {
-  galley = galley;
-  style = style;
-  floats = floats;
-  is_solved = kept.solved;
-  labels = kept.labels;
-  touched = kept.touched;
-}
 
 module _ (g n : GalleyValue) (s : StyleValue) (old floats : List ClassFloatsValue) (edit : Edit) (kept left : Kept)
     (block : ℕ) (is : n ≡ edited g edit) (own : block ≡ touched g.blocks edit) (left_is : left ≡ touched_at kept block)

@@ -3,5 +3,6 @@ mod Right
 mod Reaching
 mod Above
 mod Edited
+mod Paginated
 pub mod Counted
 mod Worked

@@ -18,8 +18,25 @@ use Rattle.pg_table.specs.Below.{IsRightBelow}
 use Rattle.pg_table.specs.Label.{IsTable}
 use Rattle.pg_table.specs.declared.table.Entry.{Entry}
 use Rattle.pg_session.specs.Edits.{edited}
+use Rattle.pg_session.specs.SessionValue.{SessionValue}
 use Rattle.pg_session.specs.Sessions.{above_all}
 use Rattle.pg_session.specs.declared.kept.Kept.{Kept}
+
+-- what contracts see of these fields
+abbrev pub seen : GalleyValue → StyleValue → List ClassFloatsValue → Kept → SessionValue
+seen galley style floats kept = record {
+  galley = galley;
+  style = style;
+  floats = floats;
+  is_solved = kept.solved;
+  labels = kept.labels;
+  touched = kept.touched;
+}
+
+-- the table was filled from the touched block on, so that nothing is touched, and all else is as it was
+pub record IsFilled (galley : GalleyValue) (style : StyleValue) (old new : Kept) : Type 0 where
+  pub filled : IsTable (page_meaning (document galley style)) new.table
+  pub is : new ≡ record old { table = new.table; touched = above_all }
 
 -- the table is that of the galley as it stands, its labels in order are the frontier, and nothing is touched
 pub record IsKnown (galley : GalleyValue) (style : StyleValue) (kept : Kept) : Type 0 where

@@ -1,5 +1,5 @@
 -- What the calls of a session do.
-use Rattle.std.specs.Prelude.{◌≡◌, ℕ, ◌+◌, ◌-◌, ◌^◌, ◌≤◌, min, true, false, nat_le, List, [], None, Result, Ok, Err}
+use Rattle.std.specs.Prelude.{◌≡◌, ℕ, ◌+◌, ◌-◌, ◌^◌, ◌≤◌, min, true, false, nat_le, List, [], length, None, Result, Ok, Err}
 use Rattle.std.specs.List.{count_by}
 use Rattle.pg_floats.specs.AreFloats.{AreFloats, MakesList, float_total, unknown_class}
 use Rattle.pg_floats.specs.declared.fault.FloatFault.{FloatFault}
@@ -15,6 +15,7 @@ use Rattle.pg_space.specs.Solves.{Solves}
 use Rattle.pg_space.specs.declared.solving.Outcome.{Outcome}
 use Rattle.pg_session.specs.Edits.{edited}
 use Rattle.pg_session.specs.SessionValue.{SessionValue}
+use Rattle.pg_session.specs.declared.told.Told.{Told}
 
 -- above the reach of every place
 abbrev pub above_all : ℕ
@@ -70,6 +71,17 @@ pub record IsSolved (old : SessionValue) (outcome : Outcome) (new : SessionValue
     pub is : new ≡ record old { is_solved = true; labels = new.labels; touched = above_all }
     pub still : old.is_solved ≡ true → after ≡ before
     pub bounded : after ≤ before + labels_reaching old.touched old.galley old.style new.labels
+
+-- the galley as it stands is paginated and its frontier counted, and there was at most one step for each of its labels
+-- that reaches the touched block, and none where it was solved
+pub record IsPaginated (old : SessionValue) (told : Told) (new : SessionValue) (before after : ℕ) : Type 0 where
+  pub solves : Solves old.galley old.style told.outcome
+  pub labels : List Label
+  pub frontier : Frontier old.galley old.style labels
+  pub counted : told.labels ≡ length labels
+  pub is : new ≡ record old { touched = above_all }
+  pub still : old.is_solved ≡ true → after ≡ before
+  pub bounded : after ≤ before + labels_reaching old.touched old.galley old.style labels
 
 -- after want of memory the galley stands, and nothing is kept
 abbrev pub Forgets : SessionValue → SessionValue → Type 0

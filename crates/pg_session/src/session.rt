@@ -3,11 +3,12 @@ ghost use Rattle.std.specs.Prelude.{◌≡◌, true, IfOk, OnOk, OnErr};
 ghost use Rattle.pg_floats.specs.AreFloats.{AreFloats};
 ghost use Rattle.pg_rules.specs.Frontier.{Frontier};
 ghost use Rattle.pg_session.specs.Edits.{Refuses, edit_fault};
-ghost use Rattle.pg_session.specs.Sessions.{Forgets, IsEdited, IsSolved, MakesSession};
+ghost use Rattle.pg_session.specs.Sessions.{Forgets, IsEdited, IsPaginated, IsSolved, MakesSession};
 
 use crate::kept::Kept;
 use crate::parts::{edited_galley, edits_leave_right, floats_of, stay_in_range, touched_block};
-use crate::solving::solve_kept;
+use crate::solving::{paginate_kept, solve_kept};
+use crate::told::Told;
 use pg_edits::EditFault;
 use pg_floats::{FloatFault, FloatList};
 use pg_hops::BreakIndex;
@@ -93,7 +94,8 @@ impl Session {
         &self.floats
     }
 
-    /// Whether the last solution was not refused and no edit was accepted since. No memory is taken.
+    /// Whether the last solution was not refused, and since then no edit was accepted and no pagination refused. No
+    /// memory is taken.
     pub fn is_solved(&self) -> bool
         ensures { result ≡ self.now.is_solved }
     {
@@ -156,5 +158,31 @@ impl Session {
                 Err(fault)
             }
         }
+    }
+
+    /// The best pagination of the galley as it stands with its cost, or `NoLegal` where none is legal, as `solve` tells
+    /// it, and how many labels the frontier has.
+    ///
+    /// The list of labels is not made: this takes less memory and time where nobody asks for it. What was touched is
+    /// then known, so that a later call takes no step for it; whether the session is solved, and its labels, stay as
+    /// they were. It takes at most as many steps as `solve` would. The only refusal is want of memory; after it the
+    /// session is as if never solved.
+    pub fn paginate<L: Ledger>(&mut self, steps: &mut Steps<L>) -> Result<Told, AllocError>
+        ensures ok { IfOk result (λ told. IsPaginated self.old told self.new steps.old steps.new) }
+        ensures err { OnErr result (Forgets self.old self.new) }
+    {
+        let Ok(told) = paginate_kept(
+            self.alloc,
+            &self.galley,
+            &self.style,
+            &self.floats,
+            &self.index,
+            &mut self.kept,
+            steps,
+        ) else {
+            self.kept = Kept::new(self.alloc);
+            return Err(AllocError);
+        };
+        Ok(told)
     }
 }

@@ -3,11 +3,16 @@ ghost use Rattle.std.specs.Prelude.{◌≡◌, ◌+◌, ◌≤◌, true, IfOk, O
 ghost use Rattle.pg_floats.specs.AreFloats.{AreFloats};
 ghost use Rattle.pg_hops.specs.Index.{AreHops};
 ghost use Rattle.pg_rules.specs.Ranges.{AreInRange};
+ghost use Rattle.pg_rules.specs.Legal.{document};
 ghost use Rattle.pg_space.specs.Solves.{Solves};
-ghost use Rattle.pg_session.specs.Kept.{IsKnown, IsRight};
-ghost use Rattle.pg_session.specs.Sessions.{labels_reaching};
+ghost use Rattle.pg_space_laws.specs.PageSpace.{page_meaning};
+ghost use Rattle.pg_table.specs.Label.{IsTable};
+ghost use Rattle.pg_table.specs.Searching.{count_reaching};
+ghost use Rattle.pg_session.specs.Kept.{IsFilled, IsKnown, IsRight, seen};
+ghost use Rattle.pg_session.specs.Sessions.{IsPaginated, labels_reaching};
 
 use crate::kept::Kept;
+use crate::told::Told;
 use pg_floats::FloatList;
 use pg_frontier::frontier_of;
 use pg_hops::BreakIndex;
@@ -19,7 +24,37 @@ use pg_style::Style;
 use std::alloc::{AllocError, Global};
 use std::sync::ledger::Ledger;
 
-// Fills the table from the touched block on, and lists its labels in order.
+// Fills the table from the touched block on. Then nothing is touched.
+fn refill<L: Ledger>(
+    alloc: Global,
+    galley: &Galley,
+    style: &Style,
+    floats: &FloatList,
+    index: &BreakIndex,
+    kept: &mut Kept,
+    steps: &mut Steps<L>,
+) -> Result<(), AllocError>
+    requires hops { AreHops galley.now.blocks style.now.maxdepth index.now }
+    requires floats { AreFloats galley.now.blocks style.now floats.now }
+    requires right { IsRight galley.now style.now kept.old }
+    ensures filled { OnOk result (IsFilled galley.now style.now kept.old kept.new) }
+    ensures counted { OnOk result (steps.new ≡ steps.old + count_reaching kept.old.touched kept.new.table) }
+{
+    refill_pages(
+        alloc,
+        galley,
+        style,
+        floats,
+        index,
+        &mut kept.table,
+        kept.touched,
+        steps,
+    )?;
+    kept.touched = u32::MAX;
+    Ok(())
+}
+
+// The same, with its labels listed in order: the galley is solved.
 fn renew<L: Ledger>(
     alloc: Global,
     galley: &Galley,
@@ -37,24 +72,38 @@ fn renew<L: Ledger>(
     ensures counted { OnOk result (steps.new ≡ steps.old + labels_reaching kept.old.touched galley.now style.now
         kept.new.labels) }
 {
-    refill_pages(
-        alloc,
-        galley,
-        style,
-        floats,
-        index,
-        &mut kept.table,
-        kept.touched,
-        steps,
-    )?;
+    refill(alloc, galley, style, floats, index, kept, steps)?;
     filled_table_tells_all(galley, style);
     kept.labels = frontier_of(alloc, kept.table.labels())?;
-    kept.touched = u32::MAX;
     kept.solved = true;
     Ok(())
 }
 
-// The same, where something was touched.
+// Fills the table, where the galley is not solved.
+fn fill<L: Ledger>(
+    alloc: Global,
+    galley: &Galley,
+    style: &Style,
+    floats: &FloatList,
+    index: &BreakIndex,
+    kept: &mut Kept,
+    steps: &mut Steps<L>,
+) -> Result<(), AllocError>
+    requires hops { AreHops galley.now.blocks style.now.maxdepth index.now }
+    requires floats { AreFloats galley.now.blocks style.now floats.now }
+    requires right { IsRight galley.now style.now kept.old }
+    requires known { kept.old.solved ≡ true → IsKnown galley.now style.now kept.old }
+    ensures filled { OnOk result (IsFilled galley.now style.now kept.old kept.new) }
+    ensures still { kept.old.solved ≡ true → steps.new ≡ steps.old }
+    ensures bounded { OnOk result (steps.new ≤ steps.old + count_reaching kept.old.touched kept.new.table) }
+{
+    if !kept.solved {
+        refill(alloc, galley, style, floats, index, kept, steps)?;
+    }
+    Ok(())
+}
+
+// Solves the galley, where it is not solved.
 fn bring_up<L: Ledger>(
     alloc: Global,
     galley: &Galley,
@@ -89,7 +138,7 @@ fn tell(
     kept: &Kept,
 ) -> Result<Outcome, AllocError>
     requires floats { AreFloats galley.now.blocks style.now floats.now }
-    requires known { IsKnown galley.now style.now kept.now }
+    requires filled { IsTable (page_meaning (document galley.now style.now)) kept.now.table }
     ensures { IfOk result (Solves galley.now style.now) }
 {
     let space = PageSpace::new(alloc, galley, style, floats);
@@ -119,4 +168,33 @@ pub fn solve_kept<L: Ledger>(
 {
     bring_up(alloc, galley, style, floats, index, kept, steps)?;
     tell(alloc, galley, style, floats, kept)
+}
+
+/// The outcome of a galley under a style and the number of its labels, by what is kept of it. No labels are listed.
+pub fn paginate_kept<L: Ledger>(
+    alloc: Global,
+    galley: &Galley,
+    style: &Style,
+    floats: &FloatList,
+    index: &BreakIndex,
+    kept: &mut Kept,
+    steps: &mut Steps<L>,
+) -> Result<Told, AllocError>
+    requires hops { AreHops galley.now.blocks style.now.maxdepth index.now }
+    requires range { AreInRange galley.now style.now }
+    requires floats { AreFloats galley.now.blocks style.now floats.now }
+    requires right { IsRight galley.now style.now kept.old }
+    requires known { kept.old.solved ≡ true → IsKnown galley.now style.now kept.old }
+    ensures told { IfOk result (λ told. IsPaginated (seen galley.now style.now floats.now kept.old) told
+        (seen galley.now style.now floats.now kept.new) steps.old steps.new) }
+    ensures right { OnOk result (IsRight galley.now style.now kept.new) }
+    ensures known { OnOk result (kept.new.solved ≡ true → IsKnown galley.now style.now kept.new) }
+{
+    fill(alloc, galley, style, floats, index, kept, steps)?;
+    filled_table_tells_all(galley, style);
+    let outcome = tell(alloc, galley, style, floats, kept)?;
+    Ok(Told {
+        outcome,
+        labels: kept.table.labels().len(),
+    })
 }

@@ -1,6 +1,8 @@
-ghost use Rattle.std.specs.Prelude.{◌≡◌};
+ghost use Rattle.std.specs.Prelude.{◌≡◌, ◌≤◌, true, OnOk};
 ghost use Rattle.pg_list.specs.Shapes.{IsBlock};
+ghost use Rattle.pg_session.specs.Sessions.{above_all};
 
+use crate::parts::stay_in_range;
 use crate::session::Session;
 use pg_edits::EditFault;
 use pg_list::{Block, Blocks, Bytes, Edit, Galley, Item, Order};
@@ -29,6 +31,16 @@ struct Course {
     refused: Option<EditFault>,
     still_solved: bool,
     blocks: usize,
+}
+
+/// What is told of two states of a galley, and the solution of the second behind it.
+#[derive(Drop)]
+struct ToldCourse {
+    first: Solved,
+    second: Solved,
+    told_solved: bool,
+    solved: Solved,
+    still_solved: bool,
 }
 
 // A line of 7 points over a depth of 2.
@@ -82,15 +94,63 @@ fn edit_lines(
     Ok(session.edit(&edit).err())
 }
 
-fn solve<L: Ledger>(session: &mut Session, steps: &mut Steps<L>) -> Result<Solved, AllocError> {
-    let cost = match session.solve(steps)? {
-        Outcome::Best(_, cost) => cost,
+// The cost of a best pagination, 0 where none is legal.
+fn cost_of(outcome: &Outcome) -> i128 {
+    match outcome {
+        Outcome::Best(_, cost) => *cost,
         Outcome::NoLegal => 0,
-    };
-    Ok(Solved {
-        cost,
+    }
+}
+
+// What a solved session shows.
+fn solved_of(session: &Session, outcome: &Outcome) -> Solved
+    requires { session.now.is_solved ≡ true }
+{
+    Solved {
+        cost: cost_of(outcome),
         labels: session.labels().as_slice().len(),
+    }
+}
+
+fn solve<L: Ledger>(session: &mut Session, steps: &mut Steps<L>) -> Result<Solved, AllocError> {
+    let outcome = session.solve(steps)?;
+    Ok(solved_of(session, &outcome))
+}
+
+// The same where nothing is touched: it takes no step.
+fn solve_untouched<L: Ledger>(
+    session: &mut Session,
+    steps: &mut Steps<L>,
+) -> Result<Solved, AllocError>
+    requires { session.old.touched ≡ above_all }
+    ensures { OnOk result (steps.new ≤ steps.old) }
+{
+    stay_in_range(session.galley(), session.style());
+    let outcome = session.solve(steps)?;
+    Ok(solved_of(session, &outcome))
+}
+
+// What is told without a solution. Nothing is touched behind it.
+fn paginate<L: Ledger>(session: &mut Session, steps: &mut Steps<L>) -> Result<Solved, AllocError>
+    ensures { OnOk result (session.new.touched ≡ above_all) }
+{
+    let told = session.paginate(steps)?;
+    Ok(Solved {
+        cost: cost_of(&told.outcome),
+        labels: told.labels,
     })
+}
+
+// Ten lines on pages of five.
+fn ten_lines(alloc: Global) -> Result<Option<Session>, AllocError> {
+    let galley = Galley::new(alloc, 345 * POINT);
+    let Ok(mut session) = Session::new(alloc, galley, plain_style(alloc, 58 * POINT)) else {
+        return Ok(None);
+    };
+    if edit_lines(alloc, &mut session, 0, 0, 9)?.is_some() {
+        return Ok(None);
+    }
+    Ok(Some(session))
 }
 
 // Ten lines on pages of five, solved; their last line put anew, and solved again; then an edit behind their end.
@@ -100,13 +160,9 @@ fn edit_ten_lines<L: Ledger>(alloc: Global, blank: Blank) -> Result<Option<Cours
     requires one { blank.parts ≡ 1 }
 {
     let mut steps = Steps::<L>::new(blank);
-    let galley = Galley::new(alloc, 345 * POINT);
-    let Ok(mut session) = Session::new(alloc, galley, plain_style(alloc, 58 * POINT)) else {
+    let Some(mut session) = ten_lines(alloc)? else {
         return Ok(None);
     };
-    if edit_lines(alloc, &mut session, 0, 0, 9)?.is_some() {
-        return Ok(None);
-    }
     let first = solve(&mut session, &mut steps)?;
     if edit_lines(alloc, &mut session, 18, 1, 0)?.is_some() {
         return Ok(None);
@@ -119,6 +175,36 @@ fn edit_ten_lines<L: Ledger>(alloc: Global, blank: Blank) -> Result<Option<Cours
         refused,
         still_solved: session.is_solved(),
         blocks: session.galley().blocks().len(),
+    }))
+}
+
+// Ten lines on pages of five, paginated; their last line put anew, and paginated again; then solved, without
+// a step more.
+fn paginate_ten_lines<L: Ledger>(
+    alloc: Global,
+    blank: Blank,
+) -> Result<Option<ToldCourse>, AllocError>
+    requires name { blank.name ≡ L.name }
+    requires parts { blank.parts ≡ L.parts }
+    requires one { blank.parts ≡ 1 }
+{
+    let mut steps = Steps::<L>::new(blank);
+    let Some(mut session) = ten_lines(alloc)? else {
+        return Ok(None);
+    };
+    let first = paginate(&mut session, &mut steps)?;
+    if edit_lines(alloc, &mut session, 18, 1, 0)?.is_some() {
+        return Ok(None);
+    }
+    let second = paginate(&mut session, &mut steps)?;
+    let told_solved = session.is_solved();
+    let solved = solve_untouched(&mut session, &mut steps)?;
+    Ok(Some(ToldCourse {
+        first,
+        second,
+        told_solved,
+        solved,
+        still_solved: session.is_solved(),
     }))
 }
 
@@ -141,5 +227,21 @@ fn ten_lines_are_edited_and_solved_again(rt: HostRuntime) -> Result<(), Fail> {
     assert_eq!(rt; range.number(), 1);
     assert!(rt; course.still_solved);
     assert_eq!(rt; course.blocks, 19);
+    Ok(())
+}
+
+#[test]
+fn ten_lines_are_paginated_and_then_solved(rt: HostRuntime) -> Result<(), Fail> {
+    let alloc = rt.alloc();
+    let course = paginate_ten_lines::<Brand>(alloc, Blank::new(1))?.ok_or("an edit is refused")?;
+    let solved = Solved {
+        cost: 200,
+        labels: 11,
+    };
+    assert_eq!(rt; course.first, solved);
+    assert_eq!(rt; course.second, solved);
+    assert!(rt; !course.told_solved);
+    assert_eq!(rt; course.solved, solved);
+    assert!(rt; course.still_solved);
     Ok(())
 }

@@ -79,6 +79,13 @@ fn has_same_bytes(a: &FewRest, b: &FewRest) -> bool
     a.count == b.count && a.placed == b.placed
 }
 
+// Whether the ages are told to be the same by all bytes, those that are none of the list too.
+fn has_same_ages(a: &FewRest, b: &FewRest) -> bool
+    ensures { result ≡ true → take a.now.waiting a.now.ages ≡ take b.now.waiting b.now.ages }
+{
+    a.waiting == b.waiting && a.ages == b.ages
+}
+
 // Whether no byte of these ages, those too that are none of the list, is greater than the other's.
 fn are_no_greater(a: &[u8; 6], b: &[u8; 6]) -> bool
     ensures six { (length a.now ≡ 6) × (length b.now ≡ 6) }
@@ -139,6 +146,18 @@ impl Rest {
         match self {
             Rest::Few(few) => first_bytes(&few.ages, few.waiting),
             Rest::Many(many) => many.ages.as_slice(),
+        }
+    }
+
+    // Whether all is the same, as far as few bytes tell.
+    pub(crate) fn is_surely_same(&self, other: &Rest) -> bool
+        ensures wide { result ≡ true → wide_kept self.now ≡ wide_kept other.now }
+        ensures placed { result ≡ true → placed_kept self.now ≡ placed_kept other.now }
+        ensures ages { result ≡ true → ages_kept self.now ≡ ages_kept other.now }
+    {
+        match (self, other) {
+            (Rest::Few(own), Rest::Few(its)) => has_same_bytes(own, its) && has_same_ages(own, its),
+            _ => false,
         }
     }
 

@@ -161,6 +161,26 @@ impl SmallState {
         self.rest.ages()
     }
 
+    /// Whether another state is the same, as far as few bytes tell: a no proves nothing. No memory is taken.
+    pub fn is_surely_same(&self, other: &SmallState) -> bool
+        ensures { result ≡ true → self.now ≡ other.now }
+    {
+        self.place == other.place
+            && self.has_same_page(other)
+            && self.rest.is_surely_same(&other.rest)
+    }
+
+    // Whether the column, the side, the run and the fitness are the same.
+    fn has_same_page(&self, other: &SmallState) -> bool
+        ensures column { result ≡ true → self.now.column ≡ other.now.column }
+        ensures side { result ≡ true → self.now.side ≡ other.now.side }
+        ensures run { result ≡ true → self.now.run ≡ other.now.run }
+        ensures fitness { result ≡ true → self.now.fitness ≡ other.now.fitness }
+    {
+        (self.column == other.column && self.side == other.side)
+            && (self.run == other.run && self.fitness == other.fitness)
+    }
+
     /// Whether as many floats of each class are placed in another state, as far as few bytes tell: a no proves nothing.
     pub fn has_surely_same_placed(&self, other: &SmallState) -> bool
         ensures { result ≡ true → self.now.placed ≡ other.now.placed }

@@ -13,11 +13,10 @@ total_next f n count more e h =
     let both = ap total_count (next_map f n) ∙ sum_by-append (λ (k : ℕ). k) (map f (range_with_len 0 n)) (f n ∷ []) in
     omega (arith, e, h, one, both)
 
-module _ (place placed column run place' placed' column' run' : ℕ) (p : place ≡ place') (q : placed ≡ placed')
-    (r : column ≡ column') (s : run ≡ run') where
-  pub same_rank : 2 ^ 18 * place + 32 * placed + column + run ≡ 2 ^ 18 * place' + 32 * placed' + column' + run'
-  same_rank = omega (arith, p, q, r, s)
+module _ (place placed rest place' placed' column' run' : ℕ) (p : place ≡ place') (q : placed ≡ placed')
+    (r : rest ≡ 32 * placed + column' + run') where
+  pub same_rank : 2 ^ 18 * place + rest ≡ 2 ^ 18 * place' + 32 * placed' + column' + run'
+  same_rank = omega (arith, p, q, r)
 
-  pub same_below : 2 ^ 18 * place' + 32 * placed' + column' + run' < 2 ^ 64 →
-      2 ^ 18 * place + 32 * placed + column + run < 2 ^ 64
-  same_below h = omega (arith, p, q, r, s, h)
+  pub same_below : 2 ^ 18 * place' + 32 * placed' + column' + run' < 2 ^ 64 → 2 ^ 18 * place + rest < 2 ^ 64
+  same_below h = omega (arith, p, q, r, h)

@@ -136,9 +136,13 @@ fn is_same_key(a: &SmallState, b: &SmallState) -> bool
     is_same_spot(a, b) && (is_same_page(a, b) && is_same_past(a, b))
 }
 
-/// Whether two states are equal but for their ages, and no age of the first is greater. No memory is taken.
+/// Whether two states are equal but for their ages, and no age of the first is greater. Most that are compared are the
+/// same, which few bytes tell. No memory is taken.
 pub fn no_worse(a: &SmallState, b: &SmallState) -> bool
     ensures { result ≡ is_no_worse a.now b.now }
 {
+    if a.is_surely_same(b) {
+        return true;
+    }
     is_same_key(a, b) && has_no_older(a, b)
 }

@@ -17,5 +17,5 @@ mod testing;
 pub use beginning::start;
 pub use comparing::{key_of, no_worse};
 pub use done::is_done;
-pub use rank::rank_of;
+pub use rank::{place_rank, rank_of, rest_rank};
 pub use testing::is_state;

@@ -14,8 +14,8 @@ use pg_small::SmallState;
 use pg_sources::Sources;
 use pg_space_laws::ranks_fit;
 
-// The block, the variant and the index of a state's place as one number, the block first.
-fn place_rank(state: &SmallState) -> u64
+/// What the place of a state gives to its rank: block, variant and index as one number, the block first.
+pub fn place_rank(state: &SmallState) -> u64
     ensures { result ≡ place_rank_of state.now.place }
 {
     let at = state.place();
@@ -46,14 +46,16 @@ fn side_rank(side: Side) -> u64
 
 // The run and whether the side is a right one, as one number.
 fn side_run(state: &SmallState) -> u64
-    ensures { result ≡ side_run_of state.now }
+    ensures value { result ≡ side_run_of state.now }
+    ensures few { result ≤ 2 ^ 10 }
 {
     2 * run_rank(state.run()) + side_rank(state.side())
 }
 
 // The first column of a page comes after the second one of the page before.
 fn column_rank(state: &SmallState) -> u64
-    ensures { result ≡ (if state.now.column == 1 then 16 else 0) }
+    ensures value { result ≡ (if state.now.column == 1 then 16 else 0) }
+    ensures few { result ≤ 16 }
 {
     if state.column() == 1 { 16 } else { 0 }
 }
@@ -68,12 +70,20 @@ fn count_placed(sources: &Sources<'_>, state: &SmallState) -> u32
     total(state.placed())
 }
 
-// By place, then by how many floats are placed, by column, and by run and side.
-fn joined(place: u64, placed: u32, column: u64, run: u64) -> u64
-    requires { 2 ^ 18 * place + 32 * placed + column + run < 2 ^ 64 }
-    ensures { result ≡ 2 ^ 18 * place + 32 * placed + column + run }
+/// What a state gives to its rank but for its place, where it is told how many floats are placed: first this number,
+/// then the column, and then run and side.
+pub fn rest_rank(state: &SmallState, placed: u32) -> u64
+    ensures { result ≡ 32 * placed + (if state.now.column == 1 then 16 else 0) + side_run_of state.now }
 {
-    (1 << 18) * place + 32 * u64::from(placed) + column + run
+    32 * u64::from(placed) + column_rank(state) + side_run(state)
+}
+
+// By place, then by the rest.
+fn joined(place: u64, rest: u64) -> u64
+    requires { 2 ^ 18 * place + rest < 2 ^ 64 }
+    ensures { result ≡ 2 ^ 18 * place + rest }
+{
+    (1 << 18) * place + rest
 }
 
 /// The number by which the space of pages orders its states. No memory is taken.
@@ -82,10 +92,6 @@ pub fn rank_of(sources: &Sources<'_>, state: &SmallState) -> u64
     ensures { result ≡ rank (doc_of sources.now) state.now }
 {
     ranks_fit(sources.galley, sources.style);
-    joined(
-        place_rank(state),
-        count_placed(sources, state),
-        column_rank(state),
-        side_run(state),
-    )
+    let placed = count_placed(sources, state);
+    joined(place_rank(state), rest_rank(state, placed))
 }

@@ -34,11 +34,11 @@ returns c = λ seen h.
     let own : First = record {
       at = c.args.it.now.at;
       kind = c.kind_at.result;
-      worst = c.worst_from.result;
+      worst = c.room_for.result;
     } in
     subst (AreSeen doc ds (seen ++ c.args.it.now.at ∷ []) (Some own)) (sym {A = List NearValue} c.in_ok-push-2.ensures.items)
     (seen_first doc ds seen c.args.nears.now.items c.args.it.now.at c.args.first h c.near_first.result
     c.near_first.ensures.at (candidate_of it)
     (found_at c.args.candidates.now c.args.it.now.at it c.in-Some.ensures.lookup.0 c.in-Some.ensures.lookup.1) own refl
-    c.kind_at.ensures c.worst_from.ensures (c.near_first.ensures.near c.args.galley.now c.kind_at.ensures)
-    (c.near_first.ensures.until c.args.galley.now c.kind_at.ensures c.worst_from.ensures))
+    c.kind_at.ensures c.room_for.ensures (c.near_first.ensures.near c.args.galley.now c.kind_at.ensures)
+    (c.near_first.ensures.until c.args.galley.now c.kind_at.ensures c.room_for.ensures))

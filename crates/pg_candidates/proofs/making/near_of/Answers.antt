@@ -14,4 +14,5 @@ returns-clause-near c = λ g kind. record {
   kind = kind;
   least = subst (IsLeastRoom (document g c.args.style.now) (candidate_of c.args.candidate.now))
       (sym (to_z-of_z w64 c.least_of.result (record { sfits = search rules }))) (c.least_of.ensures.least g);
+  worst = c.requires;
 }

@@ -14,7 +14,7 @@ returns-then-not-is_tolerable c = λ g cs it there is best.
     let ds = map candidate_of c.args.candidates.now in
     let near = c.args.near.now in
     let room = to_z-of_z w64 c.args.room (record { sfits = c.ranges.room.sfits }) in
-    let made = c.cost_of-cost.ensures
+    let made = c.cost_of-cost.ensures is.worst
     ∙ ap (λ (z : ℤ). cost_for c.args.style.now (z -ℤ near.notes) near.totals near.kind.is_spent near.kind.penalty) room in
     best_refused doc c.args.room it near is c.cost_of-cost.result made cs ds there (ends_of ds c.args.ends.now.items) best
     c.requires.high (sym c.is_tolerable.ensures ∙ c.if-not-is_tolerable.true)
@@ -25,7 +25,7 @@ returns c = on_ok_weaker c.keep_best.result (λ added g cs it there is best.
     let ds = map candidate_of c.args.candidates.now in
     let near = c.args.near.now in
     let room = to_z-of_z w64 c.args.room (record { sfits = c.ranges.room.sfits }) in
-    let made = c.cost_of-cost.ensures
+    let made = c.cost_of-cost.ensures is.worst
     ∙ ap (λ (z : ℤ). cost_for c.args.style.now (z -ℤ near.notes) near.totals near.kind.is_spent near.kind.penalty) room in
     best_kept doc c.args.room it near is c.cost_of-cost.result made cs ds there (ends_of ds c.args.ends.now.items) best
     c.requires.high (sym c.is_tolerable.ensures ∙ c.if-not-is_tolerable.false) (ends_of ds c.keep_best.new.ends.items)

@@ -2,6 +2,7 @@ use Rattle.std.proofs.Common.{subst, sym}
 use Rattle.pg_list.specs.GalleyValue.{GalleyValue}
 use Rattle.pg_style.specs.Values.{StyleValue}
 use Rattle.pg_floats.specs.AreFloats.{AreFloats}
+use Rattle.pg_course.proofs.Shown.{solved_shows}
 use Rattle.pg_course.proofs.compare.compared_text_of.Goals as goal
 
 pub compared-requires-clause-floats : goal.compared-requires-clause-floats
@@ -10,3 +11,7 @@ compared-requires-clause-floats g c =
     (sym c.galley.ensures)
     (subst (λ (style : StyleValue). AreFloats c.solve.new.self.galley.blocks style c.floats.result.now)
     (sym c.style.ensures) c.floats.ensures.are)
+
+pub returns-clause-shown : goal.returns-clause-shown
+returns-clause-shown g c = solved_shows c.args.session.now c.solve.new.self c.in_ok-outcome.outcome c.args.steps.now
+    c.solve.new.steps c.in_ok-outcome.ensures.ok

@@ -1,4 +1,4 @@
-use Rattle.pg_cover.proofs.Least.{if_ok, open_least, own_steps}
+use Rattle.pg_cover.proofs.Least.{open_least, own_steps}
 use Rattle.pg_cover.proofs.cover.open_of.Goals as goal
 
 pub least_open-requires-clause-steps : goal.least_open-requires-clause-steps
@@ -6,5 +6,4 @@ least_open-requires-clause-steps g c = own_steps _ c.args.labels.now c.args.labe
     (g.met.S.Space.lawful c.args.space.now) c.requires.label _ c.in_ok-opened.ensures
 
 pub returns : goal.returns
-returns g c = if_ok c.least_open.result c.least_open.ensures
-    (λ least l. open_least _ _ _ _ least c.in_ok-opened.ensures l)
+returns g c = open_least _ _ _ _ c.least_open.result c.in_ok-opened.ensures c.least_open.ensures

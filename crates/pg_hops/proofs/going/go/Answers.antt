@@ -18,8 +18,8 @@ use Rattle.pg_hops.proofs.OneStep.{goes_one, stops_one}
 use Rattle.pg_hops.proofs.PlainOn.{hop_counts, hop_goes}
 use Rattle.pg_hops.proofs.going.go.Goals as goal
 
-pub leap-requires-clause-few : goal.leap-requires-clause-few
-leap-requires-clause-few c =
+pub hop_over-requires-clause-few : goal.hop_over-requires-clause-few
+hop_over-requires-clause-few c =
     let doc = document c.args.galley.now c.args.style.now in
     let hop = c.in-Some.hop.now in
     let may = subst (λ o. MayHop doc.blocks doc.style.maxdepth (view c.args.passed.now) c.args.at (option_copied o))
@@ -62,8 +62,8 @@ returns-in-Some-clause-goes c =
     let all = subst (AllByRecursion IsBlock) c.blocks-2.ensures.blocks c.as_slice-shape.ensures.shape in
     let may = subst (λ o. MayHop doc.blocks doc.style.maxdepth old c.args.at (option_copied o))
     c.in-Some.is c.requires.hop in
-    subst (λ (q : Cursor). Goes doc c.args.at q old (view c.leap.new.passed)) (sym c.to.ensures)
-    (subst (λ (p : Passed). Goes doc c.args.at hop.to old p) (sym c.leap.ensures.value)
+    subst (λ (q : Cursor). Goes doc c.args.at q old (view c.hop_over.new.passed)) (sym c.to.ensures)
+    (subst (λ (p : Passed). Goes doc c.args.at hop.to old p) (sym c.hop_over.ensures.value)
     (hop_goes doc c.args.at c.args.item.now (sym c.requires.item) hop may.1 all old may.0))
 
 pub returns-in-Some-clause-counts : goal.returns-in-Some-clause-counts
@@ -74,7 +74,7 @@ returns-in-Some-clause-counts c =
     c.in-Some.is c.requires.hop in
     let counts = hop_counts doc c.args.at c.args.item.now (sym c.requires.item) hop may.1 in
     let same = ap (λ (q : Cursor). length (items_ahead c.args.galley.now.blocks q)) c.to.ensures in
-    let more = c.leap.ensures.counts in (
+    let more = c.hop_over.ensures.counts in (
       record { passed = omega (arith, counts.0, same, more.0); more = omega (arith, counts.1, more.0) },
       record { passed = omega (arith, counts.0, same, more.1); more = omega (arith, counts.1, more.1) },
     )

@@ -10,4 +10,4 @@ use Rattle.pg_session.proofs.solving.tell.Goals as goal
 pub outcome_of-requires : goal.outcome_of-requires
 outcome_of-requires c = of_equal (λ (galley : GalleyValue) (style : StyleValue).
     IsTable (page_meaning (document galley style)) c.args.kept.now.table) _ _ _ _
-    (sym c.new-space.ensures.galley) (sym c.new-space.ensures.style) c.requires.known.filled
+    (sym c.new-space.ensures.galley) (sym c.new-space.ensures.style) c.requires.filled

@@ -23,7 +23,7 @@ each-preserved c =
       best = best_near (document c.args.galley.now c.args.style.now) z ds (take (i + 1) items) (take i items)
           c.near-item.result (ends_of ds c.each.ends.items) (ends_of ds c.keep_near.new.ends.items)
           (one_more items i c.near-item.result c.each-test.true c.near-item.is) c.each.invariant.best
-          (c.in_ok-hint.ensures c.args.galley.now (needed_in z ds (take i items)));
+          (c.in_ok-keep_near.ensures c.args.galley.now (needed_in z ds (take i items)));
     }
 
 pub returns-clause-best : goal.returns-clause-best

@@ -1,9 +1,10 @@
 use Rattle.std.proofs.Common.{◌≡◌, subst, sym, take, List, None, ℕ}
 use Rattle.pg_floats.specs.FloatsValue.{ClassFloatsValue}
 use Rattle.pg_session.specs.Edits.{Refuses, edit_fault}
+use Rattle.pg_session.specs.Kept.{seen}
 use Rattle.pg_session.specs.SessionValue.{SessionValue}
 use Rattle.pg_session.specs.Sessions.{IsEdited}
-use Rattle.pg_session.proofs.Edited.{is_edited, seen, session_edited}
+use Rattle.pg_session.proofs.Edited.{is_edited, session_edited}
 use Rattle.pg_session.proofs.Faults.{later_fault, no_fault}
 use Rattle.pg_session.proofs.session.Session.edit.Goals as goal
 

@@ -1,0 +1,19 @@
+use Rattle.std.proofs.Common.{rules, subst}
+use Rattle.std.specs.Prelude.{ℤ, ◌+ℤ◌}
+use mir.Syntax.{w128}
+use mir.Val.{SFits, of_z, to_z}
+use Rattle.std.proofs.lemmas.Int.{to_z-of_z}
+use Rattle.pg_plan.specs.declared.states.Label.{Label}
+use Rattle.pg_table.specs.Space.{AreWanted}
+use Rattle.pg_cover.specs.Covered.{has_cover}
+use Rattle.pg_cover.proofs.cover.steps_of.Goals as goal
+
+pub returns : goal.returns
+returns g c =
+    let fits : SFits w128 c.args.label.now.cost = search rules in
+    subst (λ (cost : ℤ). AreWanted (g.S.Space.meaning c.args.space.now) c.args.label.now.state
+    (λ v d. has_cover (g.S.Space.meaning c.args.space.now) c.args.labels.now v (cost +ℤ d))
+    c.in_ok-offer.field-0.steps) (to_z-of_z w128 c.args.label.now.cost fits)
+    (subst (λ (l : Label). AreWanted (g.S.Space.meaning c.args.space.now) l.state
+    (λ v d. has_cover (g.S.Space.meaning c.args.space.now) c.args.labels.now v (to_z w128 (of_z w128 l.cost) +ℤ d))
+    c.in_ok-offer.field-0.steps) c.label.view_is c.in_ok-offer.ensures.moves)
