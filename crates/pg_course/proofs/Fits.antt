@@ -1,6 +1,6 @@
 -- What the command `compare` promises, by what was found of first fit.
 use Rattle.std.proofs.Common.{◌≡◌, ◌∙◌, inl, inr, ℕ, List, [], ◌++◌, Option, length, refl, ap, sym, arith}
-use Rattle.std.specs.Prelude.{None, Some, ℤ, pos, ◌-ℤ◌, ◌≤ℤ◌}
+use Rattle.std.specs.Prelude.{None, Some, ℤ, ◌-ℤ◌}
 use Rattle.std.proofs.lemmas.Int.{ints}
 use Rattle.pg_outside.specs.Outside.{OverSink, over_sink}
 use Rattle.pg_list.specs.GalleyValue.{GalleyValue}

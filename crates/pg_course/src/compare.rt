@@ -179,7 +179,7 @@ fn compared(
     }
 }
 
-// The same for the galley of a session as it stands, which is solved for it.
+// The same for the galley of a session as it stands, which is paginated for it.
 fn compared_text_of<L: Ledger>(
     alloc: Global,
     session: &mut Session,
@@ -191,14 +191,14 @@ fn compared_text_of<L: Ledger>(
         CompareOut session.old.galley session.old.style (bytes_of page) (end_of page)) }
     ensures shown { OnOk result (IsShown session.old session.new steps.old steps.new) }
 {
-    let outcome = session.solve(steps)?;
+    let told = session.paginate(steps)?;
     let text = compared(
         alloc,
         session.galley(),
         session.style(),
         session.floats(),
         first,
-        &outcome,
+        &told.outcome,
     )?;
     Ok(text)
 }
@@ -233,7 +233,7 @@ fn no_fit<'a>(fault: GreedyFault) -> Ending<'a>
 }
 
 /// Writes first fit beside the best pages of the galley of a session as it stands in one piece, and answers how that
-/// ends the run. A galley without a first fit is not solved.
+/// ends the run. A galley without a first fit is not paginated.
 pub fn write_comparison<'a, O: Sink, L: Ledger>(
     alloc: Global,
     session: &mut Session,

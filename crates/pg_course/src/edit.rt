@@ -226,7 +226,7 @@ fn edit_styled<'a, H: Shelf, O: Sink, L: Ledger>(
 /// what a run writes for the galley as it stands, in one piece, where `labels` is true with the labels of the search.
 /// The files are read in the order style, galley, script. A change that is refused ends it.
 ///
-/// What was solved for one show serves the next: only what the edits between can reach is solved again.
+/// What was found for one show serves the next: only what the edits between can reach is searched again.
 pub fn edit_course<'a, H: Shelf, O: Sink, L: Ledger>(
     alloc: Global,
     style: &'a str,

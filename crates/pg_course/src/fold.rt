@@ -84,7 +84,7 @@ fn sheets_of(
     }
 }
 
-// The same for the galley of a session as it stands, which is solved for it.
+// The same for the galley of a session as it stands, which is paginated for it.
 fn sheets_text_of<L: Ledger>(
     alloc: Global,
     session: &mut Session,
@@ -98,7 +98,7 @@ fn sheets_text_of<L: Ledger>(
         SheetsOut folds nest session.old.galley session.old.style (bytes_of page) (end_of page)) }
     ensures shown { OnOk result (IsShown session.old session.new steps.old steps.new) }
 {
-    let outcome = session.solve(steps)?;
+    let told = session.paginate(steps)?;
     let floats = session.floats();
     floats.stays_few();
     let text = sheets_of(
@@ -107,7 +107,7 @@ fn sheets_text_of<L: Ledger>(
         session.style(),
         folds,
         nest,
-        &outcome,
+        &told.outcome,
     )?;
     Ok(text)
 }

@@ -89,7 +89,7 @@ fn heads_of(
     }
 }
 
-// The same for the galley of a session as it stands, which is solved for it.
+// The same for the galley of a session as it stands, which is paginated for it.
 fn heads_text_of<L: Ledger>(
     alloc: Global,
     session: &mut Session,
@@ -99,8 +99,8 @@ fn heads_text_of<L: Ledger>(
         HeadsOut session.old.galley session.old.style (bytes_of page) (end_of page)) }
     ensures shown { OnOk result (IsShown session.old session.new steps.old steps.new) }
 {
-    let outcome = session.solve(steps)?;
-    let text = heads_of(alloc, session.galley(), session.style(), &outcome)?;
+    let told = session.paginate(steps)?;
+    let text = heads_of(alloc, session.galley(), session.style(), &told.outcome)?;
     Ok(text)
 }
 
