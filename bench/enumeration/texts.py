@@ -1,4 +1,4 @@
-"""Galleys, styles and paginations as texts: the notation of TeX's log, a style file, and lines for pg_judge_bench."""
+"""Galleys, styles and paginations as texts: the notation of TeX's log, a style file, and lines for test_plans."""
 
 from rules import POINT, Item
 

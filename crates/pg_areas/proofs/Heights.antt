@@ -14,8 +14,8 @@ use Rattle.pg_style.specs.Values.{AreaRuleValue, StyleValue}
 use Rattle.pg_style.specs.declared.style.Area.{Area}
 use Rattle.pg_rules.specs.Floats.{area_height, dealt, entry, float_count, float_numbers, floats, has_all, is_area_allowed, sizes_of, total_count}
 use Rattle.pg_rules.specs.Room.{checked_height}
-use Rattle.pg_bound_laws.proofs.Areas.{area_range, dealt_long, dealt_range, floats_range}
-use Rattle.pg_bound_laws.proofs.Counts.{float_total}
+use Rattle.law_columns.proofs.Areas.{area_range, dealt_long, dealt_range, floats_range}
+use Rattle.law_columns.proofs.BoundCounts.{float_total}
 use Rattle.pg_floats.specs.AreFloats.{height_of}
 use Rattle.pg_areas.specs.Given.{IsAreaHeight}
 

@@ -9,16 +9,16 @@ use Rattle.pg_table.specs.declared.table.Entry.{Entry}
 use Rattle.pg_table.proofs.Lists.{at_contains, contains_at}
 use Rattle.pg_hlist.specs.declared.item.HItem.{HItem}
 use Rattle.pg_hlist.specs.Items.{IsPara}
-use Rattle.pg_paragraphs.specs.declared.rule.LineRule.{LineRule}
-use Rattle.pg_paragraphs.specs.Ways.{IsLeastWay, NoWay, demerits, is_some_line, is_way, keeps_lines, start_of}
-use Rattle.pg_paragraphs.proofs.Listed.{lines_few}
-use Rattle.pg_paragraphs.proofs.Tests.{eq_true}
-use Rattle.pg_line_space.specs.declared.state.LineState.{LineState}
-use Rattle.pg_line_space.specs.BestSpace.{IsBestCount, best_meaning}
-use Rattle.pg_line_space.specs.LineSpace.{IsLow, is_done, is_same_state, line_meaning, line_state}
-use Rattle.pg_line_space.proofs.SpaceLaws.{same_itself, same_state}
-use Rattle.pg_line_space.proofs.BestCount.{tells_best_count}
-use Rattle.pg_line_space.proofs.Tells.{tells_ways}
+use Rattle.law_lines.specs.declared.rule.LineRule.{LineRule}
+use Rattle.law_lines.specs.Ways.{IsLeastWay, NoWay, demerits, is_some_line, is_way, keeps_lines, start_of}
+use Rattle.law_lines.proofs.Listed.{lines_few}
+use Rattle.law_lines.proofs.Tests.{eq_true}
+use Rattle.law_lines.specs.declared.state.LineState.{LineState}
+use Rattle.law_lines.specs.BestSpace.{IsBestCount, best_meaning}
+use Rattle.law_lines.specs.LineSpace.{IsLow, is_done, is_same_state, line_meaning, line_state}
+use Rattle.law_lines.proofs.SpaceLaws.{same_itself, same_state}
+use Rattle.law_lines.proofs.BestCount.{tells_best_count}
+use Rattle.law_lines.proofs.Tells.{tells_ways}
 use Rattle.pg_break_lines.specs.Found.{IsBestNumber, IsLabelAt, NoLabelAt}
 
 -- a legal way has no more lines than the paragraph has items

@@ -13,7 +13,7 @@ use Rattle.pg_lemmas.proofs.Lists.{all_drop}
 use Rattle.pg_break_lines.specs.declared.ahead.Fall.{Fall}
 use Rattle.pg_break_lines.specs.Ahead.{IsBounded, at_most_zero, fall_before, fall_of, falls_of, least_front, tight_width}
 use Rattle.pg_line_boxes.proofs.SumsLaws.{shrink_small, width_small}
-use Rattle.pg_place_laws.proofs.Tests.{less_int, not_less_int}
+use Rattle.law_places.proofs.Tests.{less_int, not_less_int}
 
 -- ---- the list
 

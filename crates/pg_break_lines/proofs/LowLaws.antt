@@ -7,16 +7,16 @@ use Rattle.std.proofs.Math.Seq.{get_or-append_seam}
 use Rattle.pg_lemmas.proofs.Bools.{by_bool}
 use Rattle.pg_lemmas.proofs.Numbers.{less_true, not_less}
 use Rattle.pg_hlist.specs.declared.item.HItem.{HItem}
-use Rattle.pg_paragraphs.specs.declared.rule.LineRule.{LineRule}
-use Rattle.pg_paragraphs.specs.Lines.{is_line}
-use Rattle.pg_paragraphs.proofs.LineFacts.{line_rises, line_within}
-use Rattle.pg_line_space.specs.LineSpace.{IsLow}
+use Rattle.law_lines.specs.declared.rule.LineRule.{LineRule}
+use Rattle.law_lines.specs.Lines.{is_line}
+use Rattle.law_lines.proofs.LineFacts.{line_rises, line_within}
+use Rattle.law_lines.specs.LineSpace.{IsLow}
 use Rattle.pg_break_lines.specs.declared.ends.LineEnd.{LineEnd}
 use Rattle.pg_break_lines.specs.Ends.{ends_from}
 use Rattle.pg_break_lines.specs.Moves.{low_by}
 use Rattle.pg_break_lines.proofs.Moves.{on_end, the_end}
-use Rattle.pg_place_laws.proofs.Among.{Among}
-use Rattle.pg_member_laws.proofs.Members.{among_contains}
+use Rattle.law_places.proofs.Among.{Among}
+use Rattle.law_places.proofs.Members.{among_contains}
 
 -- a member of a list that is cut behind its first
 pub among_front : {X : Type 0} (xs : List X) (d e : X) → 1 ≤ length xs → Among e xs →

@@ -11,19 +11,19 @@ use Rattle.pg_lemmas.proofs.Numbers.{eq_not, less_true, not_less, le_true, true_
 use Rattle.pg_table.specs.Space.{AreMoves}
 use Rattle.pg_table.specs.declared.step.Step.{Step}
 use Rattle.pg_hlist.specs.declared.item.HItem.{HItem}
-use Rattle.pg_paragraphs.specs.declared.rule.LineRule.{LineRule}
-use Rattle.pg_paragraphs.specs.Lines.{is_line, line_demerits}
-use Rattle.pg_paragraphs.proofs.LineFacts.{line_within}
-use Rattle.pg_paragraphs.proofs.Tests.{eq_true}
-use Rattle.pg_line_space.specs.declared.state.LineState.{LineState}
-use Rattle.pg_line_space.specs.BestSpace.{NextBreak, best_meaning, unit}
-use Rattle.pg_line_space.specs.LineSpace.{NextLine, line_meaning, line_state}
+use Rattle.law_lines.specs.declared.rule.LineRule.{LineRule}
+use Rattle.law_lines.specs.Lines.{is_line, line_demerits}
+use Rattle.law_lines.proofs.LineFacts.{line_within}
+use Rattle.law_lines.proofs.Tests.{eq_true}
+use Rattle.law_lines.specs.declared.state.LineState.{LineState}
+use Rattle.law_lines.specs.BestSpace.{NextBreak, best_meaning, unit}
+use Rattle.law_lines.specs.LineSpace.{NextLine, line_meaning, line_state}
 use Rattle.pg_break_lines.specs.declared.ends.LineEnd.{LineEnd}
 use Rattle.pg_break_lines.specs.Ends.{all_ends, end_at, ends_from, ends_on}
 use Rattle.pg_break_lines.specs.Moves.{best_step, ends_at, line_step}
-use Rattle.pg_place_laws.proofs.Among.{among_cases, Among, among_left, among_right}
-use Rattle.pg_member_laws.proofs.Members.{among_contains, contains_among}
-use Rattle.pg_member_laws.proofs.Pairs.{at_among}
+use Rattle.law_places.proofs.Among.{among_cases, Among, among_left, among_right}
+use Rattle.law_places.proofs.Members.{among_contains, contains_among}
+use Rattle.law_places.proofs.Pairs.{at_among}
 
 -- ---- members
 

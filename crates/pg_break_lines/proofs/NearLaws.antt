@@ -12,7 +12,7 @@ use Rattle.pg_flat.specs.Break.{follows_solid, has_at, is_forcing, is_glue, item
 use Rattle.pg_hlist.specs.declared.item.HItem.{HItem}
 use Rattle.pg_hlist.specs.declared.item.HItem.TheVariants.{BoxItem, Glue, Kern, Penalty}
 use Rattle.pg_hlist.specs.Items.{as_item, as_items}
-use Rattle.pg_paragraphs.specs.Lines.{is_forced_at, penalty_at}
+use Rattle.law_lines.specs.Lines.{is_forced_at, penalty_at}
 use Rattle.pg_break_lines.specs.Near.{box_end, follows_box, forces, is_hbox, is_hglue, item_penalty, near_forced, near_penalty, passes_at}
 use Rattle.pg_breaks.proofs.Kept.{front_step, back_step}
 use Rattle.pg_list.proofs.Sizes.{last_step}

@@ -18,10 +18,10 @@ use Rattle.pg_lemmas.proofs.Numbers.{less_true, not_less}
 use Rattle.pg_hlist.specs.declared.item.HItem.{HItem}
 use Rattle.pg_hlist.specs.declared.item.HItem.TheVariants.{BoxItem}
 use Rattle.pg_hlist.specs.Items.{IsInRange, IsPara, as_item, as_items, width_of}
-use Rattle.pg_paragraphs.specs.declared.rule.LineRule.{LineRule}
-use Rattle.pg_paragraphs.specs.Lines.{from_box, holds_box, is_forced_at, is_line, line_badness, line_demerits, line_is_over, line_items, line_total, passes_forced, penalty_at}
-use Rattle.pg_paragraphs.proofs.Scanning.{begins_with_first, over_by_bounds, stops_when_forced}
-use Rattle.pg_paragraphs.proofs.LineFacts.{line_within}
+use Rattle.law_lines.specs.declared.rule.LineRule.{LineRule}
+use Rattle.law_lines.specs.Lines.{from_box, holds_box, is_forced_at, is_line, line_badness, line_demerits, line_is_over, line_items, line_total, passes_forced, penalty_at}
+use Rattle.law_lines.proofs.Scanning.{begins_with_first, over_by_bounds, stops_when_forced}
+use Rattle.law_lines.proofs.LineFacts.{line_within}
 use Rattle.pg_break_lines.specs.declared.ahead.Fall.{Fall}
 use Rattle.pg_break_lines.specs.declared.ends.LineEnd.{LineEnd}
 use Rattle.pg_line_boxes.specs.declared.sums.LineSums.{LineSums}
@@ -31,8 +31,8 @@ use Rattle.pg_break_lines.specs.Near.{is_hbox, passes_at}
 use Rattle.pg_line_boxes.specs.Sums.{AreSmall, sums_badness, sums_of, sums_with}
 use Rattle.pg_break_lines.proofs.FallLaws.{least_below}
 use Rattle.pg_line_boxes.proofs.SumsLaws.{sums_push, sums_small}
-use Rattle.pg_place_laws.proofs.Among.{sum_append}
-use Rattle.pg_place_laws.proofs.Tests.{less_int, le_int}
+use Rattle.law_places.proofs.Among.{sum_append}
+use Rattle.law_places.proofs.Tests.{less_int, le_int}
 use Rattle.pg_rules.specs.Cost.{penalty_demerits}
 
 -- ---- pieces of a paragraph

@@ -5,8 +5,8 @@ use Rattle.std.specs.Option.{option_map_or}
 use Rattle.pg_flat.specs.Badness.{is_over}
 use Rattle.pg_flat.specs.Whole.{square}
 use Rattle.pg_hlist.specs.declared.item.HItem.{HItem}
-use Rattle.pg_paragraphs.specs.declared.rule.LineRule.{LineRule}
-use Rattle.pg_paragraphs.specs.Lines.{is_line, line_demerits, penalty_at}
+use Rattle.law_lines.specs.declared.rule.LineRule.{LineRule}
+use Rattle.law_lines.specs.Lines.{is_line, line_demerits, penalty_at}
 use Rattle.pg_break_lines.specs.declared.ends.LineEnd.{LineEnd}
 use Rattle.pg_line_boxes.specs.declared.sums.LineSums.{LineSums}
 use Rattle.pg_line_boxes.specs.Sums.{sums_badness}

@@ -2,11 +2,11 @@
 use Rattle.std.specs.Prelude.{◌≡◌, ℕ, List, length, Option, Some, None, slice_get, Contains}
 use Rattle.pg_table.specs.declared.table.Entry.{Entry}
 use Rattle.pg_hlist.specs.declared.item.HItem.{HItem}
-use Rattle.pg_paragraphs.specs.declared.rule.LineRule.{LineRule}
-use Rattle.pg_paragraphs.specs.Ways.{CannotBreak, IsLeastWay, NoWay, demerits}
-use Rattle.pg_line_space.specs.declared.state.LineState.{LineState}
-use Rattle.pg_line_space.specs.BestSpace.{IsBestCount}
-use Rattle.pg_line_space.specs.LineSpace.{line_state}
+use Rattle.law_lines.specs.declared.rule.LineRule.{LineRule}
+use Rattle.law_lines.specs.Ways.{CannotBreak, IsLeastWay, NoWay, demerits}
+use Rattle.law_lines.specs.declared.state.LineState.{LineState}
+use Rattle.law_lines.specs.BestSpace.{IsBestCount}
+use Rattle.law_lines.specs.LineSpace.{line_state}
 use Rattle.pg_break_lines.specs.declared.ways.Way.{Way}
 
 -- the best number of lines, or none where there is no way

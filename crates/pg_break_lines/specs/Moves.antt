@@ -3,9 +3,9 @@ use Rattle.std.specs.Prelude.{ℕ, ◌+◌, ◌-◌, nat_le, if◌then◌else◌
 use Rattle.std.specs.List.{flat_map, slice_index}
 use Rattle.std.specs.Option.{option_map_or}
 use Rattle.pg_table.specs.declared.step.Step.{Step}
-use Rattle.pg_line_space.specs.declared.state.LineState.{LineState}
-use Rattle.pg_line_space.specs.BestSpace.{unit}
-use Rattle.pg_line_space.specs.LineSpace.{line_state}
+use Rattle.law_lines.specs.declared.state.LineState.{LineState}
+use Rattle.law_lines.specs.BestSpace.{unit}
+use Rattle.law_lines.specs.LineSpace.{line_state}
 use Rattle.pg_break_lines.specs.declared.ends.LineEnd.{LineEnd}
 
 -- the lines that are listed for a place

@@ -1,7 +1,7 @@
 //! The best number of lines.
 ghost use Rattle.std.specs.Prelude.{◌≡◌, ◌≤◌, ◌++◌, ◌+◌, ◌+ℤ◌, ◌*ℤ◌, pos, length, IfOk, OnOk};
 ghost use Rattle.pg_hlist.specs.Items.{IsPara};
-ghost use Rattle.pg_line_space.specs.BestSpace.{best_meaning, unit};
+ghost use Rattle.law_lines.specs.BestSpace.{best_meaning, unit};
 ghost use Rattle.pg_table.specs.Space.{AreMoves};
 ghost use Rattle.pg_break_lines.specs.Ends.{all_ends};
 ghost use Rattle.pg_break_lines.specs.Moves.{best_step};
@@ -9,8 +9,8 @@ ghost use Rattle.pg_break_lines.specs.OneProof.{IsPara_prop, lists_set};
 
 use crate::ends::LineEnd;
 use crate::lists::LineLists;
+use law_lines::LineRule;
 use pg_hlist::HItem;
-use pg_paragraphs::LineRule;
 use pg_steps::Steps;
 use pg_table::{Opened, Space, Step, StepList};
 use std::alloc::{AllocError, Global};
@@ -90,8 +90,8 @@ impl Space for BestSpace<'_> {
 
     type Key = u32;
 
-    ghost use Rattle.pg_line_space.specs.BestSpace.{best_meaning};
-    ghost use Rattle.pg_line_space.proofs.BestCount.{best_lawful};
+    ghost use Rattle.law_lines.specs.BestSpace.{best_meaning};
+    ghost use Rattle.law_lines.proofs.BestCount.{best_lawful};
 
     ghost meaning = { λ s. best_meaning s.rule.now s.items.now };
 

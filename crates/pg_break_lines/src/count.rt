@@ -1,7 +1,7 @@
 //! The best number of lines of a paragraph.
 ghost use Rattle.std.specs.Prelude.{◌≡◌, IfOk};
 ghost use Rattle.pg_hlist.specs.Items.{IsPara};
-ghost use Rattle.pg_line_space.specs.BestSpace.{best_meaning};
+ghost use Rattle.law_lines.specs.BestSpace.{best_meaning};
 ghost use Rattle.pg_table.specs.Label.{IsTable};
 ghost use Rattle.pg_break_lines.specs.Found.{IsBestNumber};
 

@@ -2,7 +2,7 @@
 ghost use Rattle.std.specs.Prelude.{◌≡◌, ◌≤◌, ◌<◌, ◌++◌, ◌∷◌, ◌^◌, [], length, drop, take, false, true, slice_get, Some, OnOk, OnErr, IfOk, pos, ◌+ℤ◌, ◌<ℤ◌, nat_abs};
 ghost use Rattle.pg_flat.specs.Whole.{square as square_of};
 ghost use Rattle.pg_hlist.specs.Items.{IsPara};
-ghost use Rattle.pg_paragraphs.specs.Lines.{holds_box};
+ghost use Rattle.law_lines.specs.Lines.{holds_box};
 ghost use Rattle.pg_break_lines.specs.Ahead.{falls_of};
 ghost use Rattle.pg_break_lines.specs.Ends.{end_by, end_with, ends_from as ends_from_place, fits as fits_by};
 ghost use Rattle.pg_break_lines.specs.Near.{box_end as box_end_of, is_hbox, passes_at};
@@ -11,9 +11,9 @@ ghost use Rattle.pg_rules.specs.Cost.{penalty_demerits as demerits_of_penalty};
 
 use crate::ahead::{Fall, stays_over};
 use crate::near::{is_box, is_forced, penalty_of_break};
+use law_lines::LineRule;
 use pg_hlist::HItem;
 use pg_line_boxes::LineSums;
-use pg_paragraphs::LineRule;
 use pg_whole::{minus, plus, square, wide};
 use std::alloc::{AllocError, Global};
 use std::marker::Model;

@@ -1,7 +1,7 @@
 //! The fewest lines from each place to the end.
 ghost use Rattle.std.specs.Prelude.{◌≡◌, ◌≤◌, ◌+◌, Contains, length, IfOk};
 ghost use Rattle.pg_hlist.specs.Items.{IsPara};
-ghost use Rattle.pg_line_space.specs.LineSpace.{IsLow};
+ghost use Rattle.law_lines.specs.LineSpace.{IsLow};
 ghost use Rattle.pg_break_lines.specs.declared.ends.LineEnd.{LineEnd as AnEnd};
 ghost use Rattle.pg_break_lines.specs.Ends.{all_ends};
 ghost use Rattle.pg_break_lines.specs.Moves.{low_by};

@@ -2,9 +2,9 @@
 //! lines the least way.
 //!
 //! Proved: `LineLists` holds exactly the lines that may stand, with their demerits; `BestSpace` and `LineSpace` are spaces
-//! of the table with the meanings of pg_line_space; `fewest_lines` tells a bound from below on the lines to the end;
+//! of the table with the meanings of law_lines; `fewest_lines` tells a bound from below on the lines to the end;
 //! `best_count` answers the best number of lines, or that there is no way; `least_way` answers the least way of a number
-//! of lines, the first among equals, or that there is none. The definitions of lines and ways are those of pg_paragraphs;
+//! of lines, the first among equals, or that there is none. The definitions of lines and ways are those of law_lines;
 //! `specs/Ends` lists the lines from a place, `specs/Found` says what is found.
 #![tactic(auto)]
 

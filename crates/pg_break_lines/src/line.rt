@@ -1,7 +1,7 @@
 //! Ways by their number of lines.
 ghost use Rattle.std.specs.Prelude.{◌≡◌, ◌≤◌, ◌++◌, length, IfOk, OnOk};
 ghost use Rattle.pg_hlist.specs.Items.{IsPara};
-ghost use Rattle.pg_line_space.specs.LineSpace.{IsLineState, is_done as is_done_of, is_same_state, line_meaning};
+ghost use Rattle.law_lines.specs.LineSpace.{IsLineState, is_done as is_done_of, is_same_state, line_meaning};
 ghost use Rattle.pg_table.specs.Space.{AreMoves};
 ghost use Rattle.pg_break_lines.specs.Ends.{all_ends};
 ghost use Rattle.pg_break_lines.specs.Moves.{line_step, low_by};
@@ -10,9 +10,8 @@ ghost use Rattle.pg_break_lines.specs.OneProof.{IsPara_prop, lists_set};
 use crate::ends::LineEnd;
 use crate::fewest::low_at;
 use crate::lists::LineLists;
+use law_lines::{LineRule, LineState};
 use pg_hlist::HItem;
-use pg_line_space::LineState;
-use pg_paragraphs::LineRule;
 use pg_steps::Steps;
 use pg_table::{Opened, Space, Step, StepList};
 use std::alloc::{AllocError, Global};
@@ -117,8 +116,8 @@ impl Space for LineSpace<'_> {
 
     ghost use Rattle.std.specs.Prelude.{length};
     ghost use Rattle.pg_break_lines.specs.Moves.{low_by};
-    ghost use Rattle.pg_line_space.specs.LineSpace.{line_meaning};
-    ghost use Rattle.pg_line_space.proofs.SpaceLaws.{lines_lawful};
+    ghost use Rattle.law_lines.specs.LineSpace.{line_meaning};
+    ghost use Rattle.law_lines.proofs.SpaceLaws.{lines_lawful};
 
     ghost meaning = { λ s. line_meaning s.rule.now s.items.now (low_by (length s.items.now) s.low.now) s.most };
 

@@ -7,8 +7,8 @@ ghost use Rattle.pg_break_lines.specs.Moves.{ends_at};
 use crate::ahead::falls;
 use crate::ends::{LineEnd, LineEnds, ends_from};
 use crate::near::box_end;
+use law_lines::LineRule;
 use pg_hlist::HItem;
-use pg_paragraphs::LineRule;
 use std::alloc::{AllocError, Global};
 use std::marker::Model;
 

@@ -1,6 +1,6 @@
 //! What stands at a place of a paragraph, and next to it.
 ghost use Rattle.std.specs.Prelude.{◌≡◌, ◌≤◌, ◌<◌, length, ◌+◌, ◌==◌, ◌&&◌, ◌||◌, nat_lt};
-ghost use Rattle.pg_paragraphs.specs.Lines.{is_forced_at, penalty_at};
+ghost use Rattle.law_lines.specs.Lines.{is_forced_at, penalty_at};
 ghost use Rattle.pg_break_lines.specs.Near.{box_end as box_end_of, follows_box as follows_box_at, forces as forces_of, is_hbox, is_hglue, near_penalty, passes_at};
 
 use pg_hlist::HItem;

@@ -1,8 +1,8 @@
 //! The least way of a number of lines.
 ghost use Rattle.std.specs.Prelude.{◌≡◌, ◌≤◌, ◌<◌, ℕ, length, slice_get, Some, IfOk, IfSome, IfNone};
 ghost use Rattle.pg_hlist.specs.Items.{IsPara};
-ghost use Rattle.pg_line_space.specs.LineSpace.{IsLow, is_same_state, line_meaning, line_state};
-ghost use Rattle.pg_line_space.specs.declared.state.LineState.{LineState as AState};
+ghost use Rattle.law_lines.specs.LineSpace.{IsLow, is_same_state, line_meaning, line_state};
+ghost use Rattle.law_lines.specs.declared.state.LineState.{LineState as AState};
 ghost use Rattle.pg_table.specs.Label.{IsTable};
 ghost use Rattle.pg_table.specs.declared.table.Entry.{Entry as AnEntry};
 ghost use Rattle.pg_break_lines.specs.Found.{IsFound, IsLabelAt, NoLabelAt};
@@ -10,7 +10,7 @@ ghost use Rattle.pg_break_lines.specs.Moves.{low_by};
 
 use crate::line::LineSpace;
 use crate::runs::moves_back;
-use pg_line_space::LineState;
+use law_lines::LineState;
 use pg_table::{Entry, Table};
 use std::alloc::{AllocError, Global};
 

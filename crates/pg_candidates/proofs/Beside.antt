@@ -13,10 +13,10 @@ use Rattle.pg_rules.specs.Cost.{penalty_demerits}
 use Rattle.pg_rules.specs.Room.{Document}
 use Rattle.pg_style.specs.Values.{StyleValue}
 use Rattle.pg_sums.specs.Step.{badness_by}
-use Rattle.pg_walk_laws.specs.Best.{IsCheaper}
-use Rattle.pg_walk_laws.specs.Candidates.{Candidate, cost_in, end_in, is_over_in, keeps_in}
-use Rattle.pg_walk_laws.proofs.BestLaws.{ends_tied}
-use Rattle.pg_walk_laws.proofs.Ends.{fits_more}
+use Rattle.law_walk.specs.Best.{IsCheaper}
+use Rattle.law_walk.specs.Candidates.{Candidate, cost_in, end_in, is_over_in, keeps_in}
+use Rattle.law_walk.proofs.BestLaws.{ends_tied}
+use Rattle.law_walk.proofs.Ends.{fits_more}
 use Rattle.pg_candidates.specs.Nears.{IsHopelessFrom, IsServedFrom, IsWorst, Serves, kind_at}
 use Rattle.pg_candidates.specs.declared.kind.EndKind.{EndKind}
 use Rattle.pg_candidates.proofs.Short.{no_end_from, not_over, worse_by}

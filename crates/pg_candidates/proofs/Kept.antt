@@ -5,9 +5,9 @@ use Rattle.pg_list.specs.declared.galley.Place.{Place}
 use Rattle.pg_column.specs.declared.cost.TextCost.{TextCost}
 use Rattle.pg_rules.specs.Room.{Document}
 use Rattle.pg_ends.specs.declared.end.End.{End}
-use Rattle.pg_walk_laws.specs.Best.{AreBest, insert_end}
-use Rattle.pg_walk_laws.specs.Candidates.{Candidate, end_in, keeps_in, kept_ends}
-use Rattle.pg_walk_laws.proofs.BestLaws.{best_push}
+use Rattle.law_walk.specs.Best.{AreBest, insert_end}
+use Rattle.law_walk.specs.Candidates.{Candidate, end_in, keeps_in, kept_ends}
+use Rattle.law_walk.proofs.BestLaws.{best_push}
 
 pub kept_last : (doc : Document) (room : ℤ) (cs : List Candidate) (c : Candidate) →
     kept_ends doc room (cs ++ c ∷ [])

@@ -13,8 +13,8 @@ use Rattle.pg_lemmas.proofs.Bools.{if_false, if_true}
 use Rattle.pg_list.proofs.BodyLemmas.{all_front}
 use Rattle.pg_rules.specs.Room.{Document}
 use Rattle.pg_sums.specs.declared.totals.Totals.{Totals}
-use Rattle.pg_walk_laws.specs.Best.{AreBest, insert_end}
-use Rattle.pg_walk_laws.specs.Candidates.{Candidate, cost_in, end_in, is_over_in, keeps_in, kept_ends}
+use Rattle.law_walk.specs.Best.{AreBest, insert_end}
+use Rattle.law_walk.specs.Candidates.{Candidate, cost_in, end_in, is_over_in, keeps_in, kept_ends}
 use Rattle.pg_candidates.specs.Nears.{IsNear, IsNearIn, NearValue, needed_in, needed_of}
 use Rattle.pg_candidates.specs.RoomEnds.{end_by, end_of, picks_at}
 use Rattle.pg_candidates.specs.declared.kind.EndKind.{EndKind}

@@ -13,11 +13,11 @@ use Rattle.pg_lemmas.proofs.Bools.{by_bool, either_way, if_false, if_true, not_b
 use Rattle.pg_lemmas.proofs.Lists.{one_more}
 use Rattle.pg_list.proofs.BodyLemmas.{all_push}
 use Rattle.pg_rules.specs.Room.{Document}
-use Rattle.pg_walk_laws.specs.Best.{AreBest, IsAmong, IsUnder, end_cmp}
-use Rattle.pg_walk_laws.specs.Candidates.{Candidate, end_in, keeps_in, kept_ends}
-use Rattle.pg_walk_laws.proofs.BestLaws.{among_contains, contains_among, end_total, under_chain, under_itself}
-use Rattle.pg_walk_laws.proofs.Complete.{among_left, among_right}
-use Rattle.pg_walk_laws.proofs.Ends.{kept_listed, kept_of}
+use Rattle.law_walk.specs.Best.{AreBest, IsAmong, IsUnder, end_cmp}
+use Rattle.law_walk.specs.Candidates.{Candidate, end_in, keeps_in, kept_ends}
+use Rattle.law_walk.proofs.BestLaws.{among_contains, contains_among, end_total, under_chain, under_itself}
+use Rattle.law_walk.proofs.Complete.{among_left, among_right}
+use Rattle.law_walk.proofs.Ends.{kept_listed, kept_of}
 use Rattle.pg_candidates.specs.Nears.{AreNear, IsHopelessFrom, IsNear, IsNearIn, IsServedFrom, IsWorst, NearValue, Suffice, is_needed, kind_at, needed_in, needed_of, one_at}
 use Rattle.pg_candidates.specs.Seen.{AreSeen, AreServed, HasServer, IsLeading}
 use Rattle.pg_candidates.specs.View.{candidate_of}

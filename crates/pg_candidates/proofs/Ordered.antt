@@ -4,8 +4,8 @@ use Rattle.std.specs.Prelude.{get_or, nat_lt, slice_set}
 use Rattle.std.specs.List.{insert}
 use Rattle.std.proofs.lemmas.List.{map-append}
 use Rattle.pg_lemmas.proofs.Bools.{by_bool}
-use Rattle.pg_walk_laws.specs.Best.{IsAmong}
-use Rattle.pg_walk_laws.proofs.Complete.{among_left, among_right}
+use Rattle.law_walk.specs.Best.{IsAmong}
+use Rattle.law_walk.proofs.Complete.{among_left, among_right}
 use Rattle.pg_candidates.specs.Groups.{IsAdded, indices_in, indices_of}
 use Rattle.pg_candidates.specs.declared.order.Group.{Group}
 use Rattle.pg_candidates.specs.declared.order.Ranked.{Ranked}

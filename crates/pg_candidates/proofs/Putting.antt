@@ -8,9 +8,9 @@ use Rattle.std.specs.declared.cmp.Ordering.{Ordering}
 use Rattle.std.specs.declared.cmp.Ordering.TheVariants.{Less, Equal, Greater}
 use Rattle.std.proofs.lemmas.List.{get_or_default}
 use Rattle.pg_ends.specs.declared.end.End.{End}
-use Rattle.pg_walk_laws.specs.Best.{Ascend, IsFirst, end_cmp, insert_end, is_better, placed_by}
-use Rattle.pg_walk_laws.specs.Candidates.{Candidate}
-use Rattle.pg_walk_laws.proofs.BestLaws.{end_total}
+use Rattle.law_walk.specs.Best.{Ascend, IsFirst, end_cmp, insert_end, is_better, placed_by}
+use Rattle.law_walk.specs.Candidates.{Candidate}
+use Rattle.law_walk.proofs.BestLaws.{end_total}
 use Rattle.pg_candidates.specs.RoomEnds.{end_of, ends_of}
 use Rattle.pg_candidates.specs.Spots.{is_before, is_less, spot_by, spot_in}
 use Rattle.pg_candidates.specs.declared.best.Spot.{Spot}

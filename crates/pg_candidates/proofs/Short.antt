@@ -12,7 +12,7 @@ use Rattle.pg_lemmas.proofs.Bools.{if_false, if_true}
 use Rattle.pg_rules.specs.Room.{Document}
 use Rattle.pg_sums.specs.Step.{badness_by, has_infinite}
 use Rattle.pg_sums.specs.declared.totals.Totals.{Totals}
-use Rattle.pg_walk_laws.specs.Candidates.{Candidate, is_over_in, keeps_in}
+use Rattle.law_walk.specs.Candidates.{Candidate, is_over_in, keeps_in}
 
 -- ---- the badness
 

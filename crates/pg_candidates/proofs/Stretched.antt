@@ -6,8 +6,8 @@ use Rattle.pg_list.specs.Places.{place}
 use Rattle.pg_lemmas.proofs.Bools.{if_false, if_true}
 use Rattle.pg_rules.specs.Room.{Document}
 use Rattle.pg_column.specs.Passed.{Passed, fits}
-use Rattle.pg_walk_laws.specs.Candidates.{Candidate}
-use Rattle.pg_walk_laws.specs.Walk.{end_here, ends_along}
+use Rattle.law_walk.specs.Candidates.{Candidate}
+use Rattle.law_walk.specs.Walk.{end_here, ends_along}
 use Rattle.pg_stretch.specs.declared.cursor.Cursor.{Cursor}
 use Rattle.pg_stretch.specs.Ahead.{IsSettled, front_ahead, item_ahead, items_ahead, place_ahead}
 use Rattle.pg_stretch.specs.Quiet.{is_quiet, passed_along}

@@ -10,27 +10,13 @@ use Rattle.pg_flat.specs.Badness.{is_over}
 use Rattle.pg_lemmas.proofs.Bools.{if_false}
 use Rattle.pg_rules.specs.Room.{Document}
 use Rattle.pg_sums.specs.declared.totals.Totals.{Totals}
-use Rattle.pg_walk_laws.specs.Best.{AreBest}
-use Rattle.pg_walk_laws.specs.Candidates.{Candidate, cost_in, is_over_in, keeps_in, kept_ends}
+use Rattle.law_walk.specs.Best.{AreBest}
+use Rattle.law_walk.specs.Candidates.{Candidate, cost_in, is_over_in, keeps_in, kept_ends}
 use Rattle.pg_candidates.specs.Nears.{IsLeastRoom, IsNearIn, NearValue, is_needed, least_by, needed_of, one_at}
 use Rattle.pg_candidates.proofs.Kept.{keep_more}
 use Rattle.pg_candidates.proofs.Nears.{best_same}
 
 -- ---- the least room
-
--- the greater of two numbers is not above a third where neither is
-pub le_both : (a b z : ℤ) → a ≤ℤ b → int_le b z ≡ (int_le a z && int_le b z)
-le_both a b z h = by (int_le b z) refl
-  where
-    by : (c : Bool) → int_le b z ≡ c → c ≡ (int_le a z && c)
-    by true e =
-        let f : int_le a z ≡ true = grind (arith, ints, h, e) in
-        sym (ap (λ (d : Bool). d && true) f)
-    by false e = sym (none (int_le a z))
-      where
-        none : (d : Bool) → (d && false) ≡ false
-        none true = refl
-        none false = refl
 
 rearranged : (over a f m : Bool) → over ≡ not a → (not over && (f && m)) ≡ (f && (m && a))
 rearranged over true true true e = rw e refl

@@ -1,7 +1,7 @@
 -- Which candidates are in groups, and that one was added to them.
 use Rattle.std.specs.Prelude.{ℕ, List, ◌∷◌, map}
 use Rattle.std.specs.List.{flat_map}
-use Rattle.pg_walk_laws.specs.Best.{IsAmong}
+use Rattle.law_walk.specs.Best.{IsAmong}
 use Rattle.pg_candidates.specs.declared.order.Group.{Group}
 use Rattle.pg_candidates.specs.declared.order.Ranked.{Ranked}
 

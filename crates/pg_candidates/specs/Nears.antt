@@ -14,8 +14,8 @@ use Rattle.pg_rules.specs.Room.{Document}
 use Rattle.pg_style.specs.Values.{StyleValue}
 use Rattle.pg_sums.specs.Step.{badness_by}
 use Rattle.pg_sums.specs.declared.totals.Totals.{Totals}
-use Rattle.pg_walk_laws.specs.Best.{IsAmong, IsUnder, end_cmp}
-use Rattle.pg_walk_laws.specs.Candidates.{AreCandidates, Candidate, end_in, is_over_in, keeps_in, kept_ends}
+use Rattle.law_walk.specs.Best.{IsAmong, IsUnder, end_cmp}
+use Rattle.law_walk.specs.Candidates.{AreCandidates, Candidate, end_in, is_over_in, keeps_in, kept_ends}
 use Rattle.pg_candidates.specs.declared.kind.EndKind.{EndKind}
 
 -- ---- what no room changes

@@ -2,8 +2,8 @@
 use Rattle.std.specs.Prelude.{◌≡◌, ℕ, true, List, Option, Some, IfSome, ℤ, slice_get}
 use Rattle.std.specs.List.{AllByRecursion}
 use Rattle.pg_rules.specs.Room.{Document}
-use Rattle.pg_walk_laws.specs.Best.{IsAmong}
-use Rattle.pg_walk_laws.specs.Candidates.{Candidate, keeps_in}
+use Rattle.law_walk.specs.Best.{IsAmong}
+use Rattle.law_walk.specs.Candidates.{Candidate, keeps_in}
 use Rattle.pg_candidates.specs.Nears.{IsNearIn, IsWorst, NearValue, Serves, kind_at, needed_in}
 use Rattle.pg_candidates.specs.declared.making.First.{First}
 

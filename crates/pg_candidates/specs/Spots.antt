@@ -5,7 +5,7 @@ use Rattle.std.specs.declared.cmp.Ordering.{Ordering}
 use Rattle.std.specs.declared.cmp.Ordering.TheVariants.{Less, Equal, Greater}
 use Rattle.pg_ends.specs.declared.end.End.{End}
 use Rattle.pg_plan.specs.Order.{place_cmp}
-use Rattle.pg_walk_laws.specs.Best.{end_cmp, is_better}
+use Rattle.law_walk.specs.Best.{end_cmp, is_better}
 use Rattle.pg_candidates.specs.declared.best.Spot.{Spot}
 use Rattle.pg_candidates.specs.declared.best.Spot.TheVariants.{Before, Instead, Nowhere}
 use Rattle.pg_candidates.specs.declared.room_end.RoomEnd.{RoomEnd}

@@ -1,7 +1,7 @@
 -- What contracts see of candidates.
 use Rattle.std.specs.Prelude.{Option, Some, None}
 use Rattle.pg_column.specs.Passed.{Passed}
-use Rattle.pg_walk_laws.specs.Candidates.{Candidate}
+use Rattle.law_walk.specs.Candidates.{Candidate}
 use Rattle.pg_stretch.specs.View.{view}
 use Rattle.pg_stretch.specs.declared.passing.State.{State}
 use Rattle.pg_candidates.specs.declared.candidate.Candidate.{Candidate as CandidateParts}

@@ -5,7 +5,7 @@ ghost use Rattle.std.specs.Ordering.{nat_cmp, ordering_then};
 ghost use Rattle.std.specs.List.{insert};
 ghost use Rattle.std.specs.List.Sorted.{IsPartitionPoint, IsPartitionedBy};
 ghost use Rattle.pg_plan.specs.Order.{picks_cmp, place_cmp};
-ghost use Rattle.pg_walk_laws.specs.Best.{Ascend, insert_end, is_better as is_better_of};
+ghost use Rattle.law_walk.specs.Best.{Ascend, insert_end, is_better as is_better_of};
 ghost use Rattle.pg_candidates.specs.RoomEnds.{end_by, end_of, ends_of, picks_at};
 ghost use Rattle.pg_candidates.specs.Spots.{is_before as is_before_of, spot_in};
 ghost use Rattle.pg_candidates.specs.View.{candidate_of};

@@ -30,7 +30,7 @@ pub struct CandidateList {
 
 impl Model for CandidateList {
     ghost use Rattle.std.specs.Prelude.{List, map};
-    ghost use Rattle.pg_walk_laws.specs.Candidates.{Candidate};
+    ghost use Rattle.law_walk.specs.Candidates.{Candidate};
     ghost use Rattle.pg_candidates.specs.View.{candidate_of};
 
     ghost Value = { List Candidate };

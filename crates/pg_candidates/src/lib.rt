@@ -1,7 +1,7 @@
 //! Candidates for the ends of columns from a place: where columns may end in some room up to a greatest one, with what
 //! they pass on the way; and the ends in a room among them.
 //!
-//! Proved: `walk_on` finds the ends along a stretch (`ends_along` of pg_walk_laws, `specs/Walk`), and tells how far it came
+//! Proved: `walk_on` finds the ends along a stretch (`ends_along` of law_walk, `specs/Walk`), and tells how far it came
 //! (`reach_along`) and whether the notes passed take room; `ends_on` finds the ends alone;
 //! `CandidateList::into_near` works out of candidates what no room changes, below which room no column to the end of each
 //! keeps the rules, and from which room on that end is not needed (`AreNear`: in each room the ends of those that are

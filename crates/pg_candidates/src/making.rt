@@ -3,7 +3,7 @@
 ghost use Rattle.std.specs.Prelude.{◌≡◌, ◌++◌, ◌∷◌, [], IfOk, IfSome, List, Some, map, slice_get, true, ℕ};
 ghost use Rattle.pg_list.specs.GalleyValue.{GalleyValue};
 ghost use Rattle.pg_rules.specs.Legal.{document};
-ghost use Rattle.pg_walk_laws.specs.Candidates.{Candidate as ACandidate};
+ghost use Rattle.law_walk.specs.Candidates.{Candidate as ACandidate};
 ghost use Rattle.pg_candidates.specs.Nears.{IsHopelessFrom, IsNear, IsServedFrom, IsWorst, IsWorstCost, IsWorstGoal, kind_at as kind_at_of};
 ghost use Rattle.pg_candidates.specs.Seen.{AreSeen, AreServed};
 ghost use Rattle.pg_candidates.specs.View.{candidate_of};

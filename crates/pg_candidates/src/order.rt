@@ -1,7 +1,7 @@
 //! The order in which the ends of candidates stand.
 ghost use Rattle.std.specs.Prelude.{◌≡◌, ◌++◌, ◌<◌, ◌≤◌, IfOk, OnOk, true, ℕ, length, map};
 ghost use Rattle.std.specs.List.{insert};
-ghost use Rattle.pg_walk_laws.specs.Best.{IsAmong};
+ghost use Rattle.law_walk.specs.Best.{IsAmong};
 ghost use Rattle.pg_candidates.specs.Groups.{IsAdded, indices_in, indices_of};
 
 use crate::candidate::Candidate;

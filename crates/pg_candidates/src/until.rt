@@ -5,8 +5,8 @@ ghost use Rattle.pg_column.specs.Passed.{fits};
 ghost use Rattle.pg_list.specs.GalleyValue.{GalleyValue};
 ghost use Rattle.pg_rules.specs.Legal.{document};
 ghost use Rattle.pg_sums.specs.Step.{badness_by};
-ghost use Rattle.pg_walk_laws.specs.Best.{IsCheaper};
-ghost use Rattle.pg_walk_laws.specs.Candidates.{Candidate as ACandidate};
+ghost use Rattle.law_walk.specs.Best.{IsCheaper};
+ghost use Rattle.law_walk.specs.Candidates.{Candidate as ACandidate};
 ghost use Rattle.pg_candidates.specs.Nears.{IsHopelessFrom, IsServedFrom, IsWorst, IsWorstGoal, kind_at};
 ghost use Rattle.pg_candidates.specs.View.{candidate_of};
 

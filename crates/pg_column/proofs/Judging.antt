@@ -16,7 +16,7 @@ use Rattle.pg_breaks.proofs.Lists.{get_lt}
 use Rattle.pg_notes.specs.NotesValue.{first_over_limit}
 use Rattle.pg_notes.proofs.Kept.{first_is, none_is}
 use Rattle.pg_notes.proofs.Sizes.{limits_trimmed}
-use Rattle.pg_place_laws.proofs.Places.{Found, found}
+use Rattle.law_places.proofs.Places.{Found, found}
 use Rattle.pg_rules.specs.ColumnRules.{column_variants, does_fit, has_room, is_tolerable, is_well_formed, keeps_note_limits, passes_breaks, text_badness, text_is_over}
 use Rattle.pg_rules.specs.Legal.{unless}
 use Rattle.pg_rules.specs.Room.{ColumnContext, Document, are_notes_within_limits, flat_items_of, is_text, items_of, room, size_of}

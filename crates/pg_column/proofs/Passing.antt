@@ -28,7 +28,7 @@ use Rattle.pg_breaks.proofs.Listed.{are_picks}
 use Rattle.pg_breaks.proofs.Lists.{follows}
 use Rattle.pg_notes.proofs.Kept.{heights_are}
 use Rattle.pg_notes.proofs.Sizes.{notes_trimmed}
-use Rattle.pg_place_laws.proofs.Tests.{le_int, less_int, int_le_of, int_less}
+use Rattle.law_places.proofs.Tests.{le_int, less_int, int_le_of, int_less}
 use Rattle.pg_rules.specs.Room.{Document, notes}
 use Rattle.pg_column.specs.Passed.{IsPassed, Passed, crossed, fits, is_end_here, least_room, note_height, nothing, pass_item, pass_items, raised, with_next}
 use Rattle.pg_column.proofs.Sums.{passed_crossed, passed_none, passed_push}
@@ -43,11 +43,6 @@ pub taken_more : {X : Type 0} (n : ℕ) (xs : List X) (x : X) → slice_get xs n
 taken_more n [] x e = absurd cc
 taken_more zero (y ∷ ys) x e = let same : y ≡ x = cc in ap (λ z. z ∷ []) same
 taken_more (suc n) (y ∷ ys) x e = ap (λ zs. y ∷ zs) (taken_more n ys x e)
-
-pub map_taken : {X Y : Type 0} (f : X → Y) (n : ℕ) (xs : List X) → map f (take n xs) ≡ take n (map f xs)
-map_taken f zero xs = refl
-map_taken f (suc n) [] = refl
-map_taken f (suc n) (x ∷ xs) = ap (λ zs. f x ∷ zs) (map_taken f n xs)
 
 pub map_got : {X Y : Type 0} (f : X → Y) (n : ℕ) (xs : List X) (x : X) → slice_get xs n ≡ Some x →
     slice_get (map f xs) n ≡ Some (f x)

@@ -110,30 +110,3 @@ module _ (p : Variant → Bool) where
       ≡ true
   each_none blocks [] e = ap (list_all p) (none_picked blocks)
   each_none blocks (q ∷ qs) e = absurd (omega (arith, e))
-
-  each_step : (block : Block) (blocks : List Block) (left : List ℕ) → list_all p (picked_variants (block ∷ blocks) left)
-      ≡ (option_map_or p (first_variant block left) true && list_all p (picked_variants blocks
-      (picks_after block left)))
-  each_step (One item) blocks left = refl
-  each_step (Choice variants) blocks [] = sym (ap (list_all p) (none_picked blocks))
-  each_step (Choice variants) blocks (q ∷ qs) =
-      list_all-append p (option_map_or (λ (variant : Variant). variant ∷ []) (slice_get variants q) [])
-      (picked_variants blocks qs)
-      ∙ ap (λ (b : Bool). b && list_all p (picked_variants blocks qs)) (one (slice_get variants q))
-    where
-      and_true : (b : Bool) → (b && true) ≡ b
-      and_true true = refl
-      and_true false = refl
-
-      one : (o : Option Variant) →
-          list_all p (option_map_or (λ (variant : Variant). variant ∷ []) o []) ≡ option_map_or p o true
-      one None = refl
-      one (Some v) = and_true (p v)
-
-  pub each_first : (blocks : List Block) (block : Block) (left : List ℕ) → Some block ≡ slice_get blocks 0 →
-      list_all p (picked_variants blocks left)
-      ≡ (option_map_or p (first_variant block left) true && list_all p (picked_variants (drop 1 blocks)
-      (picks_after block left)))
-  each_first blocks block left e =
-      ap (λ (bs : List Block). list_all p (picked_variants bs left)) (first_block blocks block e)
-      ∙ each_step block (drop 1 blocks) left

@@ -15,11 +15,6 @@ appends_both (Some xs) (Some ys) None a b first second = absurd second
 appends_both (Some xs) (Some ys) (Some zs) a b first second = second ∙ ap (λ (l : List ℕ). l ++ b) first ∙
     append_assoc xs a b
 
-pub appends_nothing : (old new : Option (List ℕ)) (a : List ℕ) → Appends old new a → Appends old new (a ++ [])
-appends_nothing None new a first = tt
-appends_nothing (Some xs) None a first = absurd first
-appends_nothing (Some xs) (Some ys) a first = first ∙ ap (λ (l : List ℕ). xs ++ l) (sym (append-nil a))
-
 take_front : (n : ℕ) (a b : List ℕ) → take (min n (length a)) (a ++ b) ≡ take n a
 take_front n a b = take-append-le (min n (length a)) a b (omega arith) ∙ take_min n a
 

@@ -2,8 +2,8 @@
 use Rattle.std.proofs.Common.{◌≡◌, refl, pos}
 use Rattle.std.specs.Prelude.{codes, negsuc}
 use Rattle.std.specs.Fmt.{digits}
-use Rattle.pg_check_laws.specs.declared.answers.No.TheVariants.{Broken, CostDiffers, PagesDiffer, BadLabel, NoStart}
-use Rattle.pg_check_laws.specs.declared.answers.No.TheVariants.{NotClosed, Undercut, FinalInNone}
+use Rattle.law_check.specs.declared.answers.No.TheVariants.{Broken, CostDiffers, PagesDiffer, BadLabel, NoStart}
+use Rattle.law_check.specs.declared.answers.No.TheVariants.{NotClosed, Undercut, FinalInNone}
 use Rattle.pg_command.specs.Lines.{broken_line, costs_line, no_line, no_output_line, open_line, undercut_line}
 
 a_broken_rule : no_line (Broken 6 2) ≡ codes "pg: not proved 1: rule 6 column 2\n"

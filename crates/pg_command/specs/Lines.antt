@@ -14,10 +14,10 @@ use Rattle.pg_edits.specs.declared.kinds.ScriptFault.{ScriptFault}
 use Rattle.pg_edits.specs.declared.kinds.ScriptKind.{ScriptKind}
 use Rattle.pg_edits.specs.declared.kinds.ScriptKind.TheVariants.{Blocks}
 use Rattle.pg_words.specs.Written.{place_text, whole_text}
-use Rattle.pg_check_laws.specs.declared.answers.No.{No}
-use Rattle.pg_check_laws.specs.declared.answers.No.TheVariants as fails
-use Rattle.pg_paragraphs.specs.declared.rule.LineFault.{LineFault}
-use Rattle.pg_paragraphs.specs.declared.rule.LineFault.TheVariants as breaks
+use Rattle.law_check.specs.declared.answers.No.{No}
+use Rattle.law_check.specs.declared.answers.No.TheVariants as fails
+use Rattle.law_lines.specs.declared.rule.LineFault.{LineFault}
+use Rattle.law_lines.specs.declared.rule.LineFault.TheVariants as breaks
 use Rattle.pg_greedy.specs.declared.fault.GreedyFault.{GreedyFault}
 use Rattle.pg_greedy.specs.declared.fault.GreedyFault.TheVariants as fits
 use Rattle.pg_command.specs.declared.ending.Ending.{Ending}

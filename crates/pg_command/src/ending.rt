@@ -3,10 +3,10 @@ ghost use Rattle.std.specs.Prelude.{◌≡◌};
 ghost use Rattle.pg_command.specs.Lines.{status_of};
 
 use crate::status::Status;
-use pg_check_laws::No;
+use law_check::No;
+use law_lines::LineFault;
 use pg_edits::{EditFault, ScriptFault};
 use pg_greedy::GreedyFault;
-use pg_paragraphs::LineFault;
 use pg_showbox::ListFault;
 use pg_stylefile::StyleFault;
 

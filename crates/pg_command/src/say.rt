@@ -8,12 +8,12 @@ ghost use Rattle.pg_command.specs.Lines.{block_line, no_fit_line};
 
 use crate::ending::Ending;
 use crate::line::{Piece, say_pieces};
-use pg_check_laws::No;
+use law_check::No;
+use law_lines::LineFault;
 use pg_edits::{EditFault, ScriptFault, ScriptKind};
 use pg_greedy::GreedyFault;
 use pg_list::Place;
 use pg_outside::Sink;
-use pg_paragraphs::LineFault;
 use pg_showbox::{ListFault, ListKind};
 use pg_stylefile::StyleFault;
 

@@ -8,11 +8,11 @@ use Rattle.pg_floats.specs.AreFloats.{MakesList, unknown_class, float_total}
 use Rattle.pg_floats.specs.declared.fault.FloatFault.{FloatFault}
 use Rattle.pg_floats.specs.declared.fault.FloatFault.TheVariants as float_fault
 use Rattle.pg_labels.specs.declared.output.Output.{Output}
-use Rattle.pg_check_laws.specs.Faults.{Checked, IsFirstFault, IsProved, IsYesOrMemory}
-use Rattle.pg_check_laws.specs.Laws.{ShowsSolution, ShowsTruth}
-use Rattle.pg_check_laws.specs.declared.answers.No.{No}
-use Rattle.pg_check_laws.specs.declared.answers.No.TheVariants as fails
-use Rattle.pg_check_laws.specs.declared.answers.Proved.{Proved}
+use Rattle.law_check.specs.Faults.{Checked, IsFirstFault, IsProved, IsYesOrMemory}
+use Rattle.law_check.specs.CheckLaws.{ShowsSolution, ShowsTruth}
+use Rattle.law_check.specs.declared.answers.No.{No}
+use Rattle.law_check.specs.declared.answers.No.TheVariants as fails
+use Rattle.law_check.specs.declared.answers.Proved.{Proved}
 use Rattle.pg_outside.specs.Outside.{Held, OverSink, Rose, over_sink}
 use Rattle.pg_command.specs.declared.ending.Ending.{Ending}
 use Rattle.pg_command.specs.declared.ending.Ending.TheVariants as ending

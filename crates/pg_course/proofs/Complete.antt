@@ -9,10 +9,10 @@ use Rattle.pg_stylefile.specs.Style.{style_of_text}
 use Rattle.pg_floats.specs.AreFloats.{unknown_class, float_total}
 use Rattle.pg_labels.specs.declared.output.Output.{Output}
 use Rattle.pg_labels.specs.Reading.{output_of}
-use Rattle.pg_check_laws.specs.Laws.{ShowsSolution}
-use Rattle.pg_check_laws.specs.declared.answers.No.{No}
-use Rattle.pg_check_laws.specs.declared.answers.Proved.{Proved}
-use Rattle.pg_recheck_laws.specs.Laws.{BestTextTells, NoneTextTells, TellsSolution, TellsWithLabels}
+use Rattle.law_check.specs.CheckLaws.{ShowsSolution}
+use Rattle.law_check.specs.declared.answers.No.{No}
+use Rattle.law_check.specs.declared.answers.Proved.{Proved}
+use Rattle.law_read_back.specs.RecheckLaws.{BestTextTells, NoneTextTells, TellsSolution, TellsWithLabels}
 use Rattle.pg_outside.specs.Outside.{Held, OverSink, Rose}
 use Rattle.pg_command.specs.declared.ending.Ending.{Ending}
 use Rattle.pg_command.specs.declared.status.Status.{Status}

@@ -80,12 +80,6 @@ pub legal_line : (pages : ℕ) (fault : Option (ℕ × ℕ)) (paid best : ℤ) (
 legal_line pages fault paid best count told saved old new none same pays less written =
     rw (none, sym same, sym pays, sym less) written
 
--- the line of one that is not
-pub illegal_line : (pages : ℕ) (fault : Option (ℕ × ℕ)) (rule column : ℕ) (paid best : ℤ) (old new : List ℕ) →
-    fault ≡ Some (rule, column) → new ≡ old ++ (pages_text pages ++ broken_text rule column) →
-    new ≡ old ++ first_line pages fault paid best
-illegal_line pages fault rule column paid best old new is written = rw is written
-
 -- both lines, in an empty text
 pub both_lines : (galley : GalleyValue) (style : StyleValue) (first plan : Pagination) (paid : ℤ)
     (none one text : List ℕ) → IsFirstFit galley style first → Best galley style plan →

@@ -6,10 +6,10 @@ use Rattle.pg_list.specs.GalleyValue.{GalleyValue}
 use Rattle.pg_showbox.specs.Reading.{galley_of}
 use Rattle.pg_showbox.specs.Text.{galley_text}
 use Rattle.pg_hlist.specs.declared.item.HItem.{HItem}
-use Rattle.pg_paragraphs.specs.declared.rule.LineRule.{LineRule}
-use Rattle.pg_paragraphs.specs.declared.rule.LineFault.{LineFault}
-use Rattle.pg_paragraphs.specs.declared.rule.LineFault.TheVariants as fault
-use Rattle.pg_paragraphs.specs.Galleys.{Broken}
+use Rattle.law_lines.specs.declared.rule.LineRule.{LineRule}
+use Rattle.law_lines.specs.declared.rule.LineFault.{LineFault}
+use Rattle.law_lines.specs.declared.rule.LineFault.TheVariants as fault
+use Rattle.law_lines.specs.Galleys.{Broken}
 use Rattle.pg_variants.specs.Answers.{AnswersLines}
 use Rattle.pg_command.specs.declared.ending.Ending.{Ending}
 use Rattle.pg_command.specs.declared.status.Status.TheVariants.{Refused}

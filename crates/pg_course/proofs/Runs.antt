@@ -17,7 +17,7 @@ use Rattle.pg_command.specs.declared.status.Status.TheVariants.{Done, NoLegal, U
 use Rattle.pg_command.specs.declared.status.Status.TheVariants.{Memory, NotProved}
 use Rattle.pg_command.specs.Words.{StyleName}
 use Rattle.pg_command.specs.Lines.{line_of, many_line, status_of}
-use Rattle.pg_command.proofs.Fronts.{appends_nothing, front_of_more}
+use Rattle.pg_command.proofs.Fronts.{front_of_more}
 use Rattle.pg_course.specs.Calls.{Writes, ending_of}
 use Rattle.pg_course.specs.Course.{Stop, opened, opened_style, OneText, MakesGalley, RunGalley, RunCourse, OnTaken}
 use Rattle.pg_course.specs.Course.{StyledCourse, EndsBy, BeginsBy, OnSettled, OnReadFault, OnWriteFault}
@@ -85,57 +85,6 @@ writes_as C D out end f w = record {
   memory = w.memory;
   no_read = w.no_read;
   no_usage = w.no_usage;
-}
-
--- what writes one text and ends so does a course that has this text and ends so
-pub one_text : (C : List (List ℕ) → Status → List ℕ → Type 0) (text : List ℕ) (how : Status) (out : OverSink)
-    (end : Ending) → C (text ∷ []) how [] → Writes (OneText text how) out end → Writes C out end
-one_text C text how out end course w =
-    writes_as (OneText text how) C out end (λ texts status line (one, ends, quiet). rw (one, ends, quiet) course) w
-
--- one text was written
-pub wrote_pages : (C : List (List ℕ) → Status → List ℕ → Type 0) (old new : Option (List ℕ)) (before after : ℕ)
-    (text : List ℕ) → C (text ∷ []) Done [] → Appends old new text →
-    Writes C (over_sink old new before after) ending.Done
-wrote_pages C old new before after text course appends = record {
-  settled = record { texts = text ∷ []; course = course; written = appends_nothing old new text appends };
-  write = tt;
-  front = tt;
-  memory = tt;
-  no_read = tt;
-  no_usage = λ e. absurd (cc);
-}
-
-pub wrote_none : (C : List (List ℕ) → Status → List ℕ → Type 0) (old new : Option (List ℕ)) (before after : ℕ)
-    (text : List ℕ) → C (text ∷ []) NoLegal [] → Appends old new text →
-    Writes C (over_sink old new before after) ending.NoLegal
-wrote_none C old new before after text course appends = record {
-  settled = record { texts = text ∷ []; course = course; written = appends_nothing old new text appends };
-  write = tt;
-  front = tt;
-  memory = tt;
-  no_read = tt;
-  no_usage = λ e. absurd (cc);
-}
-
--- a front of one text was written
-pub failed_write : (C : List (List ℕ) → Status → List ℕ → Type 0) (old new : Option (List ℕ)) (before after : ℕ)
-    (text : List ℕ) (end : Status) → C (text ∷ []) end [] → AppendsFront old new text → Rose before after →
-    Writes C (over_sink old new before after) ending.WriteFault
-failed_write C old new before after text end course front rose = record {
-  settled = tt;
-  write = rose;
-  front =
-      record {
-        texts = text ∷ [];
-        end = end;
-        line = [];
-        course = course;
-        front = front_of_more old new text [] front;
-      };
-  memory = tt;
-  no_read = tt;
-  no_usage = λ e. absurd (cc);
 }
 
 pub appends_none : (old : Option (List ℕ)) → Appends old old []

@@ -16,22 +16,6 @@ use Rattle.pg_course.specs.Counted.{IsShown}
 use Rattle.pg_course.specs.Out.{RunOut}
 use Rattle.pg_course.specs.Steps.{IsNoStep, IsShow, shown_end}
 
--- a change was refused
-pub change_refused : (labels : Bool) (edit : Edit) (number : ℕ) (old new : SessionValue) (out : OverSink) (n : ℕ)
-    (fault : EditFault) (end : Ending) → end ≡ edit_ending number fault →
-    Refuses {T = Unit {0}} (Err fault) (edit_fault old.galley old.style edit) → out.new ≡ out.old →
-    IsNoStep labels (Change edit) number old new out n n end
-change_refused labels edit number old new out n Memory end is cause keeps =
-    inl (record { ends = is; keeps = keeps })
-change_refused labels edit number old new out n (Range at gone len) end is cause keeps =
-    inr (record { fault = Range at gone len; cause = cause; ends = is; keeps = keeps; still = refl })
-change_refused labels edit number old new out n (Limit count) end is cause keeps =
-    inr (record { fault = Limit count; cause = cause; ends = is; keeps = keeps; still = refl })
-change_refused labels edit number old new out n (Class class) end is cause keeps =
-    inr (record { fault = Class class; cause = cause; ends = is; keeps = keeps; still = refl })
-change_refused labels edit number old new out n (Floats count) end is cause keeps =
-    inr (record { fault = Floats count; cause = cause; ends = is; keeps = keeps; still = refl })
-
 -- a galley was shown
 pub text_shown : (labels legal : Bool) (old new : SessionValue) (written now : Option (List ℕ)) (before after : ℕ)
     (text : List ℕ) (end : Status) → RunOut labels old.galley old.style text end → end ≡ shown_end legal →

@@ -7,8 +7,8 @@ use Rattle.pg_list.specs.GalleyValue.{GalleyValue}
 use Rattle.pg_style.specs.Values.{StyleValue}
 use Rattle.pg_edits.specs.declared.fault.EditFault.{EditFault}
 use Rattle.pg_edits.specs.declared.fault.EditFault.TheVariants as faults
-use Rattle.pg_check_laws.specs.declared.answers.No.{No}
-use Rattle.pg_check_laws.specs.declared.answers.No.TheVariants as fails
+use Rattle.law_check.specs.declared.answers.No.{No}
+use Rattle.law_check.specs.declared.answers.No.TheVariants as fails
 use Rattle.pg_greedy.specs.declared.fault.GreedyFault.{GreedyFault}
 use Rattle.pg_greedy.specs.declared.fault.GreedyFault.TheVariants as fits
 use Rattle.pg_hlist.specs.declared.item.HItem.{HItem}

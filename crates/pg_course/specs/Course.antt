@@ -19,8 +19,8 @@ use Rattle.pg_edits.specs.declared.kinds.ScriptFault.{ScriptFault}
 use Rattle.pg_edits.specs.declared.script.ScriptStep.{ScriptStep}
 use Rattle.pg_edits.specs.declared.script.ScriptStep.TheVariants.{Change, Show}
 use Rattle.pg_session.specs.Edits.{edit_fault, edited}
-use Rattle.pg_check_laws.specs.declared.answers.No.{No}
-use Rattle.pg_check_laws.specs.declared.answers.Proved.{Proved}
+use Rattle.law_check.specs.declared.answers.No.{No}
+use Rattle.law_check.specs.declared.answers.Proved.{Proved}
 use Rattle.pg_outside.specs.Outside.{Held, Rose, AppendsFront}
 use Rattle.pg_command.specs.declared.status.Status.{Status}
 use Rattle.pg_command.specs.declared.status.Status.TheVariants.{Done, Usage, Refused, ReadFault, WriteFault, Memory}
@@ -32,10 +32,10 @@ use Rattle.pg_command.specs.Lines.{usage_line, long_line, list_line, style_line,
 use Rattle.pg_command.specs.Lines.{no_output_line, no_line, script_line, edit_line, no_fit_line, paragraph_line}
 use Rattle.pg_hlist.specs.declared.item.HItem.{HItem}
 use Rattle.pg_hlist.specs.Reading.{paras_of}
-use Rattle.pg_paragraphs.specs.declared.rule.LineRule.{LineRule}
-use Rattle.pg_paragraphs.specs.declared.rule.LineFault.{LineFault}
-use Rattle.pg_paragraphs.specs.declared.rule.LineFault.TheVariants.{Memory as LineMemory}
-use Rattle.pg_paragraphs.specs.Galleys.{Broken}
+use Rattle.law_lines.specs.declared.rule.LineRule.{LineRule}
+use Rattle.law_lines.specs.declared.rule.LineFault.{LineFault}
+use Rattle.law_lines.specs.declared.rule.LineFault.TheVariants.{Memory as LineMemory}
+use Rattle.law_lines.specs.Galleys.{Broken}
 use Rattle.pg_greedy.specs.Faults.{greedy_fault}
 use Rattle.pg_course.specs.declared.product.Product.{Product}
 use Rattle.pg_course.specs.declared.product.Product.TheVariants.{Pages, Heads, Comparison, Sheets}

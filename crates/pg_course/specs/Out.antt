@@ -10,7 +10,7 @@ use Rattle.pg_rules.specs.Frontier.{Frontier}
 use Rattle.pg_rules.specs.Legal.{Legal}
 use Rattle.pg_pages.specs.PageText.{page_text, none_text}
 use Rattle.pg_labels.specs.LabelText.{label_text}
-use Rattle.pg_text_laws.specs.Texts.{EachOnce}
+use Rattle.law_texts.specs.Texts.{EachOnce}
 use Rattle.pg_command.specs.declared.status.Status.{Status}
 use Rattle.pg_command.specs.declared.status.Status.TheVariants.{Done, NoLegal}
 use Rattle.pg_course.specs.declared.paginate.PageText.{PageText}

@@ -4,10 +4,10 @@ use Rattle.pg_list.specs.GalleyValue.{GalleyValue}
 use Rattle.pg_style.specs.Values.{StyleValue}
 use Rattle.pg_words.specs.Written.{whole_text}
 use Rattle.pg_labels.specs.declared.output.Output.{Output}
-use Rattle.pg_check_laws.specs.Faults.{IsFirstFault, IsProved}
-use Rattle.pg_check_laws.specs.Laws.{ShowsSolution, ShowsTruth}
-use Rattle.pg_check_laws.specs.declared.answers.No.{No}
-use Rattle.pg_check_laws.specs.declared.answers.Proved.{Proved}
+use Rattle.law_check.specs.Faults.{IsFirstFault, IsProved}
+use Rattle.law_check.specs.CheckLaws.{ShowsSolution, ShowsTruth}
+use Rattle.law_check.specs.declared.answers.No.{No}
+use Rattle.law_check.specs.declared.answers.Proved.{Proved}
 use Rattle.pg_course.specs.Made.{made_labels}
 
 -- all tests pass, and what the output shows is true: its pagination is legal, has the cost and the page text that stand

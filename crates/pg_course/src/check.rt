@@ -14,13 +14,13 @@ ghost use Rattle.pg_course.specs.Verdict.{yes_line};
 use crate::line::yes_line_of;
 use crate::open::{open_galley, open_output, open_style};
 use crate::run::float_ending;
+use law_read_back::labelled_texts_tell;
 use pg_command::{Ending, StyleWord};
 use pg_floats::FloatList;
 use pg_labelcheck::{No, Proved, check};
 use pg_labels::Output;
 use pg_list::Galley;
 use pg_outside::{Shelf, Sink};
-use pg_recheck_laws::labelled_texts_tell;
 use pg_style::Style;
 use std::alloc::Global;
 

@@ -2,19 +2,18 @@
 ghost use Rattle.std.specs.Prelude.{◌≡◌, Ok, Some};
 ghost use Rattle.pg_outside.specs.Outside.{over_sink};
 ghost use Rattle.pg_command.specs.Words.{IsLineRule, lines as lines_command};
-ghost use Rattle.pg_paragraphs.specs.Laws.{IsRule};
+ghost use Rattle.law_lines.specs.ParagraphsLaws.{IsRule};
 ghost use Rattle.pg_variants.specs.Answers.{AnswersLines};
 ghost use Rattle.pg_course.specs.Course.{LinesCourse, rule_of};
 ghost use Rattle.pg_course.specs.Calls.{AreSaid, Goes, Writes, over_shelf};
 
 use crate::open::open_paras;
 use crate::show::write_galley;
+use law_lines::{LineFault, LineRule, lines_read_back};
 use pg_command::Ending;
 use pg_hlist::Paras;
-use pg_line_laws::lines_read_back;
 use pg_list::Galley;
 use pg_outside::{Shelf, Sink};
-use pg_paragraphs::{LineFault, LineRule};
 use pg_steps::Steps;
 use pg_variants::break_lines;
 use std::alloc::Global;

@@ -2,12 +2,13 @@
 ghost use Rattle.std.specs.Prelude.{◌≡◌, ◌++◌, true, false, IfOk, OnOk};
 ghost use Rattle.pg_floats.specs.AreFloats.{AreFloats};
 ghost use Rattle.pg_space.specs.Solves.{Solves};
-ghost use Rattle.pg_text_laws.specs.Texts.{LegalHaveEachOnce};
+ghost use Rattle.law_texts.specs.Texts.{LegalHaveEachOnce};
 ghost use Rattle.pg_labels.specs.LabelText.{label_text};
 ghost use Rattle.pg_course.specs.Counted.{IsShown};
 ghost use Rattle.pg_course.specs.Steps.{shown_end};
 ghost use Rattle.pg_course.specs.Out.{Out, RunOut, bytes_of, end_of, tells_fitness};
 
+use law_texts::legal_plans_have_each_once;
 use pg_floats::FloatList;
 use pg_labels::print_labels;
 use pg_list::Galley;
@@ -17,7 +18,6 @@ use pg_session::Session;
 use pg_space::Outcome;
 use pg_steps::Steps;
 use pg_style::Style;
-use pg_text_laws::legal_plans_have_each_once;
 use std::alloc::{AllocError, Global};
 use std::sync::ledger::Ledger;
 

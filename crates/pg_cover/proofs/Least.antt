@@ -21,19 +21,6 @@ use Rattle.pg_cover.proofs.Places.{less_chain, lt_less, not_less_itself}
 use Rattle.pg_cover.proofs.Spared.{cover_of}
 
 module _ {K : Type 0} (sp : Meaning State PageMove K) (labels : List Label) (label : Label) where
-  pub least_first : (all : List (Step State PageMove)) → LeastBehind sp labels label all all None
-  least_first all = record {
-    done = [];
-    all_is = sym (append-nil all);
-    least_of = record {
-      found = λ to e. absurd (no_some e);
-      bound = λ step c. (let h : c.0 < 0 = c.1 in absurd (omega arith));
-    };
-  }
-    where
-      no_some : {to : Place} → None ≡ Some to → ⊥
-      no_some e = absurd cc
-
   keep_end : (x : Step State PageMove) (done : List (Step State PageMove)) (to : Place) →
       IsOpenEnd sp labels label done to → IsOpenEnd sp labels label (x ∷ done) to
   keep_end x done to o = record {
@@ -130,11 +117,6 @@ module _ {K : Type 0} (sp : Meaning State PageMove K) (labels : List Label) (lab
         ∙ append_assoc new (x ∷ []) old.done);
     least_of = least_more x old.done least b d old.least_of;
   }
-
-  pub behind_last : (all rest : List (Step State PageMove)) (least : Option Place) → rest ≡ [] →
-      LeastBehind sp labels label all rest least → LeastOf sp labels label all least
-  behind_last all rest least e old = subst (λ (z : List (Step State PageMove)). LeastOf sp labels label z least)
-      (sym (old.all_is ∙ ap (λ (z : List (Step State PageMove)). z ++ old.done) e)) old.least_of
 
   pub own_behind : (all rest new : List (Step State PageMove)) (x : Step State PageMove) (least : Option Place) →
       rest ≡ new ++ x ∷ [] → LeastBehind sp labels label all rest least →

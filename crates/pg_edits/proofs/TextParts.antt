@@ -6,7 +6,7 @@ use Rattle.std.proofs.lemmas.Bool.{cases_Bool}
 use Rattle.std.proofs.lemmas.Bool.Decides.{nat_tests}
 use Rattle.pg_scan.specs.Lines.{onto_first}
 use Rattle.pg_scan.specs.Parts.{parts_of, differs_from}
-use Rattle.pg_word_laws.proofs.Cut.{joined, onto_joined, parts_joined, further_parts, parts_some}
+use Rattle.law_words.proofs.Cut.{joined, onto_joined, parts_joined, further_parts, parts_some}
 
 -- a text is its first part, the separator and what stands behind it
 pub first_part : (s : ℕ) (text part behind : List ℕ) → parts_of s text ≡ part ∷ parts_of s behind →

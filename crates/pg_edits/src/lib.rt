@@ -12,8 +12,6 @@ mod items;
 mod kinds;
 mod read;
 mod script;
-#[cfg(test)]
-mod tests;
 
 pub use fault::EditFault;
 pub use kinds::{ScriptFault, ScriptKind};

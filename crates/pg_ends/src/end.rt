@@ -1,5 +1,5 @@
 //! An end of a column of text, with its numbers.
-ghost use Rattle.std.specs.Prelude.{◌≡◌, ◌<◌, ◌≤◌, IfOk, OnOk, OnErr, ◌++◌, ◌∷◌, [], length, slice_set};
+ghost use Rattle.std.specs.Prelude.{◌≡◌, ◌<◌, ◌≤◌, IfOk, OnOk, OnErr, ◌++◌, ◌∷◌, [], length};
 ghost use Rattle.std.specs.List.{insert};
 
 use pg_column::TextCost;
@@ -60,14 +60,6 @@ impl EndList {
     {
         self.ends.insert(at, end)?;
         Ok(())
-    }
-
-    /// Puts an end in the place of another.
-    pub fn set(&mut self, at: usize, end: End)
-        requires { at < length self.old }
-        ensures { self.new ≡ slice_set self.old at end }
-    {
-        self.ends[at] = end;
     }
 
     pub fn as_slice(&self) -> &[End]

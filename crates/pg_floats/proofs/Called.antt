@@ -15,7 +15,7 @@ use Rattle.pg_list.specs.Shapes.{IsBlock}
 use Rattle.pg_flat.specs.Flat.{flat, items_before}
 use Rattle.pg_style.specs.Values.{StyleValue}
 use Rattle.pg_rules.specs.Floats.{sizes_of, insert_size, float_numbers, called, entry}
-use Rattle.pg_place_laws.proofs.Measures.{inserted_append}
+use Rattle.law_places.proofs.Measures.{inserted_append}
 use Rattle.pg_floats.specs.declared.callouts.Callout.{Callout}
 use Rattle.pg_floats.specs.AreFloats.{AreFloats, float_size}
 use Rattle.pg_floats.specs.Callouts.{callouts_in, callouts_from, class_floats}

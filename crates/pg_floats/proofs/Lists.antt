@@ -22,7 +22,7 @@ use Rattle.pg_style.specs.Ranges.{AreClasses}
 use Rattle.pg_style.specs.Values.{StyleValue}
 use Rattle.pg_style.specs.declared.style.Class.{Class}
 use Rattle.pg_rules.specs.Floats.{sizes_of, insert_size, float_numbers}
-use Rattle.pg_place_laws.proofs.Measures.{variant_items}
+use Rattle.law_places.proofs.Measures.{variant_items}
 use Rattle.pg_floats.proofs.Numbers.{numbers_are}
 use Rattle.pg_floats.specs.declared.callouts.Callout.{Callout}
 use Rattle.pg_floats.specs.declared.fault.FloatFault.{FloatFault}
@@ -32,7 +32,7 @@ use Rattle.pg_floats.specs.FloatsValue.{ClassFloatsValue, total_of}
 use Rattle.pg_floats.specs.Callouts.{callouts_in, callouts_from, class_floats, first_items, insert_class, unknown_among}
 use Rattle.pg_floats.specs.Callouts.{unknown_blocks, lists_from}
 use Rattle.pg_list.proofs.Sizes.{picked_le}
-use Rattle.pg_place_laws.proofs.Sizes.{sizes_few}
+use Rattle.law_places.proofs.Sizes.{sizes_few}
 
 -- ---- the flat list, block by block
 

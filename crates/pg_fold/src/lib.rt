@@ -15,6 +15,3 @@ pub use laws::folded_sheets_read;
 pub use layout::impose;
 pub use print::print_sheets;
 pub use sheets::{Cells, Sheet, Sheets};
-
-#[cfg(test)]
-mod tests;

@@ -4,12 +4,12 @@ use Rattle.std.specs.Prelude.{if◌then◌else◌, slice_index_or, ⊤}
 use Rattle.std.specs.List.Sorted.{IsPermutation, IsSortedBy, IsSortedByKey}
 use Rattle.std.specs.Ordering.{is_lt}
 use Rattle.std.proofs.lemmas.List.Sorted.{IsPermutation-cons, IsPermutation-middle, IsPermutation-refl, IsPermutation-sym, IsPermutation-trans, ranks_by}
-use Rattle.pg_beginning_laws.proofs.StateOrder.{states_total}
+use Rattle.law_columns.proofs.StateOrder.{states_total}
 use Rattle.pg_plan.specs.declared.pages.PageMove.{PageMove}
 use Rattle.pg_plan.specs.declared.states.Label.{Label}
 use Rattle.pg_plan.specs.declared.states.State.{State}
 use Rattle.pg_rules.specs.Frontier.{state_cmp}
-use Rattle.pg_space_laws.specs.Laws.{label_of}
+use Rattle.law_space.specs.SpaceLaws.{label_of}
 use Rattle.pg_table.specs.declared.table.Entry.{Entry}
 
 module _ {X : Type 0} (lt : X → X → Bool) where

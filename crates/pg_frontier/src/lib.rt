@@ -1,7 +1,7 @@
 //! The frontier as a list: the labels of a filled table, in the order of their states.
 //!
 //! Proved: `compare_states` is the order of states of `pg_rules` (`state_cmp` in `specs/Frontier`); `frontier_of` gives
-//! each label of a table once, in that order, which is what the law of `pg_space_laws` on a filled table asks of the
+//! each label of a table once, in that order, which is what the law of `law_space` on a filled table asks of the
 //! frontier. The only refusal is want of memory.
 #![tactic(auto)]
 

@@ -5,7 +5,7 @@ ghost use Rattle.pg_plan.specs.declared.pages.PageMove.{PageMove as AMove};
 ghost use Rattle.pg_plan.specs.declared.states.Label.{Label as ALabel};
 ghost use Rattle.pg_plan.specs.declared.states.State.{State as AState};
 ghost use Rattle.pg_rules.specs.Frontier.{state_cmp};
-ghost use Rattle.pg_space_laws.specs.Laws.{label_of};
+ghost use Rattle.law_space.specs.SpaceLaws.{label_of};
 ghost use Rattle.pg_table.specs.declared.table.Entry.{Entry as AnEntry};
 
 use crate::comparing::compare_states;

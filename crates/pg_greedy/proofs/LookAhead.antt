@@ -10,7 +10,7 @@ use Rattle.pg_style.specs.Values.{StyleValue}
 use Rattle.pg_greedy.specs.Breaks.{break_cost, is_seen, stops_at}
 use Rattle.pg_greedy.specs.FirstFit.{IsBestBreak, IsLookedAt, Takes}
 use Rattle.pg_greedy.specs.Ahead.{better, look, taken}
-use Rattle.pg_place_laws.proofs.Tests.{int_le_trans, not_le_int, le_int, both_same}
+use Rattle.law_places.proofs.Tests.{int_le_trans, not_le_int, le_int, both_same}
 
 same_most : (a b : ℤ) → a ≡ b → a ≤ℤ b
 same_most a b e = omega (arith, ints, e)

@@ -19,6 +19,3 @@ pub use builder::first_fit;
 pub use fault::GreedyFault;
 pub use laws::{first_fit_is_one, saving_is_not_negative};
 pub use print::{print_best, print_broken, print_saved};
-
-#[cfg(test)]
-mod tests;

@@ -14,9 +14,9 @@ use Rattle.pg_flat.specs.Flat.{FlatItem}
 use Rattle.pg_lemmas.proofs.Bools.{both_of, by_bool, if_true, not_true}
 use Rattle.pg_rules.specs.Room.{Document}
 use Rattle.pg_column.specs.Passed.{Passed, crossed, fits, least_room, note_height, pass_item, pass_items, raised, with_next}
-use Rattle.pg_walk_laws.specs.Reached.{reach_along}
-use Rattle.pg_walk_laws.specs.Walk.{past_stretch}
-use Rattle.pg_walk_laws.proofs.Stretches.{items_fit}
+use Rattle.law_walk.specs.Reached.{reach_along}
+use Rattle.law_walk.specs.Walk.{past_stretch}
+use Rattle.law_walk.proofs.Stretches.{items_fit}
 use Rattle.pg_shift.specs.declared.shift.Shift.{Shift}
 use Rattle.pg_shift.specs.Shift.{with_shift}
 use Rattle.pg_stretch.specs.declared.cursor.Cursor.{Cursor}

@@ -79,18 +79,6 @@ pub record IsLeapBegun (blocks : List Block) (maxdepth : ℤ) (from : Cursor) (l
   pub on : leap_on blocks maxdepth (l.way.added.count - 1) (leap_begun blocks maxdepth from item) ≡ Some l
 
 module _ (blocks : List Block) (maxdepth : ℤ) (from : Cursor) where
-  pub leap_begun_first : (x : Item) → item_ahead blocks from ≡ Some x → is_break_ahead blocks from ≡ true →
-      is_forcing x ≡ false → IsLeapBegun blocks maxdepth from (leap_begun blocks maxdepth from x)
-  leap_begun_first x i b f = record {
-    item = x;
-    is = i;
-    is_break = b;
-    is_free = f;
-    some = omega arith;
-    few = omega arith;
-    on = refl;
-  }
-
   pub leap_begun_on : (l : Leaping) (x : Item) → IsLeapBegun blocks maxdepth from l → l.way.added.count < 256 →
       item_ahead blocks l.way.to ≡ Some x → may_leap blocks l.way x ≡ true →
       IsLeapBegun blocks maxdepth from (leap_one blocks maxdepth l x)
@@ -131,14 +119,3 @@ module _ (blocks : List Block) (maxdepth : ℤ) (from : Cursor) where
         highest = next.highest;
       })) (sym s)
       (leap_begun_on (record { way = record { to = at; added = old }; highest = so_far }) x b few i e))))
-
-  -- where a break has asked, it is a leap
-  pub leap_begun_leap : (l : Leaping) (h : ℤ) → l.highest ≡ Some h → IsLeapBegun blocks maxdepth from l →
-      IsLeap blocks maxdepth from (record { way = l.way; highest = h })
-  leap_begun_leap l h e b = subst (IsLeapAt blocks maxdepth from (record { way = l.way; highest = h })) (sym b.is)
-      (record {
-        is_break = b.is_break;
-        is_free = b.is_free;
-        few = b.few;
-        on = b.on ∙ ap (λ (o : Option ℤ). Some (record { way = l.way; highest = o })) e;
-      })

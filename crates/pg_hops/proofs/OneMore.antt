@@ -63,16 +63,6 @@ pub record IsBegun (blocks : List Block) (maxdepth : ℤ) (from : Cursor) (hop :
   pub over : IsHopOver blocks maxdepth from hop item
 
 module _ (blocks : List Block) (maxdepth : ℤ) (from : Cursor) where
-  pub begun_first : (x : Item) → item_ahead blocks from ≡ Some x →
-      is_some (place_penalty blocks (place_ahead from)) ≡ true → is_forcing x ≡ false →
-      IsBegun blocks maxdepth from (past_one blocks maxdepth (standing from) x)
-  begun_first x i b f = record {
-    item = x;
-    is = i;
-    some = omega arith;
-    over = record { is_break = b; is_free = f; few = omega arith; plain = refl };
-  }
-
   pub begun_more : (h : HopValue) (x : Item) → IsBegun blocks maxdepth from h → h.added.count < 64 →
       item_ahead blocks h.to ≡ Some x → ends_hop blocks h.to x ≡ false →
       IsBegun blocks maxdepth from (past_one blocks maxdepth h x)
@@ -106,6 +96,3 @@ module _ (blocks : List Block) (maxdepth : ℤ) (from : Cursor) where
       (subst (λ (k : Shift). IsBegun blocks maxdepth from
       (record { to = settled blocks (stepped at); added = record { count = old.count + 1; shift = k } })) (sym s)
       (begun_more (record { to = at; added = old }) x b l i e)))
-
-  pub begun_hop : (h : HopValue) → IsBegun blocks maxdepth from h → IsHop blocks maxdepth from h
-  begun_hop h b = subst (IsHopAt blocks maxdepth from h) (sym b.is) b.over

@@ -12,9 +12,9 @@ use Rattle.pg_notes.specs.declared.sums.NoteSum.{NoteSum}
 use Rattle.pg_notes.specs.NotesValue.{heights}
 use Rattle.pg_rules.specs.Room.{Document}
 use Rattle.pg_column.specs.Passed.{Passed, are_within, fits, is_end_here, pass_item}
-use Rattle.pg_walk_laws.specs.Candidates.{Candidate}
-use Rattle.pg_walk_laws.specs.Reached.{reach_along}
-use Rattle.pg_walk_laws.specs.Walk.{end_here, ends_along, past_stretch}
+use Rattle.law_walk.specs.Candidates.{Candidate}
+use Rattle.law_walk.specs.Reached.{reach_along}
+use Rattle.law_walk.specs.Walk.{end_here, ends_along, past_stretch}
 use Rattle.pg_stretch.specs.declared.cursor.Cursor.{Cursor}
 use Rattle.pg_stretch.specs.Ahead.{IsSettled, front_ahead, item_ahead, items_ahead, place_ahead, settled, stepped}
 use Rattle.pg_stretch.specs.Quiet.{is_quiet, passed_along}

@@ -5,8 +5,8 @@ use Rattle.pg_list.specs.declared.galley.Place.{Place}
 use Rattle.pg_lemmas.proofs.Bools.{if_false, if_true}
 use Rattle.pg_rules.specs.Room.{Document}
 use Rattle.pg_column.specs.Passed.{Passed, fits}
-use Rattle.pg_walk_laws.specs.Reached.{reach_along}
-use Rattle.pg_walk_laws.specs.Walk.{past_stretch}
+use Rattle.law_walk.specs.Reached.{reach_along}
+use Rattle.law_walk.specs.Walk.{past_stretch}
 use Rattle.pg_stretch.specs.declared.cursor.Cursor.{Cursor}
 use Rattle.pg_stretch.specs.Ahead.{front_ahead, items_ahead, place_ahead}
 use Rattle.pg_hops.proofs.OneStep.{place_block}

@@ -3,8 +3,8 @@ use Rattle.std.specs.Prelude.{◌≡◌, ℕ, ◌+◌, ◌≤◌, if◌then◌el
 use Rattle.pg_list.specs.declared.blocks.Block.{Block}
 use Rattle.pg_rules.specs.Room.{Document}
 use Rattle.pg_column.specs.Passed.{Passed, fits}
-use Rattle.pg_walk_laws.specs.Reached.{reach_along}
-use Rattle.pg_walk_laws.specs.Walk.{end_here, ends_along, past_stretch}
+use Rattle.law_walk.specs.Reached.{reach_along}
+use Rattle.law_walk.specs.Walk.{end_here, ends_along, past_stretch}
 use Rattle.pg_list.specs.declared.galley.Place.{Place}
 use Rattle.pg_stretch.specs.declared.cursor.Cursor.{Cursor}
 use Rattle.pg_stretch.specs.Ahead.{IsSettled, front_ahead, items_ahead, place_ahead}

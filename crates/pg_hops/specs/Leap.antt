@@ -13,8 +13,8 @@ use Rattle.pg_shift.specs.Shift.{shifted}
 use Rattle.pg_style.specs.Values.{StyleValue}
 use Rattle.pg_stretch.specs.declared.cursor.Cursor.{Cursor}
 use Rattle.pg_stretch.specs.Ahead.{IsSettled, front_ahead, item_ahead, items_ahead, place_ahead}
-use Rattle.pg_walk_laws.specs.Reached.{reach_along}
-use Rattle.pg_walk_laws.specs.Walk.{past_stretch}
+use Rattle.law_walk.specs.Reached.{reach_along}
+use Rattle.law_walk.specs.Walk.{past_stretch}
 use Rattle.pg_hops.specs.Hop.{HopValue, past_one, standing}
 
 -- where it leads and what the items on the way add, and the most that a break behind the first one asks of a room

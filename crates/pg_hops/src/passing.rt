@@ -2,8 +2,8 @@
 ghost use Rattle.std.specs.Prelude.{◌≡◌, ◌≤◌, ◌+◌, ◌^◌, true, IfSome, length, max};
 ghost use Rattle.pg_rules.specs.Legal.{document};
 ghost use Rattle.pg_column.specs.Passed.{fits};
-ghost use Rattle.pg_walk_laws.specs.Reached.{reach_along};
-ghost use Rattle.pg_walk_laws.specs.Walk.{past_stretch};
+ghost use Rattle.law_walk.specs.Reached.{reach_along};
+ghost use Rattle.law_walk.specs.Walk.{past_stretch};
 ghost use Rattle.pg_stretch.specs.Ahead.{IsSettled, front_ahead, items_ahead};
 ghost use Rattle.pg_stretch.specs.View.{IsFor, view, views};
 ghost use Rattle.pg_hops.specs.Index.{AreHops};

@@ -13,8 +13,8 @@ use Rattle.pg_rules.specs.Floats.{called, distance_table, entry, float_numbers, 
 use Rattle.pg_rules.specs.History.{context, is_called, next_column, placed_after, placed_of, with_wide}
 use Rattle.pg_rules.specs.Legal.{added, deals_floats, distance, has_callouts, has_wide_counts, is_near}
 use Rattle.pg_rules.specs.Room.{Document}
-use Rattle.pg_column_laws.proofs.Waiting.{entry_plus, placed_more, slot_below}
-use Rattle.pg_place_laws.proofs.Among.{all_same}
+use Rattle.law_columns.proofs.Waiting.{entry_plus, placed_more, slot_below}
+use Rattle.law_places.proofs.Among.{all_same}
 use Rattle.pg_lemmas.proofs.Bools.{both_of, both_ways, or_cases}
 use Rattle.pg_lemmas.proofs.Numbers.{eq_yes}
 use Rattle.pg_judge.specs.Added.{added_by}

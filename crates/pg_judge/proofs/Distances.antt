@@ -14,9 +14,9 @@ use Rattle.pg_rules.specs.History.{calling_page, context, is_called, next_column
 use Rattle.pg_rules.specs.IsState.{IsPlace}
 use Rattle.pg_rules.specs.Legal.{distance, is_chained}
 use Rattle.pg_rules.specs.Room.{Document}
-use Rattle.pg_place_laws.proofs.Callouts.{entry_less, entry_zero, fit_ends, start_place}
-use Rattle.pg_place_laws.proofs.Measures.{called_grows}
-use Rattle.pg_beginning_laws.proofs.Faults.{EachKeeps}
+use Rattle.law_places.proofs.Callouts.{entry_less, entry_zero, fit_ends, start_place}
+use Rattle.law_places.proofs.Measures.{called_grows}
+use Rattle.law_columns.proofs.Faults.{EachKeeps}
 use Rattle.pg_lemmas.proofs.Bools.{both_of, if_false, if_true}
 use Rattle.pg_lemmas.proofs.Numbers.{not_less}
 use Rattle.pg_judge.specs.Moves.{page_ends}

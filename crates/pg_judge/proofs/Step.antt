@@ -17,7 +17,7 @@ use Rattle.pg_rules.specs.Legal.{added, deals_floats, distance, document, first_
 use Rattle.pg_rules.specs.Room.{ColumnContext, Document, is_text}
 use Rattle.pg_column.specs.Fits.{does_fit_from}
 use Rattle.pg_floats.specs.FloatsValue.{ClassFloatsValue}
-use Rattle.pg_beginning_laws.proofs.Faults.{kept, none_or, none_unless}
+use Rattle.law_columns.proofs.Faults.{kept, none_or, none_unless}
 use Rattle.pg_lemmas.proofs.Bools.{if_false, if_true, not_both}
 use Rattle.pg_judge.specs.Added.{added_by}
 use Rattle.pg_areas.specs.Counts.{capped, capped_sum}

@@ -4,12 +4,12 @@ use Rattle.std.specs.Prelude.{IfOk, Result, Ok, Err}
 use Rattle.pg_list.specs.GalleyValue.{GalleyValue}
 use Rattle.pg_style.specs.Values.{StyleValue}
 use Rattle.pg_labels.specs.declared.output.Output.{Output}
-use Rattle.pg_check_laws.specs.Faults.{Checked, IsYesOrMemory}
-use Rattle.pg_check_laws.specs.Laws.{BestShownPasses, FaultsFail, NoneShownPasses, PassedTestsProve, ShowsSolution, ShowsTruth}
-use Rattle.pg_check_laws.specs.Tests.{PassesAll}
-use Rattle.pg_check_laws.specs.declared.answers.No.{No}
-use Rattle.pg_check_laws.specs.declared.answers.No.TheVariants.{Broken, CostDiffers, PagesDiffer, BadLabel, NoStart, NotClosed, Undercut, FinalInNone, Memory}
-use Rattle.pg_check_laws.specs.declared.answers.Proved.{Proved}
+use Rattle.law_check.specs.Faults.{Checked, IsYesOrMemory}
+use Rattle.law_check.specs.CheckLaws.{BestShownPasses, FaultsFail, NoneShownPasses, PassedTestsProve, ShowsSolution, ShowsTruth}
+use Rattle.law_check.specs.Tests.{PassesAll}
+use Rattle.law_check.specs.declared.answers.No.{No}
+use Rattle.law_check.specs.declared.answers.No.TheVariants.{Broken, CostDiffers, PagesDiffer, BadLabel, NoStart, NotClosed, Undercut, FinalInNone, Memory}
+use Rattle.law_check.specs.declared.answers.Proved.{Proved}
 
 module _ (g : GalleyValue) (s : StyleValue) (output : Output) where
   pub truth_of : PassedTestsProve g s → (r : Result Proved No) → Checked g s output r →

@@ -7,10 +7,10 @@ use Rattle.std.specs.Prelude.{◌==◌, if◌then◌else◌, is_some}
 use Rattle.std.specs.Str.{bytes_eq}
 use Rattle.pg_scan.specs.Lines.{onto_first}
 use Rattle.pg_scan.specs.Parts.{parts_of}
-use Rattle.pg_word_laws.proofs.Cut.{joined, onto_joined, parts_joined}
+use Rattle.law_words.proofs.Cut.{joined, onto_joined, parts_joined}
 use Rattle.pg_labels.specs.Reading.{lines_left}
 use Rattle.pg_labels.proofs.Runs.{some_part}
-use Rattle.pg_check_laws.specs.Faults.{first_difference}
+use Rattle.law_check.specs.Faults.{first_difference}
 
 -- ---- the end of one text
 

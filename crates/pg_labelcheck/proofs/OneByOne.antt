@@ -7,13 +7,10 @@ use Rattle.std.proofs.lemmas.Cmp.{by_ranked, ranked}
 use Rattle.std.proofs.lemmas.Option.{get_or_from_slice_get, same_Some, slice_get_read, slice_get_within}
 use Rattle.pg_plan.specs.declared.states.Label.{Label}
 use Rattle.pg_table.proofs.Lists.{at_contains, contains_at}
-use Rattle.pg_check_laws.specs.Faults.{IsFirst}
+use Rattle.law_check.specs.Faults.{IsFirst}
 use Rattle.pg_labelcheck.specs.Tested.{AllBefore}
 
 module _ (P : Label → Type 0) (labels : List Label) where
-  pub before_none : AllBefore P labels 0
-  before_none = record { all = λ i label less at. absurd (omega arith) }
-
   pub before_more : (n : ℕ) (x : Label) → x ≡ slice_index_or labels n x → P x → AllBefore P labels n →
       AllBefore P labels (n + 1)
   before_more n x is p old = record { all = each }

@@ -10,12 +10,12 @@ use Rattle.pg_rules.specs.Closed.{Covers}
 use Rattle.pg_rules.specs.Room.{Document}
 use Rattle.pg_rules.specs.States.{state_at}
 use Rattle.pg_table.proofs.Lists.{at_contains}
-use Rattle.pg_space_laws.specs.PageSpace.{FollowBest, page_meaning}
+use Rattle.law_space.specs.PageSpace.{FollowBest, page_meaning}
 use Rattle.pg_cover.specs.Covered.{CoveredBy, IsFirstOpen, NoneOpenBefore, OpenTo}
-use Rattle.pg_label_laws.specs.Gaps.{Gap}
-use Rattle.pg_label_laws.proofs.Complete.{decide_covers}
-use Rattle.pg_check_laws.specs.Faults.{IsOpen}
-use Rattle.pg_check_laws.specs.Tests.{CoversStart, CoversSteps}
+use Rattle.law_check.specs.Gaps.{Gap}
+use Rattle.law_check.proofs.Complete.{decide_covers}
+use Rattle.law_check.specs.Faults.{IsOpen}
+use Rattle.law_check.specs.Tests.{CoversStart, CoversSteps}
 
 module _ (doc : Document) (labels : List Label) where
   pub to_covers : (v : State) (c : ℤ) → CoveredBy (page_meaning doc) labels v c → Covers labels v c

@@ -14,15 +14,15 @@ use Rattle.pg_style.specs.Values.{StyleValue}
 use Rattle.pg_rules.specs.Follow.{Follow}
 use Rattle.pg_rules.specs.Legal.{document}
 use Rattle.pg_rules.specs.Room.{Document}
-use Rattle.pg_space_laws.specs.PageSpace.{FollowBest, page_meaning}
-use Rattle.pg_label_laws.specs.Gaps.{NoneCheaper}
+use Rattle.law_space.specs.PageSpace.{FollowBest, page_meaning}
+use Rattle.law_check.specs.Gaps.{NoneCheaper}
 use Rattle.pg_cover.specs.Covered.{IsFirstOpen, NoneOpenBefore}
 use Rattle.pg_labels.specs.declared.output.Output.{Output}
 use Rattle.pg_labels.specs.declared.output.Shown.{Shown}
 use Rattle.pg_labels.specs.declared.output.Shown.TheVariants.{Pages, NoLegal}
-use Rattle.pg_check_laws.specs.Faults.{IsCheaper, IsFaultOrMemory, IsFirst, IsOpen, shown_cost}
-use Rattle.pg_check_laws.specs.Laws.{BestPicksFault, BestPicksPass}
-use Rattle.pg_check_laws.specs.Tests.{AreStates, CoversStart, NoneIsFinal, NoneUndercuts, PassesAll, PassesStart, PassesStates, PassesSteps, PassesText}
+use Rattle.law_check.specs.Faults.{IsCheaper, IsFaultOrMemory, IsFirst, IsOpen, shown_cost}
+use Rattle.law_check.specs.CheckLaws.{BestPicksFault, BestPicksPass}
+use Rattle.law_check.specs.Tests.{AreStates, CoversStart, NoneIsFinal, NoneUndercuts, PassesAll, PassesStart, PassesStates, PassesSteps, PassesText}
 use Rattle.pg_labelcheck.specs.Tested.{IsFinalBelow, final_fault}
 use Rattle.pg_labelcheck.proofs.OneByOne.{decided_not}
 use Rattle.pg_labelcheck.proofs.Opened.{first_open, none_open}

@@ -8,8 +8,8 @@ use Rattle.pg_style.specs.Values.{StyleValue}
 use Rattle.pg_labels.specs.declared.output.Output.{Output}
 use Rattle.pg_labels.specs.declared.output.Shown.{Shown}
 use Rattle.pg_labels.specs.declared.output.Shown.TheVariants.{Pages}
-use Rattle.pg_check_laws.specs.Tests.{PassesText}
-use Rattle.pg_check_laws.specs.declared.answers.No.{No}
+use Rattle.law_check.specs.Tests.{PassesText}
+use Rattle.law_check.specs.declared.answers.No.{No}
 use Rattle.pg_labelcheck.specs.Tested.{Tested, showing}
 
 -- what was printed behind nothing

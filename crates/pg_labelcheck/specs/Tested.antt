@@ -5,13 +5,13 @@ use Rattle.pg_plan.specs.declared.pages.Pagination.{Pagination}
 use Rattle.pg_plan.specs.declared.states.Label.{Label}
 use Rattle.pg_style.specs.Values.{StyleValue}
 use Rattle.pg_rules.specs.Room.{Document}
-use Rattle.pg_label_laws.specs.Gaps.{is_finished}
+use Rattle.law_check.specs.Gaps.{is_finished}
 use Rattle.pg_labels.specs.declared.output.Output.{Output}
 use Rattle.pg_labels.specs.declared.output.Shown.{Shown}
 use Rattle.pg_labels.specs.declared.output.Shown.TheVariants.{Pages, NoLegal}
-use Rattle.pg_check_laws.specs.Faults.{IsCheaper, IsFaultOrMemory}
-use Rattle.pg_check_laws.specs.declared.answers.No.{No}
-use Rattle.pg_check_laws.specs.declared.answers.No.TheVariants.{FinalInNone, Undercut}
+use Rattle.law_check.specs.Faults.{IsCheaper, IsFaultOrMemory}
+use Rattle.law_check.specs.declared.answers.No.{No}
+use Rattle.law_check.specs.declared.answers.No.TheVariants.{FinalInNone, Undercut}
 
 -- these tests pass, or one of them is the first that fails; or memory ran out
 abbrev pub Tested : {X : Type 0} → Type 0 → GalleyValue → StyleValue → Output → Result X No → Type 0

@@ -2,12 +2,12 @@
 ghost use Rattle.std.specs.Prelude.{◌≡◌, IfOk};
 ghost use Rattle.pg_floats.specs.AreFloats.{AreFloats};
 ghost use Rattle.pg_labels.specs.Reading.{IsFew};
-ghost use Rattle.pg_check_laws.specs.Faults.{Checked, IsYesOrMemory};
-ghost use Rattle.pg_check_laws.specs.Laws.{ShowsSolution, ShowsTruth};
+ghost use Rattle.law_check.specs.Faults.{Checked, IsYesOrMemory};
+ghost use Rattle.law_check.specs.CheckLaws.{ShowsSolution, ShowsTruth};
 
 use crate::labels::{shown_cost, test_labels};
 use crate::shown::test_shown;
-use pg_check_laws::{No, Proved, faults_fail, frontier_passes, passed_tests_prove};
+use law_check::{No, Proved, faults_fail, frontier_passes, passed_tests_prove};
 use pg_floats::FloatList;
 use pg_labels::Output;
 use pg_list::Galley;

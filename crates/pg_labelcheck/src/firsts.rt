@@ -4,8 +4,8 @@ ghost use Rattle.std.specs.Bool.{Decides};
 ghost use Rattle.pg_plan.specs.declared.states.Label.{Label as ALabel};
 ghost use Rattle.pg_rules.specs.IsState.{IsState};
 ghost use Rattle.pg_sources.specs.Document.{doc_of};
-ghost use Rattle.pg_check_laws.specs.Faults.{IsFirst, IsNoState};
-ghost use Rattle.pg_check_laws.specs.Tests.{AreStates, CoversStart};
+ghost use Rattle.law_check.specs.Faults.{IsFirst, IsNoState};
+ghost use Rattle.law_check.specs.Tests.{AreStates, CoversStart};
 ghost use Rattle.pg_labelcheck.specs.Tested.{IsFinalBelow};
 
 use pg_cover::covers;

@@ -3,12 +3,12 @@
 ghost use Rattle.std.specs.Prelude.{◌≡◌, ◌<◌, ◌+◌, ◌^◌};
 ghost use Rattle.pg_floats.specs.AreFloats.{AreFloats};
 ghost use Rattle.pg_labels.specs.Reading.{IsFew};
-ghost use Rattle.pg_check_laws.specs.Faults.{shown_cost as shown_cost_of};
-ghost use Rattle.pg_check_laws.specs.Tests.{PassesAll, PassesStart, PassesStates, PassesSteps, PassesText};
+ghost use Rattle.law_check.specs.Faults.{shown_cost as shown_cost_of};
+ghost use Rattle.law_check.specs.Tests.{PassesAll, PassesStart, PassesStates, PassesSteps, PassesText};
 ghost use Rattle.pg_labelcheck.specs.Tested.{Tested, final_fault as final_fault_of};
 
 use crate::firsts::{covers_start, first_final, first_no_state};
-use pg_check_laws::{No, best_picks_decide};
+use law_check::{No, best_picks_decide};
 use pg_cover::first_open;
 use pg_floats::FloatList;
 use pg_hops::BreakIndex;

@@ -1,7 +1,7 @@
 //! Where two texts differ.
 ghost use Rattle.std.specs.Prelude.{◌≡◌};
 ghost use Rattle.pg_scan.specs.Parts.{parts_of};
-ghost use Rattle.pg_check_laws.specs.Faults.{first_difference};
+ghost use Rattle.law_check.specs.Faults.{first_difference};
 
 use pg_scan::split_part;
 

@@ -4,11 +4,11 @@ ghost use Rattle.pg_floats.specs.AreFloats.{AreFloats};
 ghost use Rattle.pg_plan.specs.Order.{columns};
 ghost use Rattle.pg_plan.specs.declared.states.Label.{Label as ALabel};
 ghost use Rattle.pg_labels.specs.Reading.{IsFew};
-ghost use Rattle.pg_check_laws.specs.Tests.{PassesCost, PassesText};
+ghost use Rattle.law_check.specs.Tests.{PassesCost, PassesText};
 ghost use Rattle.pg_labelcheck.specs.Tested.{Tested, showing};
 
 use crate::lines::first_other_line;
-use pg_check_laws::No;
+use law_check::No;
 use pg_floats::FloatList;
 use pg_judge::{JudgeFault, judge};
 use pg_labels::{Output, Shown};

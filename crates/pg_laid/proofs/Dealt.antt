@@ -13,12 +13,12 @@ use Rattle.pg_floats.specs.FloatsValue.{ClassFloatsValue}
 use Rattle.pg_rules.specs.Floats.{called, entry, float_numbers, plus_counts, takes_bottom, takes_in_column, takes_top, takes_wide, total_count}
 use Rattle.pg_rules.specs.IsState.{IsState}
 use Rattle.pg_rules.specs.Room.{Document}
-use Rattle.pg_place_laws.proofs.Among.{Among}
+use Rattle.law_places.proofs.Among.{Among}
 use Rattle.pg_lemmas.proofs.Bools.{by_bool, if_false, if_true}
 use Rattle.pg_lemmas.proofs.Numbers.{less_true, not_less}
-use Rattle.pg_column_laws.proofs.Waiting.{entry_plus}
-use Rattle.pg_bound_laws.proofs.Counts.{entry_beyond}
-use Rattle.pg_member_laws.proofs.Members.{among_contains}
+use Rattle.law_columns.proofs.Waiting.{entry_plus}
+use Rattle.law_columns.proofs.BoundCounts.{entry_beyond}
+use Rattle.law_places.proofs.Members.{among_contains}
 use Rattle.pg_areas.specs.Given.{IsListOf}
 use Rattle.pg_areas.proofs.Heights.{few_dealt}
 use Rattle.pg_layouts.specs.Fit.{Fit}
@@ -26,10 +26,10 @@ use Rattle.pg_layouts.specs.Layouts.{area_lists, float_layouts, text_layouts, ze
 use Rattle.pg_layouts.specs.declared.layout.Layout.{Layout}
 use Rattle.pg_layouts.proofs.Areas.{IsOfArea, in_area, slots_long, zeros_allowed, zeros_are, zeros_entry}
 use Rattle.pg_layouts.proofs.Fits.{Short, fits_below}
-use Rattle.pg_move_laws.proofs.Ages.{placed_called}
-use Rattle.pg_move_laws.proofs.Callouts.{has_below}
-use Rattle.pg_move_laws.proofs.Ceilings.{called_few}
-use Rattle.pg_move_laws.proofs.Layouts.{AreWide, IsFloatLayout, IsTextLayout, of_float_layouts, of_text_layouts}
+use Rattle.law_moves.proofs.Ages.{placed_called}
+use Rattle.law_moves.proofs.Callouts.{has_below}
+use Rattle.law_moves.proofs.Ceilings.{called_few}
+use Rattle.law_moves.proofs.Layouts.{AreWide, IsFloatLayout, IsTextLayout, of_float_layouts, of_text_layouts}
 use Rattle.pg_laid.specs.Laid.{HasSoMany, IsLaid, IsThere}
 use Rattle.pg_sources.proofs.CalledFew.{calls_few}
 

@@ -5,10 +5,10 @@ use Rattle.std.specs.List.{AllByRecursion}
 use Rattle.pg_plan.specs.declared.states.State.{State}
 use Rattle.pg_layouts.specs.Layouts.{float_layouts}
 use Rattle.pg_layouts.specs.declared.layout.Layout.{Layout}
-use Rattle.pg_member_laws.proofs.Members.{contains_among, of_map}
-use Rattle.pg_place_laws.proofs.Among.{Among}
+use Rattle.law_places.proofs.Members.{contains_among, of_map}
+use Rattle.law_places.proofs.Among.{Among}
 use Rattle.pg_rules.specs.Room.{Document}
-use Rattle.pg_move_laws.proofs.Layouts.{IsFloatLayout, of_float_layouts}
+use Rattle.law_moves.proofs.Layouts.{IsFloatLayout, of_float_layouts}
 use Rattle.pg_laid.specs.Laid.{IsFloatLaid, laid_of}
 use Rattle.pg_laid.specs.declared.laid.Laid.{Laid}
 

@@ -11,16 +11,16 @@ use Rattle.pg_rules.specs.IsState.{IsState, not_first}
 use Rattle.pg_rules.specs.Room.{Document, checked_height, extra}
 use Rattle.std.specs.List.{AllByRecursion}
 use Rattle.pg_list.specs.Shapes.{IsBlock}
-use Rattle.pg_bound_laws.proofs.Areas.{area_range, dealt_range, floats_range}
+use Rattle.law_columns.proofs.Areas.{area_range, dealt_range, floats_range}
 use Rattle.pg_layouts.specs.declared.layout.Layout.{Layout}
 use Rattle.std.proofs.lemmas.List.{map-append}
 use Rattle.pg_lemmas.proofs.Lists.{all_append, one_more}
 use Rattle.pg_lemmas.proofs.Bools.{both_of}
-use Rattle.pg_move_laws.proofs.Moves.{checked_is}
-use Rattle.pg_move_laws.specs.Steps.{area_of, text_room}
+use Rattle.law_moves.proofs.Moves.{checked_is}
+use Rattle.law_moves.specs.Steps.{area_of, text_room}
 use Rattle.pg_laid.specs.Laid.{IsLaidBy, IsThere, laid_of}
 use Rattle.pg_laid.specs.declared.laid.Laid.{Laid}
-use Rattle.pg_place_laws.proofs.Tests.{le_int, less_int}
+use Rattle.law_places.proofs.Tests.{le_int, less_int}
 
 -- the height that a list of floats answers
 pub height_is : (doc : Document) (rule : AreaRuleValue) (before counts : List ℕ) (z : ℤ) → IsThere doc before counts →
@@ -37,19 +37,6 @@ height_small doc rule before counts z blocks range there e =
     there.few in
     let few = r.1 in
     subst (λ (y : ℤ). nat_abs y < 2 ^ 34) (sym e) (omega (arith, few))
-
--- the wide area of a page that has begun
-pub begun_small : (doc : Document) (u : State) → IsState doc u → IfSome u.wide (λ (z : ℤ). nat_abs z < 2 ^ 34)
-begun_small doc u own = by u.wide own.wide
-  where
-    by : (o : Option ℤ) → option_map_or (λ (z : ℤ). not_first u.column
-        && (int_le (pos 0) z && int_lt z (pos (2 ^ 33)))) o true ≡ true → IfSome o (λ (z : ℤ). nat_abs z < 2 ^ 34)
-    by None e = tt
-    by (Some z) e =
-        let s = both_of (int_le (pos 0) z) (int_lt z (pos (2 ^ 33))) (both_of (not_first u.column) _ e).1 in
-        let a : pos 0 ≤ℤ z = le_int (pos 0) z s.0 in
-        let b : z <ℤ pos 8589934592 = less_int z (pos 8589934592) s.1 in
-        omega (arith, ints, a, b)
 
 -- what the areas of a layout leave to a text
 pub room_is : (doc : Document) (u : State) (layout : Layout) (wide : Option ℤ) (before below : List ℕ)

@@ -12,17 +12,17 @@ use Rattle.pg_rules.specs.Floats.{dealt, float_numbers, floats, total_count}
 use Rattle.pg_rules.specs.IsState.{IsState, not_first}
 use Rattle.pg_rules.specs.Reach.{greatest_extra}
 use Rattle.pg_rules.specs.Room.{Document, extra}
-use Rattle.pg_bound_laws.proofs.Areas.{area_range, dealt_range, floats_range}
+use Rattle.law_columns.proofs.Areas.{area_range, dealt_range, floats_range}
 use Rattle.pg_lemmas.proofs.Bools.{both_of}
 use Rattle.pg_lemmas.proofs.Lists.{some_at}
 use Rattle.pg_layouts.specs.Layouts.{text_layouts}
 use Rattle.pg_layouts.specs.declared.layout.Layout.{Layout}
-use Rattle.pg_move_laws.specs.Steps.{area_of, text_room, wide_of}
-use Rattle.pg_move_laws.proofs.Layouts.{IsTextLayout, of_text_layouts}
-use Rattle.pg_place_laws.proofs.Among.{Among}
-use Rattle.pg_place_laws.proofs.Tests.{le_int}
-use Rattle.pg_reach_laws.proofs.Onward.{extra_low}
-use Rattle.pg_walk_laws.specs.Reached.{tallest}
+use Rattle.law_moves.specs.Steps.{area_of, text_room, wide_of}
+use Rattle.law_moves.proofs.Layouts.{IsTextLayout, of_text_layouts}
+use Rattle.law_places.proofs.Among.{Among}
+use Rattle.law_places.proofs.Tests.{le_int}
+use Rattle.law_space.proofs.Onward.{extra_low}
+use Rattle.law_walk.specs.Reached.{tallest}
 use Rattle.pg_laid.specs.Laid.{IsLaid, IsThere, laid_of}
 use Rattle.pg_laid.specs.declared.laid.Laid.{Laid}
 

@@ -6,8 +6,8 @@ use Rattle.pg_rules.specs.Room.{Document}
 use Rattle.pg_layouts.specs.Fit.{Fit}
 use Rattle.pg_layouts.specs.Layouts.{zeros}
 use Rattle.pg_layouts.specs.declared.layout.Layout.{Layout}
-use Rattle.pg_move_laws.specs.Listed.{placed_with}
-use Rattle.pg_move_laws.specs.Steps.{float_counts, text_room, wide_of}
+use Rattle.law_moves.specs.Listed.{placed_with}
+use Rattle.law_moves.specs.Steps.{float_counts, text_room, wide_of}
 use Rattle.pg_laid.specs.declared.laid.Laid.{Laid}
 
 -- the galley has so many floats of each class

@@ -3,7 +3,7 @@ ghost use Rattle.std.specs.Prelude.{◌≡◌, ◌<◌, ◌^◌, ◌-ℤ◌, Con
 ghost use Rattle.pg_rules.specs.Floats.{float_numbers, plus_counts as the_plus_counts, total_count};
 ghost use Rattle.pg_rules.specs.IsState.{IsState};
 ghost use Rattle.pg_layouts.specs.declared.layout.Layout.{Layout as ALayout};
-ghost use Rattle.pg_move_laws.specs.Steps.{area_of, text_room, wide_of};
+ghost use Rattle.law_moves.specs.Steps.{area_of, text_room, wide_of};
 ghost use Rattle.pg_plan.specs.declared.states.State.{State as AState};
 ghost use Rattle.std.specs.List.{AllByRecursion};
 ghost use Rattle.pg_laid.specs.declared.laid.Laid.{Laid as ALaid};

@@ -3,7 +3,7 @@ ghost use Rattle.std.specs.Prelude.{◌≡◌, ◌<◌, ◌^◌, ◌≤ℤ◌, m
 ghost use Rattle.std.specs.List.{AllByRecursion};
 ghost use Rattle.pg_rules.specs.IsState.{IsState};
 ghost use Rattle.pg_layouts.specs.Layouts.{float_layouts as the_float_layouts, text_layouts as the_text_layouts};
-ghost use Rattle.pg_walk_laws.specs.Reached.{tallest};
+ghost use Rattle.law_walk.specs.Reached.{tallest};
 ghost use Rattle.pg_sources.specs.Document.{doc_of};
 ghost use Rattle.pg_laid.specs.Laid.{HasSoMany, IsFloatLaid, laid_of};
 ghost use Rattle.pg_laid.specs.declared.laid.Laid.{Laid as ALaid};

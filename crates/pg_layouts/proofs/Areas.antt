@@ -6,16 +6,16 @@ use Rattle.std.proofs.lemmas.List.FromFn.{length-map-range_with_len}
 use Rattle.pg_style.specs.Values.{StyleValue}
 use Rattle.pg_style.specs.declared.style.Area.{Area}
 use Rattle.pg_rules.specs.Floats.{entry, float_numbers, is_area_allowed, slots, total_count}
-use Rattle.pg_column_laws.proofs.Counts.{total_cons}
+use Rattle.law_columns.proofs.ColumnCounts.{total_cons}
 use Rattle.std.proofs.lemmas.Bool.{eqb-true, le-leb, leb-true}
-use Rattle.pg_column_laws.proofs.Waiting.{entry_slots, slot_below}
-use Rattle.pg_place_laws.proofs.Among.{Among, all_at, all_of}
+use Rattle.law_columns.proofs.Waiting.{entry_slots, slot_below}
+use Rattle.law_places.proofs.Among.{Among, all_at, all_of}
 use Rattle.pg_lemmas.proofs.Bools.{both, both_of}
 use Rattle.pg_lemmas.proofs.Numbers.{eq_refl}
 use Rattle.pg_layouts.specs.Counts.{Within}
 use Rattle.pg_areas.specs.Spots.{takes_slot}
 use Rattle.pg_layouts.specs.Layouts.{area_lists, limits, zeros}
-use Rattle.pg_member_laws.proofs.Members.{below_in}
+use Rattle.law_places.proofs.Members.{below_in}
 use Rattle.pg_layouts.proofs.CountLists.{AreCounts, in_count_lists, of_count_lists}
 
 -- ---- counts within limits, entry by entry

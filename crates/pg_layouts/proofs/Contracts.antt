@@ -1,7 +1,7 @@
 -- The law in the form of its contract.
 use Rattle.std.proofs.Common.{◌≢◌, ℕ, List}
-use Rattle.pg_member_laws.proofs.Members.{among_contains, contains_among}
-use Rattle.pg_member_laws.proofs.Pairs.{pairs_all}
+use Rattle.law_places.proofs.Members.{among_contains, contains_among}
+use Rattle.law_places.proofs.Pairs.{pairs_all}
 use Rattle.pg_layouts.specs.Counts.{count_lists}
 use Rattle.pg_layouts.specs.Laws.{AreAllCounts}
 use Rattle.pg_layouts.proofs.CountLists.{AreCounts, count_lists_apart, in_count_lists, of_count_lists}

@@ -3,12 +3,12 @@ use Rattle.std.proofs.Common.{◌≡◌, ◌≢◌, refl, sym, ap, subst, ◌∙
 use Rattle.std.specs.Prelude.{min}
 use Rattle.std.specs.List.{flat_map, range_with_len}
 use Rattle.pg_rules.specs.Floats.{total_count}
-use Rattle.pg_column_laws.proofs.Counts.{total_cons}
-use Rattle.pg_column_laws.proofs.Waiting.{slot_below}
-use Rattle.pg_place_laws.proofs.Among.{Among}
+use Rattle.law_columns.proofs.ColumnCounts.{total_cons}
+use Rattle.law_columns.proofs.Waiting.{slot_below}
+use Rattle.law_places.proofs.Among.{Among}
 use Rattle.pg_layouts.specs.Counts.{Within, count_lists, grown, grown_by}
-use Rattle.pg_member_laws.proofs.Members.{below_in, in_flat, in_map, of_flat, of_map}
-use Rattle.pg_member_laws.proofs.Pairs.{Pairs, pairs_flat, pairs_map, pairs_weaker, range_apart}
+use Rattle.law_places.proofs.Members.{below_in, in_flat, in_map, of_flat, of_map}
+use Rattle.law_places.proofs.Pairs.{Pairs, pairs_flat, pairs_map, pairs_weaker, range_apart}
 
 total_behind : (xs : List ℕ) (n : ℕ) → total_count (xs ++ n ∷ []) ≡ total_count xs + n
 total_behind [] n = let e : total_count (n ∷ []) ≡ n + total_count [] = total_cons n [] in omega arith

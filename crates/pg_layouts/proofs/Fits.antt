@@ -3,7 +3,7 @@ use Rattle.std.proofs.Common.{◌≡◌, refl, ap, subst, ◌∙◌, ℕ, zero, 
 use Rattle.std.specs.Prelude.{Contains, Result, Ok, Err, IfOk, ◌==◌, if◌then◌else◌, nat_lt, replicate}
 use Rattle.std.specs.List.{range_with_len}
 use Rattle.pg_plan.specs.declared.states.State.{State}
-use Rattle.pg_place_laws.proofs.Among.{Among}
+use Rattle.law_places.proofs.Among.{Among}
 use Rattle.pg_style.specs.Values.{StyleValue}
 use Rattle.pg_style.specs.declared.style.Area.{Area}
 use Rattle.pg_rules.specs.Floats.{entry, float_numbers, plus_counts, takes_wide}
@@ -13,8 +13,8 @@ use Rattle.pg_lemmas.proofs.Numbers.{less_true, not_less}
 use Rattle.pg_layouts.specs.Behind.{bare}
 use Rattle.pg_layouts.specs.Layouts.{area_lists, wides_of, zeros}
 use Rattle.pg_layouts.proofs.Areas.{IsOfArea, of_area, slots_long, zeros_entry}
-use Rattle.pg_bound_laws.proofs.Counts.{entry_beyond}
-use Rattle.pg_member_laws.proofs.Members.{contains_among}
+use Rattle.law_columns.proofs.BoundCounts.{entry_beyond}
+use Rattle.law_places.proofs.Members.{contains_among}
 use Rattle.pg_layouts.specs.Fit.{Fit}
 
 -- sums of 16 bits are those of counts

@@ -3,7 +3,7 @@ use Rattle.std.proofs.Common.{◌≡◌, refl, sym, ap, ◌∙◌, ℕ, ◌≤�
 use Rattle.std.specs.Prelude.{ℤ}
 use Rattle.pg_hlist.specs.declared.item.HItem.{HItem}
 use Rattle.pg_hlist.specs.declared.item.HItem.TheVariants.{BoxItem, Glue, Kern, Penalty}
-use Rattle.pg_paragraphs.specs.Boxes.{items_text}
+use Rattle.law_lines.specs.Boxes.{items_text}
 use Rattle.pg_line_boxes.specs.Printed.{item_text, sizes_of, sizes_with, widths_behind}
 
 pub one_item : (item : HItem) (items : List HItem) (widths : List ℤ) →

@@ -14,10 +14,10 @@ use Rattle.pg_hlist.specs.declared.item.HItem.{HItem}
 use Rattle.pg_hlist.specs.declared.item.HItem.TheVariants.{BoxItem, Glue, Kern, Penalty}
 use Rattle.pg_hlist.specs.Items.{IsInRange}
 use Rattle.pg_lemmas.proofs.Lists.{all_append}
-use Rattle.pg_paragraphs.specs.declared.rule.LineRule.{LineRule}
-use Rattle.pg_paragraphs.specs.Boxes.{glue_widths, own_width}
-use Rattle.pg_paragraphs.specs.Laws.{IsRule}
-use Rattle.pg_paragraphs.specs.Lines.{line_total}
+use Rattle.law_lines.specs.declared.rule.LineRule.{LineRule}
+use Rattle.law_lines.specs.Boxes.{glue_widths, own_width}
+use Rattle.law_lines.specs.ParagraphsLaws.{IsRule}
+use Rattle.law_lines.specs.Lines.{line_total}
 use Rattle.pg_line_boxes.specs.Printed.{elastic, widths_by}
 use Rattle.pg_line_boxes.proofs.SumsLaws.{sums_small}
 use Rattle.pg_glue.proofs.Small.{IsEntry, widths_small}

@@ -9,7 +9,7 @@ use Rattle.pg_glue.specs.Widths.{set_widths}
 use Rattle.pg_hlist.specs.declared.item.HItem.{HItem}
 use Rattle.pg_hlist.specs.declared.item.HItem.TheVariants.{BoxItem, Glue, Kern, Penalty}
 use Rattle.pg_line_boxes.specs.declared.sizes.BoxSizes.{BoxSizes}
-use Rattle.pg_paragraphs.specs.Boxes.{deeper, depth_of, height_of, own_width, set_deeper, shrinking, stretching}
+use Rattle.law_lines.specs.Boxes.{deeper, depth_of, height_of, own_width, set_deeper, shrinking, stretching}
 
 -- the glue of an item, as it grows or gives way
 abbrev pub elastic : Sense → HItem → List Elastic

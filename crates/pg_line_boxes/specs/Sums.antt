@@ -7,7 +7,7 @@ use Rattle.pg_flat.specs.Totals.{shrink, stretch}
 use Rattle.pg_hlist.specs.declared.item.HItem.{HItem}
 use Rattle.pg_hlist.specs.declared.item.HItem.TheVariants.{BoxItem, Glue, Kern, Penalty}
 use Rattle.pg_hlist.specs.Items.{as_items}
-use Rattle.pg_paragraphs.specs.Lines.{line_total}
+use Rattle.law_lines.specs.Lines.{line_total}
 use Rattle.pg_line_boxes.specs.declared.sums.LineSums.{LineSums}
 
 -- their widths, their stretch by order, and their shrink

@@ -2,15 +2,15 @@
 ghost use Rattle.std.specs.Prelude.{◌≡◌, ◌≤◌, ◌^◌, ◌++◌, OnOk, IfOk, length};
 ghost use Rattle.std.specs.List.{AllByRecursion};
 ghost use Rattle.pg_hlist.specs.Items.{IsInRange};
-ghost use Rattle.pg_paragraphs.specs.Boxes.{box_front, glue_widths, items_text, line_box as line_box_of};
-ghost use Rattle.pg_paragraphs.specs.Laws.{IsRule};
+ghost use Rattle.law_lines.specs.Boxes.{box_front, glue_widths, items_text, line_box as line_box_of};
+ghost use Rattle.law_lines.specs.ParagraphsLaws.{IsRule};
 
 use crate::glue::widths_of;
 use crate::sizes::{box_sizes, sums};
 use crate::text::{print_box_front, print_items};
+use law_lines::LineRule;
 use pg_hlist::HItem;
 use pg_list::{Bytes, Item};
-use pg_paragraphs::LineRule;
 use pg_whole::wide;
 use std::alloc::{AllocError, Global};
 

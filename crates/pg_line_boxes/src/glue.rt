@@ -2,7 +2,7 @@
 ghost use Rattle.std.specs.Prelude.{◌≡◌, ◌<◌, ◌≤◌, ◌^◌, ◌++◌, OnOk, IfOk, length, nat_abs, ◌-ℤ◌};
 ghost use Rattle.std.specs.List.{flat_map};
 ghost use Rattle.pg_glue.specs.Widths.{set_widths as set_widths_of};
-ghost use Rattle.pg_paragraphs.specs.Boxes.{own_width};
+ghost use Rattle.law_lines.specs.Boxes.{own_width};
 ghost use Rattle.pg_line_boxes.specs.Printed.{elastic, widths_by};
 
 use pg_glue::{Elastic, Sense, set_widths};

@@ -1,7 +1,7 @@
 //! The sums over a line of a paragraph, and the line as a box of a galley with its glue set.
 //!
 //! Proved: `LineSums` holds the sums over the items that were added, and says of them whether a line is over and how bad
-//! it is; `line_box` answers the box that `specs/Boxes` of pg_paragraphs defines, with its text item by item. The one
+//! it is; `line_box` answers the box that `specs/Boxes` of law_lines defines, with its text item by item. The one
 //! refusal is want of memory.
 #![tactic(auto)]
 

@@ -3,13 +3,13 @@ ghost use Rattle.std.specs.Prelude.{◌≡◌, ◌≤◌, ◌++◌, ◌∷◌, [
 ghost use Rattle.std.specs.List.{AllByRecursion, prefix_len};
 ghost use Rattle.pg_scaled.specs.Scaled.{scaled_text};
 ghost use Rattle.pg_scan.specs.Lines.{is_no_feed, dotted};
-ghost use Rattle.pg_paragraphs.specs.Boxes.{box_front, deeper, items_text, set_deeper};
+ghost use Rattle.law_lines.specs.Boxes.{box_front, deeper, items_text, set_deeper};
 ghost use Rattle.pg_line_boxes.specs.Printed.{item_text, widths_behind};
 ghost use Rattle.pg_glue.specs.Widths.{IsPrintable};
 
 use crate::sizes::BoxSizes;
+use law_lines::LineRule;
 use pg_hlist::HItem;
-use pg_paragraphs::LineRule;
 use pg_scaled::print_scaled;
 use std::alloc::AllocError;
 

@@ -18,6 +18,3 @@ pub use lists::{Head, HeadList, Reference, ReferenceList};
 pub use print::print_heads;
 pub use running::heads;
 pub use uses::references;
-
-#[cfg(test)]
-mod tests;

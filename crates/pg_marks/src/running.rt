@@ -55,7 +55,7 @@ fn head(alloc: Global, top: &[u8], first: &[u8], bottom: &[u8]) -> Result<Head, 
 /// The marks of each page: the last of all pages before it, its first, and its last. Where a page has none, its first
 /// and its last are those that stood before it; before the first mark of all stands an empty one.
 ///
-/// Condition: each column fits the galley, as those of a legal pagination do (`legal_columns_fit` of pg_mark_laws). The
+/// Condition: each column fits the galley, as those of a legal pagination do (`legal_columns_fit` of law_course). The
 /// only refusal is for want of memory.
 pub fn heads(alloc: Global, galley: &Galley, plan: &Pagination) -> Result<HeadList, AllocError>
     requires { AllFit galley.now.blocks plan.now.pages }

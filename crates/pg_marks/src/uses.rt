@@ -150,7 +150,7 @@ fn push_all(
 /// Each use, in order, with the page on which it stands and the page of the first label of its name. It has no page
 /// exactly where no item of the pages is such a label. Pages are counted from 1.
 ///
-/// Conditions: each column fits the galley, as those of a legal pagination do (`legal_columns_fit` of pg_mark_laws), and
+/// Conditions: each column fits the galley, as those of a legal pagination do (`legal_columns_fit` of law_course), and
 /// there are fewer than 2^31 pages. The only refusal is for want of memory.
 pub fn references(
     alloc: Global,

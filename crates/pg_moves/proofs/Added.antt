@@ -2,9 +2,9 @@
 use Rattle.std.proofs.Common.{◌≡◌, refl, sym, ap, subst, ◌∙◌, ◌⊎◌, inl, inr, Bool, true, List, [], ◌∷◌, ◌++◌, append_assoc, ℤ}
 use Rattle.std.specs.Prelude.{Contains, ◌≢◌}
 use Rattle.std.proofs.lemmas.List.{append-nil}
-use Rattle.pg_place_laws.proofs.Among.{Among}
-use Rattle.pg_member_laws.proofs.Members.{among_contains, contains_among}
-use Rattle.pg_member_laws.proofs.Pairs.{Pairs, all_pairs, pairs_all}
+use Rattle.law_places.proofs.Among.{Among}
+use Rattle.law_places.proofs.Members.{among_contains, contains_among}
+use Rattle.law_places.proofs.Pairs.{Pairs, all_pairs, pairs_all}
 use Rattle.pg_table.specs.Space.{AreMoves, AreWanted, Meaning}
 use Rattle.pg_table.specs.declared.step.Step.{Step}
 use Rattle.pg_moves.specs.Thinned.{Adds, Thins}

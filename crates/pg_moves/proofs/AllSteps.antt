@@ -9,25 +9,25 @@ use Rattle.pg_plan.specs.declared.states.State.{State}
 use Rattle.pg_style.specs.Values.{StyleValue}
 use Rattle.pg_layouts.specs.Layouts.{float_layouts, text_layouts}
 use Rattle.pg_layouts.specs.declared.layout.Layout.{Layout}
-use Rattle.pg_member_laws.proofs.Members.{among_contains, contains_among, in_map, of_map}
+use Rattle.law_places.proofs.Members.{among_contains, contains_among, in_map, of_map}
 use Rattle.pg_rules.specs.Floats.{called}
 use Rattle.pg_rules.specs.IsState.{IsPlace, IsState}
 use Rattle.pg_rules.specs.Legal.{document}
 use Rattle.pg_rules.specs.Reach.{IsReach}
 use Rattle.pg_rules.specs.Room.{Document}
-use Rattle.pg_reach_laws.specs.Laws.{IsTheReach}
-use Rattle.pg_reach_laws.specs.ReachAt.{reach_at}
-use Rattle.pg_space_laws.specs.PageSpace.{page_meaning}
+use Rattle.law_space.specs.ReachLaws.{IsTheReach}
+use Rattle.law_space.specs.ReachAt.{reach_at}
+use Rattle.law_space.specs.PageSpace.{page_meaning}
 use Rattle.pg_table.specs.Space.{AreMoves, AreWanted}
 use Rattle.pg_table.specs.declared.step.Opened.{Opened}
 use Rattle.pg_table.proofs.Spared.{all_wanted}
 use Rattle.pg_table.specs.declared.step.Step.{Step}
-use Rattle.pg_move_laws.specs.Laws.{ListedAreMoves, ReachIsCeiling}
-use Rattle.pg_move_laws.specs.Listed.{beyond, listed_floats, listed_stay, listed_text, stays_on}
-use Rattle.pg_move_laws.specs.Steps.{IsCeiling, text_room}
+use Rattle.law_moves.specs.Laws.{ListedAreMoves, ReachIsCeiling}
+use Rattle.law_moves.specs.Listed.{beyond, listed_floats, listed_stay, listed_text, stays_on}
+use Rattle.law_moves.specs.Steps.{IsCeiling, text_room}
 use Rattle.pg_laid.specs.Laid.{laid_of}
 use Rattle.pg_candidates.specs.RoomEnds.{ends_of}
-use Rattle.pg_walk_laws.specs.Candidates.{Candidate}
+use Rattle.law_walk.specs.Candidates.{Candidate}
 use Rattle.pg_rooms.specs.PlaceEnds.{ArePlaceEnds, ends_in, has_room}
 use Rattle.pg_rooms.specs.declared.place_ends.PlaceEnds.{PlaceEnds}
 use Rattle.pg_rooms.proofs.Kept.{room_right}

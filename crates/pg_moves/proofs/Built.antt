@@ -4,21 +4,21 @@ use Rattle.std.specs.Prelude.{◌==◌, if◌then◌else◌, nat_abs, pos, ◌+�
 use Rattle.pg_style.specs.Values.{StyleValue}
 use Rattle.pg_rules.specs.Floats.{entry, float_numbers, plus_counts}
 use Rattle.pg_layouts.proofs.Areas.{slots_long}
-use Rattle.pg_space_laws.specs.PageSpace.{place_rank, rank}
+use Rattle.law_space.specs.PageSpace.{place_rank, rank}
 use Rattle.pg_list.specs.declared.galley.Place.{Place}
 use Rattle.pg_plan.specs.declared.pages.PageMove.{PageMove}
 use Rattle.pg_plan.specs.declared.states.State.{State}
 use Rattle.pg_candidates.specs.RoomEnds.{end_of, picks_at}
 use Rattle.pg_candidates.specs.declared.room_end.RoomEnd.{RoomEnd}
-use Rattle.pg_walk_laws.specs.Candidates.{Candidate}
+use Rattle.law_walk.specs.Candidates.{Candidate}
 use Rattle.pg_rules.specs.Cost.{run_demerits}
 use Rattle.pg_rules.specs.Follow.{fills_page, keeps_run, other_side, turns}
 use Rattle.pg_rules.specs.Room.{Document}
 use Rattle.pg_table.specs.declared.step.Step.{Step}
 use Rattle.pg_layouts.specs.Layouts.{move_of}
-use Rattle.pg_move_laws.specs.Ages.{ages_left, float_cost}
-use Rattle.pg_move_laws.specs.Listed.{layout_cost, listed_end, listed_stay, placed_with, state_to}
-use Rattle.pg_move_laws.specs.Steps.{fitness_cost, kept_fitness, wide_of}
+use Rattle.law_moves.specs.Ages.{ages_left, float_cost}
+use Rattle.law_moves.specs.Listed.{layout_cost, listed_end, listed_stay, placed_with, state_to}
+use Rattle.law_moves.specs.Steps.{fitness_cost, kept_fitness, wide_of}
 use Rattle.pg_laid.specs.Laid.{laid_of}
 use Rattle.pg_laid.specs.declared.laid.Laid.{Laid}
 use Rattle.pg_waiting.specs.Settling.{Settles}

@@ -13,13 +13,13 @@ use Rattle.pg_rules.specs.Room.{Document, extra}
 use Rattle.pg_table.specs.declared.step.Step.{Step}
 use Rattle.pg_lemmas.proofs.Bools.{both_ways, by_bool, if_false, if_true}
 use Rattle.pg_lemmas.proofs.Numbers.{less_of, less_true, not_less}
-use Rattle.pg_place_laws.proofs.Tests.{int_le_of, le_int}
-use Rattle.pg_bound_laws.proofs.Counts.{entry_beyond}
+use Rattle.law_places.proofs.Tests.{int_le_of, le_int}
+use Rattle.law_columns.proofs.BoundCounts.{entry_beyond}
 use Rattle.pg_layouts.specs.Layouts.{zeros}
 use Rattle.pg_layouts.proofs.Areas.{slots_long, zeros_entry}
-use Rattle.pg_move_laws.specs.Ages.{may_wait}
-use Rattle.pg_move_laws.specs.Listed.{column_fits, listed_stay, placed_with, stays_on}
-use Rattle.pg_move_laws.specs.Steps.{area_of, wide_of}
+use Rattle.law_moves.specs.Ages.{may_wait}
+use Rattle.law_moves.specs.Listed.{column_fits, listed_stay, placed_with, stays_on}
+use Rattle.law_moves.specs.Steps.{area_of, wide_of}
 use Rattle.pg_laid.specs.Laid.{IsFloatLaid, laid_of}
 use Rattle.pg_moves.specs.Stepping.{can_stand, stay_in}
 use Rattle.pg_laid.specs.declared.laid.Laid.{Laid}

@@ -10,7 +10,7 @@ use Rattle.pg_plan.specs.declared.states.State.{State}
 use Rattle.pg_ends.specs.declared.end.End.{End}
 use Rattle.pg_candidates.specs.RoomEnds.{end_of, ends_of}
 use Rattle.pg_candidates.specs.declared.room_end.RoomEnd.{RoomEnd}
-use Rattle.pg_walk_laws.specs.Candidates.{Candidate}
+use Rattle.law_walk.specs.Candidates.{Candidate}
 use Rattle.pg_flat.specs.Flat.{is_same_place}
 use Rattle.pg_lemmas.proofs.Lists.{one_more}
 use Rattle.pg_layouts.specs.declared.layout.Layout.{Layout}
@@ -18,9 +18,9 @@ use Rattle.pg_rules.specs.Floats.{called}
 use Rattle.pg_rules.specs.Follow.{turns}
 use Rattle.pg_rules.specs.Room.{Document}
 use Rattle.pg_table.specs.declared.step.Step.{Step}
-use Rattle.pg_move_laws.specs.Ages.{may_wait}
-use Rattle.pg_move_laws.specs.Listed.{calls_all, goes_on, listed_end, listed_with, placed_with}
-use Rattle.pg_move_laws.specs.Steps.{text_room}
+use Rattle.law_moves.specs.Ages.{may_wait}
+use Rattle.law_moves.specs.Listed.{calls_all, goes_on, listed_end, listed_with, placed_with}
+use Rattle.law_moves.specs.Steps.{text_room}
 use Rattle.pg_laid.specs.Laid.{laid_of}
 use Rattle.pg_laid.specs.declared.laid.Laid.{Laid}
 use Rattle.pg_rooms.specs.PlaceEnds.{AreGroups, ArePlaceEnds, ends_in, groups_in}

@@ -7,22 +7,22 @@ use Rattle.pg_ends.specs.declared.end.End.{End}
 use Rattle.pg_rules.specs.Cost.{run_demerits}
 use Rattle.pg_rules.specs.Floats.{total_count}
 use Rattle.pg_rules.specs.Follow.{fills_page, keeps_run, other_side}
-use Rattle.pg_move_laws.specs.Steps.{fitness_cost, wide_of}
+use Rattle.law_moves.specs.Steps.{fitness_cost, wide_of}
 use Rattle.pg_plan.specs.declared.pages.PageMove.{PageMove}
 use Rattle.pg_rules.specs.Room.{Document}
 use Rattle.pg_table.specs.declared.step.Step.{Step}
 use Rattle.pg_layouts.specs.declared.layout.Layout.{Layout}
-use Rattle.pg_walk_laws.specs.Candidates.{Candidate}
+use Rattle.law_walk.specs.Candidates.{Candidate}
 use Rattle.pg_candidates.specs.RoomEnds.{ends_of}
 use Rattle.pg_candidates.specs.declared.room_end.RoomEnd.{RoomEnd}
-use Rattle.pg_move_laws.specs.Laws.{AreEndsOf}
-use Rattle.pg_move_laws.specs.Listed.{calls_all, column_fits, listed_stay, listed_text, listed_with, stays_on}
+use Rattle.law_moves.specs.Laws.{AreEndsOf}
+use Rattle.law_moves.specs.Listed.{calls_all, column_fits, listed_stay, listed_text, listed_with, stays_on}
 use Rattle.pg_rooms.specs.PlaceEnds.{ends_in}
 use Rattle.pg_rooms.specs.declared.place_ends.RoomEnds.{RoomEnds}
 use Rattle.pg_waiting.specs.Settling.{Settles}
 use Rattle.pg_waiting.specs.declared.settling.Settled.{Settled}
 use Rattle.pg_laid.specs.declared.laid.Laid.{Laid}
-use Rattle.pg_space_laws.specs.PageSpace.{side_run}
+use Rattle.law_space.specs.PageSpace.{side_run}
 use Rattle.pg_moves.specs.Thinned.{Thins}
 use Rattle.pg_moves.specs.declared.behind.Behind.{Behind}
 

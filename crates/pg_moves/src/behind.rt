@@ -3,10 +3,10 @@ ghost use Rattle.std.specs.Prelude.{◌≡◌, ◌≤◌, ◌+◌, ◌*◌, ◌^
 ghost use Rattle.pg_rules.specs.Floats.{total_count};
 ghost use Rattle.pg_rules.specs.IsState.{IsState};
 ghost use Rattle.pg_rules.specs.Room.{Document};
-ghost use Rattle.pg_move_laws.specs.Steps.{fitness_cost as fitness_cost_of, kept_fitness as kept_fitness_of};
+ghost use Rattle.law_moves.specs.Steps.{fitness_cost as fitness_cost_of, kept_fitness as kept_fitness_of};
 ghost use Rattle.pg_sources.specs.Document.{doc_of};
 ghost use Rattle.pg_laid.specs.Laid.{laid_of};
-ghost use Rattle.pg_space_laws.specs.PageSpace.{rank};
+ghost use Rattle.law_space.specs.PageSpace.{rank};
 ghost use Rattle.pg_moves.specs.Stepping.{IsBehind, rank_tail};
 
 use crate::steps::{fitness_price, kept_fitness, page_price, state_behind, text_price};

@@ -5,7 +5,7 @@ ghost use Rattle.pg_candidates.specs.RoomEnds.{ends_of};
 ghost use Rattle.pg_candidates.specs.declared.room_end.RoomEnd.{RoomEnd as ARoomEnd};
 ghost use Rattle.pg_rules.specs.Floats.{called as called_of};
 ghost use Rattle.pg_rules.specs.IsState.{IsState};
-ghost use Rattle.pg_move_laws.specs.Listed.{listed_with};
+ghost use Rattle.law_moves.specs.Listed.{listed_with};
 ghost use Rattle.pg_sources.specs.Document.{doc_of};
 ghost use Rattle.pg_laid.specs.Laid.{laid_of};
 ghost use Rattle.pg_rooms.specs.PlaceEnds.{AreGroups};

@@ -1,9 +1,9 @@
 //! The columns that follow a state, in code: one step for each, with text and without.
 //!
-//! Proved: `open` gives the moves of a state in the space of pages (pg_space_laws), each once with its best picks, and
-//! the reach of its place (pg_reach_laws); `open_by` does from what is kept of the place (pg_rooms), and leaves out
+//! Proved: `open` gives the moves of a state in the space of pages (law_space), each once with its best picks, and
+//! the reach of its place (law_space); `open_by` does from what is kept of the place (pg_rooms), and leaves out
 //! what is not wanted: of each layout it asks about all ends with one state, and makes the steps that it is told to,
-//! with the picks of their candidates (`specs/Thinned`). They list what pg_move_laws lists: `text_steps` takes each
+//! with the picks of their candidates (`specs/Thinned`). They list what law_moves lists: `text_steps` takes each
 //! layout of a column of text up to a ceiling (pg_laid) with the ends in its room, group by group, and `add_stays` each
 //! of a column without text; what waits at an end and what is paid for floats comes from pg_waiting (`specs/Stepping`).
 #![tactic(auto)]

@@ -4,7 +4,7 @@ ghost use Rattle.std.specs.List.{flat_map};
 ghost use Rattle.pg_rules.specs.Floats.{float_numbers};
 ghost use Rattle.pg_rules.specs.IsState.{IsState};
 ghost use Rattle.pg_layouts.specs.Layouts.{move_of};
-ghost use Rattle.pg_move_laws.specs.Listed.{listed_stay};
+ghost use Rattle.law_moves.specs.Listed.{listed_stay};
 ghost use Rattle.pg_sources.specs.Document.{doc_of};
 ghost use Rattle.pg_laid.specs.Laid.{IsFloatLaid, laid_of};
 ghost use Rattle.pg_waiting.specs.Settling.{Settles, known_of};

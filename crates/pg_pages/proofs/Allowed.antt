@@ -17,11 +17,11 @@ use Rattle.pg_rules.specs.Floats.{float_numbers, floats, has_all, plus_counts, s
 use Rattle.pg_rules.specs.History.{context, made_wide, next_column, placed_of, wide_of, with_wide}
 use Rattle.pg_rules.specs.Legal.{Legal, breach, document}
 use Rattle.pg_rules.specs.Room.{Document, is_bottom_allowed, is_top_allowed}
-use Rattle.pg_place_laws.proofs.Callouts.{entry_zero}
-use Rattle.pg_column_laws.specs.Stands.{Stand, StandsAfter}
-use Rattle.pg_beginning_laws.proofs.Faults.{Sound, sound_of}
-use Rattle.pg_beginning_laws.proofs.PagesLaws.{later, wide_long}
-use Rattle.pg_bound_laws.proofs.Areas.{IsUpTo, wide_range}
+use Rattle.law_places.proofs.Callouts.{entry_zero}
+use Rattle.law_columns.specs.Stands.{Stand, StandsAfter}
+use Rattle.law_columns.proofs.Faults.{Sound, sound_of}
+use Rattle.law_columns.proofs.PagesLaws.{later, wide_long}
+use Rattle.law_columns.proofs.Areas.{IsUpTo, wide_range}
 use Rattle.pg_floats.specs.AreFloats.{float_total}
 use Rattle.pg_lemmas.proofs.Bools.{both_of, if_false, if_true}
 use Rattle.pg_lemmas.proofs.Numbers.{eq_no, eq_yes}

@@ -6,7 +6,7 @@ use Rattle.std.proofs.lemmas.List.{reverse-append, reverse-reverse}
 use Rattle.pg_plan.specs.Order.{columns_of}
 use Rattle.pg_plan.specs.declared.pages.Page.{Page}
 use Rattle.pg_rules.specs.Legal.{misfilled, underfilled, unless}
-use Rattle.pg_beginning_laws.proofs.Faults.{or_none, unless_none}
+use Rattle.law_columns.proofs.Faults.{or_none, unless_none}
 use Rattle.pg_lemmas.proofs.Bools.{both_of}
 use Rattle.pg_pages.specs.Sheets.{AreFilled}
 

@@ -11,8 +11,8 @@ use Rattle.pg_style.specs.Values.{StyleValue}
 use Rattle.pg_rules.specs.Floats.{entry, float_numbers, plus_counts}
 use Rattle.pg_rules.specs.History.{context, next_column, next_page, placed_of, wide_of}
 use Rattle.pg_rules.specs.Room.{Document}
-use Rattle.pg_beginning_laws.proofs.PagesLaws.{later}
-use Rattle.pg_column_laws.proofs.Waiting.{entry_plus}
+use Rattle.law_columns.proofs.PagesLaws.{later}
+use Rattle.law_columns.proofs.Waiting.{entry_plus}
 use Rattle.pg_lemmas.proofs.Bools.{if_false, if_true}
 use Rattle.pg_lemmas.proofs.Numbers.{eq_no, eq_yes}
 use Rattle.pg_pages.specs.PageText.{column_body, column_line, column_text, columns_text}

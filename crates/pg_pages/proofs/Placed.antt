@@ -8,13 +8,13 @@ use Rattle.std.proofs.lemmas.List.Sums.{sum_by-cons}
 use Rattle.pg_flat.specs.Flat.{flat}
 use Rattle.pg_rules.specs.Floats.{entry, float_numbers, floats, has_all, has_all_from, plus_counts, sizes_of}
 use Rattle.pg_rules.specs.Room.{Document}
-use Rattle.pg_bound_laws.proofs.Counts.{plus_long}
-use Rattle.pg_column_laws.proofs.Waiting.{entry_plus}
+use Rattle.law_columns.proofs.BoundCounts.{plus_long}
+use Rattle.law_columns.proofs.Waiting.{entry_plus}
 use Rattle.pg_floats.specs.AreFloats.{float_total}
 use Rattle.pg_lemmas.proofs.Bools.{both_of, by_bool, or_cases}
 use Rattle.pg_lemmas.proofs.Numbers.{less_true, not_less}
 use Rattle.pg_pages.specs.Printed.{FitTogether}
-use Rattle.pg_bound_laws.proofs.Counts.{entry_beyond}
+use Rattle.law_columns.proofs.BoundCounts.{entry_beyond}
 
 -- no class has placed more than a galley may have
 abbrev pub AreFewPlaced : List ℕ → Type 0

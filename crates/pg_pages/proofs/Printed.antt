@@ -47,17 +47,6 @@ kept_trimmed (item ∷ items) =
 
 -- ---- items that are set
 
-pub set_step : (item : Item) (items : List Item) (widths : List ℤ) →
-    set_items (item ∷ items) widths ≡ set_item item widths ++ set_items items (widths_behind item widths)
-set_step (Glue width stretch order shrink body) items [] = refl
-set_step (Glue width stretch order shrink body) items (set ∷ widths) = refl
-set_step (BoxItem height depth body) items widths = refl
-set_step (Rule height depth body) items widths = refl
-set_step (Kern width body) items widths = refl
-set_step (Penalty value body) items widths = refl
-set_step (Insert class size body) items widths = refl
-set_step (Carry body) items widths = refl
-
 -- ---- what is behind references
 
 behind_take : {X : Type 0} (n : ℕ) (xs : List (Bor X)) → behind (take n xs) ≡ take n (behind xs)

@@ -11,8 +11,8 @@ use Rattle.pg_style.specs.Values.{AreaRuleValue}
 use Rattle.pg_style.specs.declared.style.Area.{Area}
 use Rattle.pg_rules.specs.Floats.{area_height, dealt, entry, float_count, float_numbers, floats, has_all, is_area_allowed, sizes_of, takes_bottom, takes_in_column, takes_top, total_count}
 use Rattle.pg_rules.specs.Room.{ColumnContext, before_bottom, bottom_height, checked_height, full_height, is_bottom_allowed, is_text, is_top_allowed, room, top_height, wide_height}
-use Rattle.pg_bound_laws.proofs.Areas.{IsUpTo, area_range, dealt_long, dealt_range, floats_range}
-use Rattle.pg_bound_laws.proofs.Counts.{float_total}
+use Rattle.law_columns.proofs.Areas.{IsUpTo, area_range, dealt_long, dealt_range, floats_range}
+use Rattle.law_columns.proofs.BoundCounts.{float_total}
 use Rattle.pg_lemmas.proofs.Bools.{both_of}
 use Rattle.pg_pages.specs.Seated.{IsWide, MayPrint}
 

@@ -6,8 +6,8 @@ use Rattle.pg_plan.specs.declared.pages.Column.{Column}
 use Rattle.pg_plan.specs.declared.pages.Page.{Page}
 use Rattle.pg_style.specs.Values.{StyleValue}
 use Rattle.std.proofs.lemmas.Bool.{eqb-true}
-use Rattle.pg_column_laws.proofs.Counts.{total_cons}
-use Rattle.pg_bound_laws.proofs.Counts.{float_total}
+use Rattle.law_columns.proofs.ColumnCounts.{total_cons}
+use Rattle.law_columns.proofs.BoundCounts.{float_total}
 use Rattle.pg_rules.specs.Floats.{dealt, entry, plus_counts, float_count, float_numbers, floats, area_height, has_all, is_area_allowed, takes_wide, total_count}
 use Rattle.pg_rules.specs.History.{made_wide, placed_of, side_of}
 use Rattle.pg_rules.specs.Room.{Document, checked_height}

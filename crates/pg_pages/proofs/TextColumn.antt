@@ -24,8 +24,8 @@ use Rattle.pg_rules.specs.ColumnRules.{column_variants, does_fit, segment, text_
 use Rattle.pg_rules.specs.Floats.{entry, float_numbers, plus_counts, sizes_of}
 use Rattle.pg_rules.specs.Follow.{KeepsColumnRules}
 use Rattle.pg_rules.specs.Room.{ColumnContext, Document, before_bottom, class_notes, flat_items_of, is_text, items_of, notes, room, size_of}
-use Rattle.pg_beginning_laws.proofs.Faults.{none_or, none_unless}
-use Rattle.pg_bound_laws.proofs.Areas.{IsSize, sizes_range}
+use Rattle.law_columns.proofs.Faults.{none_or, none_unless}
+use Rattle.law_columns.proofs.Areas.{IsSize, sizes_range}
 use Rattle.pg_column.specs.Judged.{Judges, text_fault}
 use Rattle.pg_column.specs.Numbers.{AreNumbers}
 use Rattle.pg_column.specs.declared.cost.TextCost.{TextCost}

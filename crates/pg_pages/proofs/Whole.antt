@@ -13,7 +13,7 @@ use Rattle.pg_rules.specs.Legal.{document}
 use Rattle.pg_rules.specs.Floats.{plus_counts}
 use Rattle.pg_rules.specs.History.{made_wide, next_column, next_page, next_side, placed_of, wide_of}
 use Rattle.pg_rules.specs.Room.{Document}
-use Rattle.pg_beginning_laws.proofs.PagesLaws.{later}
+use Rattle.law_columns.proofs.PagesLaws.{later}
 use Rattle.pg_lemmas.proofs.Bools.{if_false, if_true}
 use Rattle.pg_lemmas.proofs.Numbers.{eq_no, eq_yes}
 use Rattle.pg_pages.specs.PageText.{area, head_line, page_text, column_body, column_line, column_text, columns_text, floats_text, page_head, page_line}

@@ -7,7 +7,7 @@ use Rattle.pg_plan.specs.declared.pages.Page.{Page}
 use Rattle.pg_plan.specs.declared.pages.PageMove.{PageMove}
 use Rattle.pg_style.specs.Values.{StyleValue}
 use Rattle.pg_rules.specs.History.{next_column}
-use Rattle.pg_beginning_laws.specs.Pages.{add_column, pages_from, plan_of}
+use Rattle.law_columns.specs.Pages.{add_column, pages_from, plan_of}
 use Rattle.pg_lemmas.proofs.Bools.{by_bool, if_false, if_true}
 use Rattle.pg_lemmas.proofs.Numbers.{eq_refl}
 use Rattle.std.proofs.lemmas.Bool.{eqb-true}

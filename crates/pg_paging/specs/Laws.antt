@@ -1,6 +1,6 @@
 -- The pages of columns, in the words of the contract.
 use Rattle.std.specs.Prelude.{◌≡◌, List, reverse}
-use Rattle.pg_beginning_laws.specs.Pages.{plan_of}
+use Rattle.law_columns.specs.Pages.{plan_of}
 use Rattle.pg_plan.specs.declared.pages.PageMove.{PageMove}
 use Rattle.pg_style.specs.Values.{StyleValue}
 use Rattle.pg_paging.specs.Paged.{paged}

@@ -1,6 +1,6 @@
 -- The pages that columns fill, one or two on each.
 use Rattle.std.specs.Prelude.{ℕ, ◌==◌, if◌then◌else◌, List, [], ◌∷◌, map}
-use Rattle.pg_beginning_laws.specs.Pages.{page_with}
+use Rattle.law_columns.specs.Pages.{page_with}
 use Rattle.pg_plan.specs.declared.pages.Page.{Page}
 use Rattle.pg_plan.specs.declared.pages.PageMove.{PageMove}
 

@@ -2,3 +2,4 @@ pub mod OrderLaws
 pub mod LastLemmas
 pub mod BackwardsLemmas
 pub mod PickLemmas
+pub mod InPlace

@@ -4,17 +4,19 @@
 //! are in `specs/Order`.
 #![tactic(auto)]
 
+mod ages;
 mod backwards;
 mod comparing;
+mod counts;
 mod laws;
-mod lists;
 mod pages;
+mod picks;
 mod states;
-#[cfg(test)]
-mod tests;
 
+pub use ages::Ages;
 pub use comparing::{compare, compare_moves, compare_picks, compare_places};
+pub use counts::Counts;
 pub use laws::{equal_moves_are_same, moves_are_ordered, paginations_are_ordered};
-pub use lists::{Ages, Counts, Picks};
 pub use pages::{Column, Columns, Moves, Page, PageMove, Pages, Pagination};
+pub use picks::Picks;
 pub use states::{Label, LabelList, PageKey, Side, State};

@@ -1,7 +1,8 @@
 //! Paginations, pages, columns and moves.
 ghost use Rattle.std.specs.Prelude.{◌≡◌, IfOk, ◌++◌, OnOk, OnErr, ◌∷◌, [], length};
 
-use crate::lists::{Counts, Picks};
+use crate::counts::Counts;
+use crate::picks::Picks;
 use pg_list::Place;
 use std::alloc::{AllocError, Global};
 use std::marker::Model;

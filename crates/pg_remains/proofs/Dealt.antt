@@ -12,7 +12,7 @@ use Rattle.pg_rules.specs.Legal.{has_dealt_all}
 use Rattle.pg_rules.specs.Room.{Document}
 use Rattle.pg_lemmas.proofs.Bools.{both_ways}
 use Rattle.pg_lemmas.proofs.Numbers.{eq_yes}
-use Rattle.pg_place_laws.proofs.Among.{all_same}
+use Rattle.law_places.proofs.Among.{all_same}
 use Rattle.pg_areas.specs.Counts.{cap, capped}
 use Rattle.pg_areas.proofs.Capped.{AreFew, entry_capped}
 

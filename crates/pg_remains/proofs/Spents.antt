@@ -11,7 +11,7 @@ use Rattle.pg_list.specs.Shapes.{IsBlock}
 use Rattle.pg_flat.specs.Flat.{FlatItem, blocks_at, end_of, flat_items_at, flat_items_from, is_same_place, picked_variants, steps_to}
 use Rattle.pg_flat.proofs.Places.{picked_few, same_place}
 use Rattle.pg_rules.specs.IsState.{IsPlace}
-use Rattle.pg_place_laws.proofs.Tests.{place_refl}
+use Rattle.law_places.proofs.Tests.{place_refl}
 use Rattle.pg_column.specs.Ahead.{is_front, item_place}
 use Rattle.pg_column.proofs.Ahead.{IsSettled, Named}
 use Rattle.pg_column.proofs.Leads.{position_here}

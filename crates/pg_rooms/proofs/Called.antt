@@ -15,16 +15,6 @@ use Rattle.pg_rooms.specs.declared.calls.Call.{Call}
 pub no_calls : (doc : Document) (calls : List Call) → calls ≡ [] → AreCalls doc calls
 no_calls doc calls none = subst (AreCalls doc) (sym none) (record { all = tt })
 
--- one call more
-pub call_more : (doc : Document) (calls now : List Call) (i : ℕ) (call : Call) → now ≡ insert calls i call →
-    IsLike doc call.like call.at → AreCalls doc calls → AreCalls doc now
-call_more doc calls now i call put own are =
-    let P = λ (it : Call). IsLike doc it.like it.at in
-    record {
-      all = subst (AllByRecursion P) (sym put) (all_append P (take i calls) (call ∷ drop i calls)
-          (all_take P i calls are.all) (own, all_drop P i calls are.all));
-    }
-
 -- a place before which so many floats are called as before another one
 pub some_like : (doc : Document) (at : Place) (counts : List ℕ) (o : Option Place) →
     counts ≡ called doc.blocks doc.style at → IfSome o (λ like. called doc.blocks doc.style like ≡ counts) →

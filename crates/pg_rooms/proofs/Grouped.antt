@@ -18,15 +18,6 @@ use Rattle.pg_rooms.proofs.Called.{none_called}
 use Rattle.pg_rooms.specs.PlaceEnds.{AreGroups}
 use Rattle.pg_rooms.specs.declared.grouping.Group.{Group}
 
--- places that are equal number by number are one
-pub one_place : (a b : Place) (r : Bool) →
-    r ≡ ((a.block == b.block) && ((a.variant == b.variant) && (a.index == b.index))) → r ≡ true → a ≡ b
-one_place a b r e t =
-    let s = both_of (a.block == b.block) ((a.variant == b.variant) && (a.index == b.index)) (sym e ∙ t) in
-    let u = both_of (a.variant == b.variant) (a.index == b.index) s.1 in
-    same_place a b (both ((a.block == b.block) && (a.variant == b.variant)) (a.index == b.index)
-    (both (a.block == b.block) (a.variant == b.variant) s.0 u.0) u.1)
-
 -- counts that are equal one by one are the same
 pub one_list : (a b : List ℕ) (r : Bool) → r ≡ pointwise (λ (x y : ℕ). x == y) a b → r ≡ true → a ≡ b
 one_list a b r e t = (slice_eq-Decides unsigned_Decides a b r e).0 t

@@ -12,8 +12,8 @@ use Rattle.pg_laid.specs.declared.laid.Laid.{Laid}
 use Rattle.pg_list.specs.declared.galley.Place.{Place}
 use Rattle.pg_rules.specs.Room.{Document}
 use Rattle.pg_walk.specs.declared.place.PlaceWalk.{PlaceWalk}
-use Rattle.pg_walk_laws.specs.Candidates.{Candidate}
-use Rattle.pg_walk_laws.specs.Reached.{tallest}
+use Rattle.law_walk.specs.Candidates.{Candidate}
+use Rattle.law_walk.specs.Reached.{tallest}
 use Rattle.pg_candidates.specs.Nears.{AreNearFrom}
 use Rattle.pg_candidates.specs.RoomEnds.{ends_of}
 use Rattle.pg_candidates.specs.declared.room_end.RoomEnd.{RoomEnd}
@@ -88,16 +88,6 @@ has_more rooms now laid i it less is all own keeps =
         AllByRecursion (λ (x : Laid). has_room now x.room ≡ true) xs
     still [] a = tt
     still (x ∷ xs) a = (keeps x.room a.0, still xs a.1)
-
--- each of all is kept
-pub has_each : (rooms : List RoomEnds) (laid : List Laid) (i : ℕ) → i ≡ length laid →
-    AllByRecursion (λ (x : Laid). has_room rooms x.room ≡ true) (take i laid) → (it : Laid) → Contains laid it →
-    has_room rooms it.room ≡ true
-has_each rooms laid i done all it c = all_contain (λ (x : Laid). has_room rooms x.room ≡ true) laid it
-    (subst (AllByRecursion (λ (x : Laid). has_room rooms x.room ≡ true))
-    (ap (λ (n : ℕ). take n laid) done ∙ take-length laid) all) c
-
--- ---- for callers
 
 -- a walk with no room asked for is kept of its place, with the calls of any places
 pub begun : (doc : Document) (from : Place) (it : PlaceEnds) (walk : PlaceWalk) (calls : Calls) → it.walk ≡ walk →

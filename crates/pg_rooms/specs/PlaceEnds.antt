@@ -6,8 +6,8 @@ use Rattle.pg_list.specs.declared.galley.Place.{Place}
 use Rattle.pg_ends.specs.Ends.{AreEnds}
 use Rattle.pg_rules.specs.Floats.{called}
 use Rattle.pg_rules.specs.Room.{Document}
-use Rattle.pg_walk_laws.specs.Candidates.{Candidate}
-use Rattle.pg_walk_laws.specs.Reached.{tallest}
+use Rattle.law_walk.specs.Candidates.{Candidate}
+use Rattle.law_walk.specs.Reached.{tallest}
 use Rattle.pg_candidates.specs.Nears.{AreNearFrom}
 use Rattle.pg_candidates.specs.RoomEnds.{ends_of}
 use Rattle.pg_candidates.specs.declared.room_end.RoomEnd.{RoomEnd}

@@ -3,7 +3,7 @@ ghost use Rattle.std.specs.Prelude.{◌≡◌, ◌<◌, ◌^◌, ◌≤ℤ◌, [
 ghost use Rattle.std.specs.List.{AllByRecursion};
 ghost use Rattle.std.specs.Ordering.{int_eq};
 ghost use Rattle.pg_list.specs.declared.galley.Place.{Place as APlace};
-ghost use Rattle.pg_walk_laws.specs.Reached.{tallest};
+ghost use Rattle.law_walk.specs.Reached.{tallest};
 ghost use Rattle.pg_laid.specs.declared.laid.Laid.{Laid as ALaid};
 ghost use Rattle.pg_sources.specs.Document.{doc_of};
 ghost use Rattle.pg_rooms.specs.Calls.{AreCalls};

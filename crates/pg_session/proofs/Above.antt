@@ -23,17 +23,17 @@ use Rattle.pg_rules.specs.Ranges.{AreInRange}
 use Rattle.pg_rules.specs.NoWorse.{is_same_key}
 use Rattle.pg_rules.specs.Reach.{IsReach}
 use Rattle.pg_rules.specs.States.{state_of}
-use Rattle.pg_member_laws.proofs.Members.{among_contains}
-use Rattle.pg_place_laws.proofs.Among.{Among}
-use Rattle.pg_place_laws.specs.Past.{IsPast}
-use Rattle.pg_place_laws.proofs.Measures.{place_within}
-use Rattle.pg_place_laws.proofs.Places.{ends_at}
-use Rattle.pg_reach_laws.proofs.ReachAt.{reach_is}
-use Rattle.pg_reach_laws.specs.ReachAt.{reach_at}
+use Rattle.law_places.proofs.Members.{among_contains}
+use Rattle.law_places.proofs.Among.{Among}
+use Rattle.law_places.specs.Past.{IsPast}
+use Rattle.law_places.proofs.Measures.{place_within}
+use Rattle.law_places.proofs.Places.{ends_at}
+use Rattle.law_space.proofs.ReachAt.{reach_is}
+use Rattle.law_space.specs.ReachAt.{reach_at}
 use Rattle.pg_space.specs.declared.solving.Outcome.{Outcome}
-use Rattle.pg_space_laws.proofs.Bounds.{pages_lawful}
-use Rattle.pg_space_laws.proofs.Contracts.{beginnings_are_runs}
-use Rattle.pg_space_laws.specs.PageSpace.{wide_meaning}
+use Rattle.law_space.proofs.Bounds.{pages_lawful}
+use Rattle.law_space.proofs.SpaceContracts.{beginnings_are_runs}
+use Rattle.law_space.specs.PageSpace.{wide_meaning}
 use Rattle.pg_table.proofs.Runs.{own}
 use Rattle.pg_session.specs.SessionValue.{SessionValue}
 use Rattle.pg_session.specs.Sessions.{IsSolved, above_all, labels_reaching}

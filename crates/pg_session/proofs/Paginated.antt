@@ -13,8 +13,8 @@ use Rattle.pg_rules.specs.Legal.{document}
 use Rattle.pg_rules.specs.Ranges.{AreInRange}
 use Rattle.pg_space.specs.PagesLawful.{key_test, pages_lawful}
 use Rattle.pg_space.specs.Solves.{Solves}
-use Rattle.pg_space_laws.specs.Laws.{TellsAll, label_of}
-use Rattle.pg_space_laws.specs.PageSpace.{page_meaning}
+use Rattle.law_space.specs.SpaceLaws.{TellsAll, label_of}
+use Rattle.law_space.specs.PageSpace.{page_meaning}
 use Rattle.pg_table.proofs.BelowLemmas.{right_below_all}
 use Rattle.pg_table.specs.Searching.{count_reaching}
 use Rattle.pg_session.proofs.Reaching.{reaching_same}

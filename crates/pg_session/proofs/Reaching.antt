@@ -11,11 +11,11 @@ use Rattle.pg_plan.specs.declared.states.Label.{Label}
 use Rattle.pg_plan.specs.declared.states.State.{State}
 use Rattle.pg_style.specs.Values.{StyleValue}
 use Rattle.pg_rules.specs.Legal.{document}
-use Rattle.pg_member_laws.proofs.Members.{among_contains}
-use Rattle.pg_place_laws.proofs.Among.{Among}
-use Rattle.pg_reach_laws.specs.ReachAt.{reach_at}
-use Rattle.pg_space_laws.specs.Laws.{label_of}
-use Rattle.pg_space_laws.specs.PageSpace.{page_meaning}
+use Rattle.law_places.proofs.Members.{among_contains}
+use Rattle.law_places.proofs.Among.{Among}
+use Rattle.law_space.specs.ReachAt.{reach_at}
+use Rattle.law_space.specs.SpaceLaws.{label_of}
+use Rattle.law_space.specs.PageSpace.{page_meaning}
 use Rattle.pg_table.specs.Label.{IsTable}
 use Rattle.pg_table.specs.Searching.{count_reaching}
 use Rattle.pg_table.specs.declared.table.Entry.{Entry}

@@ -8,8 +8,8 @@ use Rattle.pg_style.specs.Values.{StyleValue}
 use Rattle.pg_rules.specs.Legal.{document}
 use Rattle.pg_rules.specs.Ranges.{AreInRange}
 use Rattle.pg_rules.specs.Reach.{AgreeBelow, touched}
-use Rattle.pg_agree_laws.specs.Agreeing.{AgreeLess, EditsAgree, PagesAgree}
-use Rattle.pg_space_laws.specs.PageSpace.{page_meaning}
+use Rattle.law_edits.specs.Agreeing.{AgreeLess, EditsAgree, PagesAgree}
+use Rattle.law_space.specs.PageSpace.{page_meaning}
 use Rattle.pg_table.proofs.BelowLemmas.{right_below_less, right_there}
 use Rattle.pg_space.specs.PagesLawful.{key_test, pages_lawful}
 use Rattle.pg_session.specs.Edits.{edited}

@@ -6,7 +6,7 @@ use Rattle.pg_list.specs.declared.galley.Edit.{Edit}
 use Rattle.pg_plan.specs.declared.states.Label.{Label}
 use Rattle.pg_plan.specs.declared.states.Side.TheVariants.{S}
 use Rattle.pg_rules.proofs.Examples.{at, insert, line, plain, ten_lines}
-use Rattle.pg_reach_laws.specs.ReachAt.{reach_at}
+use Rattle.law_space.specs.ReachAt.{reach_at}
 use Rattle.pg_session.specs.Edits.{edit_fault}
 use Rattle.pg_session.specs.Sessions.{above_all, labels_reaching}
 use Rattle.pg_edits.specs.declared.script.ScriptStep.TheVariants.{Change, Show as Shows}

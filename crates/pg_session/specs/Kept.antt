@@ -13,7 +13,7 @@ use Rattle.pg_rules.specs.Frontier.{Frontier}
 use Rattle.pg_rules.specs.Legal.{document}
 use Rattle.pg_rules.specs.Ranges.{AreInRange}
 use Rattle.pg_rules.specs.Reach.{touched}
-use Rattle.pg_space_laws.specs.PageSpace.{page_meaning}
+use Rattle.law_space.specs.PageSpace.{page_meaning}
 use Rattle.pg_table.specs.Below.{IsRightBelow}
 use Rattle.pg_table.specs.Label.{IsTable}
 use Rattle.pg_table.specs.declared.table.Entry.{Entry}

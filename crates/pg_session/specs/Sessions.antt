@@ -10,7 +10,7 @@ use Rattle.pg_style.specs.Values.{StyleValue}
 use Rattle.pg_rules.specs.Frontier.{Frontier}
 use Rattle.pg_rules.specs.Legal.{document}
 use Rattle.pg_rules.specs.Reach.{touched}
-use Rattle.pg_reach_laws.specs.ReachAt.{reach_at}
+use Rattle.law_space.specs.ReachAt.{reach_at}
 use Rattle.pg_space.specs.Solves.{Solves}
 use Rattle.pg_space.specs.declared.solving.Outcome.{Outcome}
 use Rattle.pg_session.specs.Edits.{edited}

@@ -12,8 +12,6 @@ mod kept;
 mod parts;
 mod session;
 mod solving;
-#[cfg(test)]
-mod tests;
 mod told;
 
 pub use pg_edits::EditFault;

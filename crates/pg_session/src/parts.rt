@@ -7,7 +7,7 @@ ghost use Rattle.pg_rules.specs.Reach.{touched};
 ghost use Rattle.pg_session.specs.Edits.{Refuses, edited, floats_fault, splice_fault};
 ghost use Rattle.pg_session.specs.Kept.{StaysRight};
 
-use pg_agree_laws::{edits_agree, pages_agree};
+use law_edits::{edits_agree, pages_agree};
 use pg_edits::EditFault;
 use pg_floats::{FloatFault, FloatList};
 use pg_list::{Edit, Galley, SpliceFault};

@@ -10,7 +10,7 @@ use Rattle.pg_style.specs.Values.{StyleValue}
 use Rattle.pg_floats.specs.FloatsValue.{ClassFloatsValue}
 use Rattle.pg_rules.specs.Floats.{called, entry, float_numbers, floats}
 use Rattle.pg_areas.specs.Given.{IsListOf}
-use Rattle.pg_move_laws.proofs.Ceilings.{called_few}
+use Rattle.law_moves.proofs.Ceilings.{called_few}
 
 counts_few : (lists : List (List ℤ)) (slot : ℕ) →
     entry (map (λ (sizes : List ℤ). length sizes) lists) slot ≤ sum_by (λ (sizes : List ℤ). length sizes) lists

@@ -16,8 +16,8 @@ use Rattle.pg_table.specs.declared.step.Opened.{Opened}
 use Rattle.pg_table.specs.declared.step.Step.{Step}
 use Rattle.pg_table.proofs.Spared.{all_wanted}
 use Rattle.pg_lemmas.proofs.Bools.{by_bool}
-use Rattle.pg_space_laws.specs.PageSpace.{page_meaning}
-use Rattle.pg_space_laws.proofs.Merely.{alike_columns, best_prop, equal, is_by, itself, step_is}
+use Rattle.law_space.specs.PageSpace.{page_meaning}
+use Rattle.law_space.proofs.Merely.{alike_columns, best_prop, equal, is_by, itself, step_is}
 
 -- ---- any space
 

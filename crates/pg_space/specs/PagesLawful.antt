@@ -14,8 +14,8 @@ use Rattle.pg_rules.specs.Legal.{document}
 use Rattle.pg_rules.specs.NoWorse.{is_same_key, is_same_side, is_same_number, is_same_whole, are_same_counts}
 use Rattle.pg_rules.specs.Ranges.{AreInRange}
 use Rattle.pg_table.specs.Space.{Lawful, Meaning}
-use Rattle.pg_space_laws.specs.PageSpace.{page_meaning}
-use Rattle.pg_space_laws.proofs.Contracts.{best_lawful}
+use Rattle.law_space.specs.PageSpace.{page_meaning}
+use Rattle.law_space.proofs.SpaceContracts.{best_lawful}
 
 -- an equality that answers as another has its laws
 relawful : {S M K : Type 0} (eq other : K → K → Bool) (sp : Meaning S M K) →

@@ -6,12 +6,12 @@ ghost use Rattle.pg_hops.specs.Index.{AreHops};
 ghost use Rattle.pg_hops.specs.OneProof.{AreHops_prop};
 ghost use Rattle.pg_list.specs.GalleyValue.{GalleyValue};
 ghost use Rattle.pg_sources.specs.Document.{doc_of};
-ghost use Rattle.pg_reach_laws.specs.ReachAt.{reach_at};
+ghost use Rattle.law_space.specs.ReachAt.{reach_at};
 ghost use Rattle.pg_rooms.specs.Calls.{AreCalls};
 ghost use Rattle.pg_rooms.specs.PlaceEnds.{ArePlaceEnds};
 ghost use Rattle.pg_rules.specs.IsState.{IsPlace, IsState};
 ghost use Rattle.pg_rules.specs.Legal.{document};
-ghost use Rattle.pg_space_laws.specs.PageSpace.{page_meaning};
+ghost use Rattle.law_space.specs.PageSpace.{page_meaning};
 ghost use Rattle.pg_style.specs.Plain.{plain};
 ghost use Rattle.pg_style.specs.Values.{StyleValue};
 ghost use Rattle.pg_table.specs.Space.{AreWanted};
@@ -192,7 +192,7 @@ impl<D: Document> Space for KeptPages<'_, D> {
     type Key = PageKey;
 
     ghost use Rattle.pg_sources.specs.Document.{doc_of};
-    ghost use Rattle.pg_space_laws.specs.PageSpace.{page_meaning};
+    ghost use Rattle.law_space.specs.PageSpace.{page_meaning};
     ghost use Rattle.pg_space.specs.PagesLawful.{pages_lawful};
 
     ghost meaning = { λ s. page_meaning (doc_of s.pages.sources) };

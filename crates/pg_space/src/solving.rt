@@ -7,7 +7,7 @@ ghost use Rattle.pg_floats.specs.AreFloats.{AreFloats};
 ghost use Rattle.pg_hops.specs.Index.{AreHops};
 ghost use Rattle.pg_rules.specs.Legal.{document};
 ghost use Rattle.pg_sources.specs.Document.{doc_of};
-ghost use Rattle.pg_space_laws.specs.PageSpace.{page_meaning};
+ghost use Rattle.law_space.specs.PageSpace.{page_meaning};
 ghost use Rattle.pg_table.specs.Below.{IsRightBelow};
 ghost use Rattle.pg_table.specs.Label.{IsBestOf, IsTable};
 ghost use Rattle.pg_table.specs.Searching.{count_reaching};

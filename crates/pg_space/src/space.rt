@@ -1,18 +1,17 @@
 //! Pages as a space for the table.
 ghost use Rattle.std.specs.Prelude.{◌≡◌, reverse, List, IfOk, IsTrue, ◌↔◌};
-ghost use Rattle.pg_beginning_laws.specs.Pages.{plan_of};
+ghost use Rattle.law_columns.specs.Pages.{plan_of};
 ghost use Rattle.pg_floats.specs.AreFloats.{AreFloats};
 ghost use Rattle.pg_sources.specs.Document.{doc_of};
-ghost use Rattle.pg_plan.specs.Order.{columns};
 ghost use Rattle.pg_plan.specs.declared.pages.PageMove.{PageMove as AMove};
 ghost use Rattle.pg_plan.specs.declared.states.State.{State as AState};
 ghost use Rattle.pg_rules.specs.IsState.{IsState};
-ghost use Rattle.pg_space_laws.specs.Laws.{TellsAll};
-ghost use Rattle.pg_space_laws.specs.PageSpace.{page_meaning};
+ghost use Rattle.law_space.specs.SpaceLaws.{TellsAll};
+ghost use Rattle.law_space.specs.PageSpace.{page_meaning};
 ghost use Rattle.pg_table.specs.Label.{IsTable};
 ghost use Rattle.pg_table.specs.declared.table.Entry.{Entry};
 
-use crate::columns::moves_in;
+use law_space::filled_table_tells_all;
 use pg_floats::FloatList;
 use pg_list::Galley;
 use pg_moves::open;
@@ -20,7 +19,6 @@ use pg_paging::{columns_are_paged, pages_of};
 use pg_plan::{Moves, PageKey, Pagination, State};
 use pg_small::{SmallMove, SmallState};
 use pg_sources::Sources;
-use pg_space_laws::filled_table_tells_all;
 use pg_states::{is_done, is_state, key_of, no_worse, rank_of, start};
 use pg_steps::Steps;
 use pg_style::Style;
@@ -72,13 +70,6 @@ impl<'a> PageSpace<'a> {
         })
     }
 
-    /// The columns of a pagination as moves, in order.
-    pub fn run_of(&self, plan: &Pagination) -> Result<Moves, AllocError>
-        ensures { IfOk result (λ moves. reverse moves ≡ columns plan.now) }
-    {
-        moves_in(self.sources.alloc, plan)
-    }
-
     /// A filled table of the space tells the best pagination with its cost, that none is legal where no label is
     /// done, and the frontier.
     pub fn table_tells_all(&self)
@@ -97,7 +88,7 @@ impl Space for PageSpace<'_> {
     type Key = PageKey;
 
     ghost use Rattle.pg_sources.specs.Document.{doc_of};
-    ghost use Rattle.pg_space_laws.specs.PageSpace.{page_meaning};
+    ghost use Rattle.law_space.specs.PageSpace.{page_meaning};
     ghost use Rattle.pg_space.specs.PagesLawful.{pages_lawful};
 
     ghost meaning = { λ s. page_meaning (doc_of s.sources) };

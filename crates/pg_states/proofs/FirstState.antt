@@ -9,7 +9,7 @@ use Rattle.pg_rules.specs.Floats.{called, entry, float_numbers, numbered}
 use Rattle.pg_rules.specs.History.{is_right, next_run, placed_of, side_of}
 use Rattle.pg_rules.specs.Room.{Document}
 use Rattle.pg_rules.specs.States.{age, state_at, waiting}
-use Rattle.pg_place_laws.proofs.Callouts.{entry_zero}
+use Rattle.law_places.proofs.Callouts.{entry_zero}
 use Rattle.pg_lemmas.proofs.Bools.{either_way}
 
 zeros : (from n : ℕ) → replicate {A = ℕ} n 0 ≡ map (λ (slot : ℕ). 0) (range_with_len from n)

@@ -2,7 +2,7 @@
 use Rattle.std.proofs.Common.{◌≡◌, sym, ap, ◌∙◌, ℕ, zero, suc, ◌+◌, ◌-◌, ◌<◌, List, map, take, drop, arith, Bool, true, false}
 use Rattle.std.specs.Prelude.{◌&&◌, nat_lt}
 use Rattle.std.specs.List.{list_all, range_with_len}
-use Rattle.pg_move_laws.specs.StateTest.{young_by}
+use Rattle.law_moves.specs.StateTest.{young_by}
 
 -- the ages of the first slot that is left, and those behind it
 young_first : (limit f : ℕ → ℕ) (slot left : ℕ) (ages : List ℕ) → 0 < left →

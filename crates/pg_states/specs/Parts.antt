@@ -4,8 +4,8 @@ use Rattle.pg_plan.specs.declared.states.State.{State}
 use Rattle.pg_rules.specs.Floats.{called, distance_table, entry, total_count}
 use Rattle.pg_rules.specs.IsState.{has_side}
 use Rattle.pg_rules.specs.Room.{Document}
-use Rattle.pg_move_laws.specs.Ages.{waits_of}
-use Rattle.pg_move_laws.specs.StateTest.{has_fields, has_floats, has_run_field, young_by}
+use Rattle.law_moves.specs.Ages.{waits_of}
+use Rattle.law_moves.specs.StateTest.{has_fields, has_floats, has_run_field, young_by}
 
 -- how many floats of a slot are called before a state and not placed
 abbrev pub waits_in : Document → State → ℕ → ℕ

@@ -2,8 +2,8 @@
 ghost use Rattle.std.specs.Prelude.{◌≡◌, ◌≤◌, ◌<◌, ◌-◌, ◌^◌, ◌*◌, nat_lt, length};
 ghost use Rattle.std.specs.List.{list_all};
 ghost use Rattle.pg_rules.specs.Floats.{called, distance_table, entry as entry_of, total_count};
-ghost use Rattle.pg_move_laws.specs.Ages.{waits_of};
-ghost use Rattle.pg_move_laws.specs.StateTest.{young_by};
+ghost use Rattle.law_moves.specs.Ages.{waits_of};
+ghost use Rattle.law_moves.specs.StateTest.{young_by};
 ghost use Rattle.pg_sources.specs.Document.{doc_of};
 ghost use Rattle.pg_states.specs.Parts.{waits_in};
 

@@ -1,6 +1,6 @@
 //! Whether floats are called before a place.
 ghost use Rattle.std.specs.Prelude.{◌≡◌};
-ghost use Rattle.pg_move_laws.specs.Listed.{calls_all as calls_all_of};
+ghost use Rattle.law_moves.specs.Listed.{calls_all as calls_all_of};
 ghost use Rattle.pg_sources.specs.Document.{doc_of};
 ghost use Rattle.pg_states.specs.Called.{is_slot_called};
 

@@ -6,13 +6,13 @@ ghost use Rattle.pg_rules.specs.Floats.{total_count};
 ghost use Rattle.pg_rules.specs.IsState.{IsState};
 ghost use Rattle.pg_rules.specs.NoWorse.{is_same_side};
 ghost use Rattle.pg_sources.specs.Document.{doc_of};
-ghost use Rattle.pg_space_laws.specs.PageSpace.{place_rank as place_rank_of, rank, side_run as side_run_of};
+ghost use Rattle.law_space.specs.PageSpace.{place_rank as place_rank_of, rank, side_run as side_run_of};
 
+use law_space::ranks_fit;
 use pg_areas::total;
 use pg_plan::Side;
 use pg_small::SmallState;
 use pg_sources::Sources;
-use pg_space_laws::ranks_fit;
 
 /// What the place of a state gives to its rank: block, variant and index as one number, the block first.
 pub fn place_rank(state: &SmallState) -> u64

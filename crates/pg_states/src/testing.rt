@@ -5,14 +5,14 @@ ghost use Rattle.pg_flat.specs.Flat.{end_of, is_same_place};
 ghost use Rattle.pg_plan.specs.declared.states.Side.TheVariants.{R};
 ghost use Rattle.pg_rules.specs.IsState.{IsState, has_side as has_side_of, not_first, not_some};
 ghost use Rattle.pg_rules.specs.NoWorse.{is_same_side};
-ghost use Rattle.pg_move_laws.specs.StateTest.{has_column as has_column_of, has_fields as has_fields_of, has_floats as has_floats_of, has_place as has_place_of, has_run_field as has_run_field_of, is_state as is_state_of};
+ghost use Rattle.law_moves.specs.StateTest.{has_column as has_column_of, has_fields as has_fields_of, has_floats as has_floats_of, has_place as has_place_of, has_run_field as has_run_field_of, is_state as is_state_of};
 ghost use Rattle.pg_sources.specs.Document.{doc_of};
 ghost use Rattle.pg_states.specs.Parts.{has_ages as has_ages_of, has_page as has_page_of, has_rest as has_rest_of};
 
 use crate::ages::{are_young, count_all_waiting};
 use crate::called::calls_all;
+use law_moves::states_are_tested;
 use pg_list::{Galley, Place, items_around};
-use pg_move_laws::states_are_tested;
 use pg_plan::{Side, State};
 use pg_sources::Sources;
 use pg_style::{First, Style};

@@ -8,9 +8,9 @@ use Rattle.pg_flat.specs.Flat.{FlatItem}
 use Rattle.pg_lemmas.proofs.Bools.{if_true}
 use Rattle.pg_rules.specs.Room.{Document}
 use Rattle.pg_column.specs.Passed.{Passed, fits, pass_item, pass_items}
-use Rattle.pg_walk_laws.specs.Reached.{reach_along}
-use Rattle.pg_walk_laws.specs.Walk.{past_stretch}
-use Rattle.pg_walk_laws.proofs.Stretches.{items_fit}
+use Rattle.law_walk.specs.Reached.{reach_along}
+use Rattle.law_walk.specs.Walk.{past_stretch}
+use Rattle.law_walk.proofs.Stretches.{items_fit}
 use Rattle.pg_stretch.specs.declared.cursor.Cursor.{Cursor}
 use Rattle.pg_stretch.specs.Ahead.{IsSettled, front_ahead, item_ahead, items_ahead, place_ahead, settled, stepped}
 use Rattle.pg_stretch.proofs.Cursors.{IsDone, ahead_is, done}

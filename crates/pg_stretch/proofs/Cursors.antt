@@ -16,7 +16,7 @@ use Rattle.pg_breaks.proofs.Lists.{get_lt}
 use Rattle.pg_column.proofs.Ahead.{at_front, drop_at, inside, none_inside}
 use Rattle.pg_column.proofs.Spans.{index_small, item_range}
 use Rattle.pg_lemmas.proofs.Numbers.{suc_not}
-use Rattle.pg_walk_laws.specs.Walk.{first_front, first_items, next_front, singles}
+use Rattle.law_walk.specs.Walk.{first_front, first_items, next_front, singles}
 use Rattle.pg_stretch.specs.declared.cursor.Cursor.{Cursor}
 use Rattle.pg_stretch.specs.Ahead.{IsSettled, before, begun, front_ahead, is_behind, item_ahead, items_ahead, place_ahead, settled, single_in, stepped}
 
@@ -209,16 +209,5 @@ begun_items blocks from = settled_items blocks (begun from) ∙ cases (from.inde
         ≡ (if t then singles from.block (drop from.block blocks)
         else drop from.index (variant_flat_items from.block from.variant (items_around blocks from))
         ++ singles (from.block + 1) (drop (from.block + 1) blocks))
-    cases true = refl
-    cases false = refl
-
-pub begun_front : (blocks : List Block) (from : Place) →
-    front_ahead blocks (settled blocks (begun from)) ≡ first_front blocks from
-begun_front blocks from = settled_front blocks (begun from) ∙ cases (from.index == 0)
-  where
-    cases : (t : Bool) → front_ahead blocks (if t then before from.block
-        else record { block = from.block; variant = from.variant; index = from.index; is_inner = true })
-        ≡ (if t then next_front from.block (drop from.block blocks)
-        else next_front (from.block + 1) (drop (from.block + 1) blocks))
     cases true = refl
     cases false = refl

@@ -11,7 +11,7 @@ use Rattle.pg_list.proofs.Sizes.{item_count_cons, picked_le}
 use Rattle.pg_flat.specs.Flat.{variant_flat_items}
 use Rattle.pg_breaks.proofs.Walk.{variant_length}
 use Rattle.pg_column.proofs.Ahead.{drop_at, drop_none}
-use Rattle.pg_walk_laws.specs.Walk.{first_front, first_items, next_front, picked_front, picked_stretch, singles}
+use Rattle.law_walk.specs.Walk.{first_front, first_items, next_front, picked_front, picked_stretch, singles}
 
 pub singles_left : (blocks : List Block) (n : ℕ) →
     length (singles n (drop n blocks)) + item_count (drop (next_front n (drop n blocks)) blocks)

@@ -19,8 +19,8 @@ use Rattle.pg_notes.specs.declared.sums.NoteSum.{NoteSum}
 use Rattle.pg_notes.specs.NotesValue.{heights, note_height as class_height}
 use Rattle.pg_notes.specs.Step.{grown, no_note, with_insert, with_note}
 use Rattle.pg_column.specs.Passed.{Passed, fits, is_end_here, least_room, pass_items, raised}
-use Rattle.pg_walk_laws.specs.Reached.{quiet, reach_along}
-use Rattle.pg_walk_laws.specs.Walk.{past_stretch}
+use Rattle.law_walk.specs.Reached.{quiet, reach_along}
+use Rattle.law_walk.specs.Walk.{past_stretch}
 use Rattle.pg_stretch.specs.declared.cursor.Cursor.{Cursor}
 use Rattle.pg_stretch.specs.Ahead.{IsSettled, item_ahead, items_ahead}
 use Rattle.pg_stretch.specs.Quiet.{is_quiet, passed_along}

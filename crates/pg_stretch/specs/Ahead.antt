@@ -6,7 +6,7 @@ use Rattle.pg_list.specs.declared.blocks.Block.TheVariants.{One, Choice}
 use Rattle.pg_list.specs.declared.galley.Place.{Place}
 use Rattle.pg_list.specs.Places.{item_at, items_around, place}
 use Rattle.pg_flat.specs.Flat.{FlatItem, variant_flat_items}
-use Rattle.pg_walk_laws.specs.Walk.{next_front, singles}
+use Rattle.law_walk.specs.Walk.{next_front, singles}
 use Rattle.pg_stretch.specs.declared.cursor.Cursor.{Cursor}
 
 -- the item of a block that is one item

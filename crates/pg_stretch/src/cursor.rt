@@ -7,7 +7,7 @@ ghost use Rattle.pg_list.specs.Ranges.{IsItemInRange};
 ghost use Rattle.pg_list.specs.Shapes.{IsBlock};
 ghost use Rattle.pg_list.specs.declared.item.Item.{Item as AnItem};
 ghost use Rattle.pg_breaks.specs.Near.{place_penalty};
-ghost use Rattle.pg_walk_laws.specs.Walk.{first_front, first_items, picked_front, picked_stretch};
+ghost use Rattle.law_walk.specs.Walk.{first_front, first_items, picked_front, picked_stretch};
 ghost use Rattle.pg_stretch.specs.Ahead.{IsSettled, begun as begun_of, front_ahead, item_ahead, items_ahead, place_ahead, settled as settled_of, single_in, stepped as stepped_of};
 ghost use Rattle.pg_stretch.specs.Told.{told as told_of};
 

@@ -1,15 +1,13 @@
 -- One more class among those in order.
-use Rattle.std.proofs.Common.{◌≡◌, ◌∙◌, refl, ap, subst, arith, ℕ, ◌+◌, ◌<◌, List, [], ◌∷◌, length, Bool, true, false, Option, Some, None, suc}
-use Rattle.std.specs.Prelude.{Result, Ok, Err, OnOk, IsOk, ◌==◌, nat_lt, if◌then◌else◌}
-use Rattle.std.specs.List.{AllByRecursion, insert, prefix_len}
+use Rattle.std.proofs.Common.{◌≡◌, ◌∙◌, refl, sym, ap, subst, arith, ℕ, ◌+◌, ◌<◌, ◌≤◌, List, [], ◌∷◌, length, take, Bool, true, false, Option, Some, None, suc}
+use Rattle.std.specs.Prelude.{◌==◌, nat_lt, if◌then◌else◌, slice_set}
+use Rattle.std.specs.List.{AllByRecursion, copy_within, insert, prefix_len}
 use Rattle.std.proofs.lemmas.Bool.Decides.{nat_tests}
+use Rattle.std.proofs.lemmas.List.{length-take}
 use Rattle.pg_style.specs.declared.style.Class.{Class}
 use Rattle.pg_style.specs.Classes.{class_in, inserted}
+use Rattle.pg_style.proofs.InPlace.{one_in}
 use Rattle.pg_style.specs.Ranges.{AreInOrder, AreClasses, IsClass}
-
-pub on_ok : {T E P : Type 0} (r : Result T E) → OnOk r P → IsOk r → P
-on_ok (Ok x) p ok = p
-on_ok (Err e) p ok = absurd (cc)
 
 insert_step : (b : Bool) (first class : Class) (classes : List Class) (n : ℕ) → insert classes n class ≡ inserted class classes
     → insert (first ∷ classes) (if b then 1 + n else 0) class ≡ (if b then first ∷ inserted class classes else class ∷ first ∷ classes)
@@ -74,3 +72,23 @@ one_more class classes are few is none = record {
   in_order = in_order class classes are.in_order none;
   each = all_inserted IsClass class classes are.each is;
 }
+
+-- the class among the first of the places
+pub put_in : (places moved old : List Class) (n index : ℕ) (class : Class) → take n places ≡ old → length places ≡ 8 → n ≤ 8
+    → length old < 8 → moved ≡ copy_within places index n (index + 1)
+    → index ≡ prefix_len (λ (other : Class). nat_lt other.number class.number) (take n places) → index ≤ length (take n places)
+    → take (n + 1) (slice_set moved index class) ≡ inserted class old
+put_in places moved old n index class view all count few move below within =
+    let least : index ≤ n = omega (arith, length-take n places, within) in
+    let room : n < length places = omega (arith, length-take n places, all, count, subst (λ (cs : List Class). length cs < 8) (sym view) few) in
+    inserted_is old (take n places) (take (n + 1) (slice_set moved index class)) class index
+    (ap (λ (cs : List Class). take (n + 1) (slice_set cs index class)) move ∙ one_in places n index class least room
+    ∙ ap (λ (cs : List Class). insert cs index class) view) view below
+
+-- the places keep what classes keep
+pub keeps_on : (places old new : List Class) (n : ℕ) (class : Class) → new ≡ inserted class old → take n places ≡ old
+    → length places ≡ 8 → n ≤ 8 → length old < 8 → AreClasses (take n places) → IsClass class → class_in old class.number ≡ None
+    → AreClasses new × (n + 1 ≤ 8)
+keeps_on places old new n class put view all count few are is none =
+    let same = subst (λ (cs : List Class). length cs < 8) (sym view) few in
+    (subst AreClasses (sym put) (one_more class old (subst AreClasses view are) few is none), omega (arith, length-take n places, all, count, same))

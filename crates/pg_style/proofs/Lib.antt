@@ -1,2 +1,3 @@
 pub mod ClassLemmas
+pub mod InPlace
 pub mod DistanceLemmas

@@ -6,27 +6,34 @@ ghost use Rattle.pg_style.specs.Classes.{class_in, inserted, is_float_class, flo
 ghost use Rattle.pg_style.specs.Ranges.{IsClass, AreClasses};
 
 use crate::style::{Class, Kind};
-use smallvec::SmallVec;
 use std::alloc::Global;
 use std::marker::Model;
+
+// Where no class stands yet.
+const NO_CLASS: Class = Class {
+    number: 0,
+    kind: Kind::Note { skip: 0, limit: 0 },
+};
 
 /// The classes of inserts, at most 8, in increasing number.
 #[derive(Drop)]
 pub struct Classes {
-    classes: SmallVec<Class, 8>,
+    // the first `count` are meant
+    classes: [Class; 8],
+    count: usize,
 }
 
 impl Model for Classes {
-    ghost use Rattle.std.specs.Prelude.{List, ◌≤◌};
+    ghost use Rattle.std.specs.Prelude.{List, ◌≤◌, take};
     ghost use Rattle.pg_style.specs.declared.style.Class.{Class};
 
     ghost Value = { List Class };
 
     ghost use Rattle.pg_style.specs.Ranges.{AreClasses};
 
-    ghost view = { λ a. a.classes.items };
+    ghost view = { λ a. take a.count a.classes };
 
-    ghost invariant = { λ a. AreClasses a.classes.items × (8 ≤ a.classes.capacity) };
+    ghost invariant = { λ a. AreClasses (take a.count a.classes) × (a.count ≤ 8) };
 }
 
 fn is_float(class: &Class) -> bool
@@ -69,7 +76,8 @@ impl Classes {
         ensures { result ≡ [] }
     {
         Classes {
-            classes: SmallVec::new(alloc),
+            classes: [NO_CLASS; 8],
+            count: 0,
         }
     }
 
@@ -80,24 +88,24 @@ impl Classes {
         requires new_number { class_in self.old class.number ≡ None }
         ensures { self.new ≡ inserted class self.old }
     {
-        let index = count_below(self.classes.as_slice(), class.number);
-        if self.classes.insert(index, class).is_err() {
-            unreachable!()
-        }
+        let index = count_below(&self.classes[..self.count], class.number);
+        self.classes.copy_within(index..self.count, index + 1);
+        self.classes[index] = class;
+        self.count += 1;
     }
 
     pub fn as_slice(&self) -> &[Class]
         ensures classes { result.now ≡ self.now }
         ensures range { AreClasses self.now }
     {
-        self.classes.as_slice()
+        &self.classes[..self.count]
     }
 
     /// The class of a number. None exactly where there is none.
     pub fn class_of(&self, number: u8) -> Option<&Class>
         ensures { option_copied result ≡ class_in self.now number }
     {
-        self.classes.iter().find(|class| class.number == number)
+        self.as_slice().iter().find(|class| class.number == number)
     }
 
     /// The position of a class among the float classes. None exactly where no float class has this
@@ -105,6 +113,6 @@ impl Classes {
     pub fn float_slot(&self, number: u8) -> Option<usize>
         ensures { result ≡ position_from (λ (n : ℕ). n == number) 0 (float_numbers_of self.now) }
     {
-        slot_in(self.classes.as_slice(), number)
+        slot_in(self.as_slice(), number)
     }
 }

@@ -3,26 +3,31 @@ ghost use Rattle.std.specs.Prelude.{◌≡◌, ℕ, nat_le};
 ghost use Rattle.std.specs.List.{list_all};
 ghost use Rattle.pg_style.specs.Ranges.{rises, has_table_range};
 
-use smallvec::SmallVec;
 use std::alloc::Global;
 use std::marker::Model;
 
 /// The demerits of a float by how many pages it waited: 1 to 9 entries, none below the one before.
-#[derive(Drop)]
+#[derive(Clone, Copy)]
 pub struct Distance {
-    entries: SmallVec<u32, 9>,
+    // the first `count` are meant, and the others are 0
+    entries: [u32; 9],
+    count: usize,
 }
 
 impl Model for Distance {
-    ghost use Rattle.std.specs.Prelude.{List, ℕ};
+    ghost use Rattle.std.specs.Prelude.{List, ℕ, length, take};
 
     ghost Value = { List ℕ };
 
-    ghost use Rattle.pg_style.specs.Ranges.{IsDistance};
+    ghost use Rattle.pg_style.specs.Filled.{IsFilled, filled};
 
-    ghost view = { λ a. a.entries.items };
+    ghost view = { λ a. take a.count a.entries };
 
-    ghost invariant = { λ a. IsDistance a.entries.items };
+    ghost invariant = { IsFilled };
+
+    ghost inverse = { λ v. record { entries = filled v; count = length v } };
+
+    ghost inverse_ok = { λ a h i. record { entries = h.places i; count = h.count i } };
 }
 
 /// Why entries are no distance table.
@@ -74,10 +79,13 @@ impl Distance {
         if !do_rise(entries) {
             return Err(DistanceFault::Decreasing);
         }
-        match SmallVec::from_slice(alloc, entries) {
-            Ok(entries) => Ok(Distance { entries }),
-            Err(_) => unreachable!(),
-        }
+        let count = entries.len();
+        let mut places = [0; 9];
+        places[..count].copy_from_slice(entries);
+        Ok(Distance {
+            entries: places,
+            count,
+        })
     }
 
     /// The entries, the one of no wait first.
@@ -85,6 +93,6 @@ impl Distance {
         ensures entries { result.now ≡ self.now }
         ensures range { IsDistance self.now }
     {
-        self.entries.as_slice()
+        &self.entries[..self.count]
     }
 }

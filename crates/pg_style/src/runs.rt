@@ -2,27 +2,28 @@
 ghost use Rattle.std.specs.Prelude.{◌≡◌, ◌<◌, ◌++◌, ◌∷◌, [], length};
 
 use crate::style::Run;
-use smallvec::SmallVec;
 use std::alloc::Global;
 use std::marker::Model;
 
 /// The runs of pages, 1 to 5.
 #[derive(Drop)]
 pub struct Runs {
-    runs: SmallVec<Run, 5>,
+    // the first `count` are meant
+    runs: [Run; 5],
+    count: usize,
 }
 
 impl Model for Runs {
-    ghost use Rattle.std.specs.Prelude.{List, ◌≤◌};
+    ghost use Rattle.std.specs.Prelude.{List, ◌≤◌, take};
     ghost use Rattle.pg_style.specs.declared.style.Run.{Run};
 
     ghost Value = { List Run };
 
     ghost use Rattle.pg_style.specs.Ranges.{AreRuns};
 
-    ghost view = { λ a. a.runs.items };
+    ghost view = { λ a. take a.count a.runs };
 
-    ghost invariant = { λ a. AreRuns a.runs.items × (5 ≤ a.runs.capacity) };
+    ghost invariant = { λ a. AreRuns (take a.count a.runs) × (a.count ≤ 5) };
 }
 
 impl Runs {
@@ -33,9 +34,10 @@ impl Runs {
         requires { IsRun first }
         ensures { result ≡ first ∷ [] }
     {
-        let mut runs = SmallVec::new(alloc);
-        runs.push_reserved(first);
-        Runs { runs }
+        Runs {
+            runs: [first; 5],
+            count: 1,
+        }
     }
 
     /// Adds a run behind the others. No memory is taken.
@@ -44,13 +46,14 @@ impl Runs {
         requires range { IsRun run }
         ensures { self.new ≡ self.old ++ run ∷ [] }
     {
-        self.runs.push_reserved(run);
+        self.runs[self.count] = run;
+        self.count += 1;
     }
 
     pub fn as_slice(&self) -> &[Run]
         ensures runs { result.now ≡ self.now }
         ensures range { AreRuns self.now }
     {
-        self.runs.as_slice()
+        &self.runs[..self.count]
     }
 }

@@ -23,13 +23,6 @@ onto_is None rest = refl
 onto_is (Some table) (Ok tables) = refl
 onto_is (Some table) (Err kind) = refl
 
-pub tables_test : (values : List Value)
-    → list_all (λ (value : Value). is_some (as_table (view value))) values ≡ is_ok (each_table (items_view values))
-unfolding table_of
-tables_test [] = refl
-tables_test (value ∷ values) = ap (λ (b : Bool). is_some (as_table (view value)) && b) (tables_test values)
-    ∙ sym (onto_is (as_table (view value)) (each_table (items_view values)))
-
 onto_fault : (found : Option Members) (rest : Result (List Members) StyleKind)
     → (is_ok rest ≡ false → rest ≡ Err WrongKind) → is_ok (onto found rest) ≡ false
     → onto found rest ≡ Err WrongKind

@@ -4,11 +4,11 @@ ghost use Rattle.toml.specs.View.{view, items_view};
 ghost use Rattle.pg_style.specs.Ranges.{IsDistance};
 ghost use Rattle.pg_stylefile.specs.Values.{Answers, are_whole, each_entry, made_table, entries_of, distance_of};
 
+use crate::entries::Entries;
 use crate::fault::StyleKind;
 use crate::keys::MAX_DEMERITS;
 use crate::values::as_whole;
 use pg_style::{Distance, DistanceFault};
-use smallvec::SmallVec;
 use std::alloc::Global;
 use toml::Value;
 
@@ -23,13 +23,13 @@ fn are_whole_numbers(values: &[Value]) -> bool
     true
 }
 
-fn entries_in(alloc: Global, values: &[Value]) -> Result<SmallVec<u32, 9>, StyleKind>
+fn entries_in(values: &[Value]) -> Result<Entries, StyleKind>
     requires { length values.now ≤ 9 }
-    ensures { Answers (λ entries. entries.items) result (each_entry (items_view values.now)) }
+    ensures { Answers (λ entries. entries) result (each_entry (items_view values.now)) }
 {
-    let mut entries = SmallVec::new(alloc);
+    let mut entries = Entries::new();
     for value in values {
-        entries.push_reserved(as_whole(value, 0, MAX_DEMERITS)?);
+        entries.push(as_whole(value, 0, MAX_DEMERITS)?);
     }
     Ok(entries)
 }
@@ -59,7 +59,7 @@ fn table_of_entries(alloc: Global, values: &[Value]) -> Result<Distance, StyleKi
     if values.len() > 9 {
         return Err(StyleKind::OutOfRange);
     }
-    let entries = entries_in(alloc, values)?;
+    let entries = entries_in(values)?;
     made(alloc, entries.as_slice())
 }
 

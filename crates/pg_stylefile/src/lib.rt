@@ -9,6 +9,7 @@
 mod areas;
 mod classes;
 mod distance;
+mod entries;
 mod fault;
 mod keys;
 mod names;

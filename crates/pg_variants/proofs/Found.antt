@@ -6,13 +6,13 @@ use Rattle.std.proofs.lemmas.Int.{ints}
 use Rattle.std.proofs.lemmas.List.{take_rest}
 use Rattle.pg_list.specs.declared.variants.Variant.{Variant}
 use Rattle.pg_hlist.specs.declared.item.HItem.{HItem}
-use Rattle.pg_paragraphs.specs.declared.rule.LineRule.{LineRule}
-use Rattle.pg_paragraphs.specs.Listing.{least_way}
-use Rattle.pg_paragraphs.specs.Variants.{AreVariantsOf, found_at, loosenesses, variant_at, variant_of}
-use Rattle.pg_paragraphs.specs.Ways.{IsBestWay, IsLeastOf, IsLeastWay, demerits}
-use Rattle.pg_paragraphs.proofs.Broken.{one_least}
-use Rattle.pg_paragraphs.proofs.Listed.{least_is}
-use Rattle.pg_line_space.specs.BestSpace.{IsBestCount}
+use Rattle.law_lines.specs.declared.rule.LineRule.{LineRule}
+use Rattle.law_lines.specs.Listing.{least_way}
+use Rattle.law_lines.specs.Variants.{AreVariantsOf, found_at, loosenesses, variant_at, variant_of}
+use Rattle.law_lines.specs.Ways.{IsBestWay, IsLeastOf, IsLeastWay, demerits}
+use Rattle.law_lines.proofs.Broken.{one_least}
+use Rattle.law_lines.proofs.Listed.{least_is}
+use Rattle.law_lines.specs.BestSpace.{IsBestCount}
 use Rattle.pg_hlist.specs.Items.{IsPara}
 use Rattle.pg_break_lines.specs.Found.{IsBestNumber, IsFound}
 use Rattle.pg_break_lines.specs.declared.ways.Way.{Way}

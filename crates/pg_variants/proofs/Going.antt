@@ -7,10 +7,10 @@ use Rattle.pg_list.specs.Shapes.{IsChoice}
 use Rattle.pg_list.specs.declared.blocks.Block.{Block}
 use Rattle.pg_list.specs.declared.variants.Variant.{Variant}
 use Rattle.pg_hlist.specs.declared.item.HItem.{HItem}
-use Rattle.pg_paragraphs.specs.declared.rule.LineRule.{LineRule}
-use Rattle.pg_paragraphs.specs.declared.rule.LineFault.{LineFault}
-use Rattle.pg_paragraphs.specs.declared.rule.LineFault.TheVariants.{NoBreak, Limit, Memory}
-use Rattle.pg_paragraphs.specs.Galleys.{Breaks, with_choice}
+use Rattle.law_lines.specs.declared.rule.LineRule.{LineRule}
+use Rattle.law_lines.specs.declared.rule.LineFault.{LineFault}
+use Rattle.law_lines.specs.declared.rule.LineFault.TheVariants.{NoBreak, Limit, Memory}
+use Rattle.law_lines.specs.Galleys.{Breaks, with_choice}
 use Rattle.pg_variants.specs.Answers.{AnswersLines, EndsIn, IsMade}
 use Rattle.pg_variants.proofs.Sizes.{choice_some, count_grows}
 use Rattle.pg_variants.specs.declared.galley.Made.{Made}

@@ -9,10 +9,10 @@ use Rattle.pg_list.specs.Shapes.{is_box}
 use Rattle.pg_list.specs.declared.item.Item.{Item}
 use Rattle.pg_hlist.specs.declared.item.HItem.{HItem}
 use Rattle.pg_hlist.specs.Items.{IsInRange, IsPara, as_item}
-use Rattle.pg_paragraphs.specs.declared.rule.LineRule.{LineRule}
-use Rattle.pg_paragraphs.specs.Boxes.{line_box}
-use Rattle.pg_paragraphs.specs.Lines.{from_box, line_items}
-use Rattle.pg_paragraphs.proofs.Shapes.{depth_scaled, height_scaled}
+use Rattle.law_lines.specs.declared.rule.LineRule.{LineRule}
+use Rattle.law_lines.specs.Boxes.{line_box}
+use Rattle.law_lines.specs.Lines.{from_box, line_items}
+use Rattle.law_lines.proofs.Shapes.{depth_scaled, height_scaled}
 
 -- what stands before the first box is dropped
 box_dropped : (items : List HItem) → (n : ℕ) × (from_box items ≡ drop n items)

@@ -7,12 +7,12 @@ use Rattle.pg_lemmas.proofs.Lists.{reverse_cons}
 use Rattle.pg_lemmas.proofs.Numbers.{eq_yes, less_of, more_than_one}
 use Rattle.pg_list.specs.declared.item.Item.{Item}
 use Rattle.pg_hlist.specs.declared.item.HItem.{HItem}
-use Rattle.pg_paragraphs.specs.declared.rule.LineRule.{LineRule}
-use Rattle.pg_paragraphs.specs.Boxes.{line_box}
-use Rattle.pg_paragraphs.specs.Lines.{line_items}
-use Rattle.pg_paragraphs.specs.Ways.{start_of}
-use Rattle.pg_paragraphs.specs.Variants.{between, between_item, lines_of_way, set_lines, way_items}
-use Rattle.pg_paragraphs.proofs.Tests.{eq_true}
+use Rattle.law_lines.specs.declared.rule.LineRule.{LineRule}
+use Rattle.law_lines.specs.Boxes.{line_box}
+use Rattle.law_lines.specs.Lines.{line_items}
+use Rattle.law_lines.specs.Ways.{start_of}
+use Rattle.law_lines.specs.Variants.{between, between_item, lines_of_way, set_lines, way_items}
+use Rattle.law_lines.proofs.Tests.{eq_true}
 use Rattle.pg_variants.specs.Set.{gap, set_ends, set_line}
 
 -- the lines that end at these places, the first of which starts here

@@ -13,12 +13,12 @@ use Rattle.pg_list.specs.declared.item.Item.{Item}
 use Rattle.pg_list.specs.declared.variants.Variant.{Variant}
 use Rattle.pg_hlist.specs.declared.item.HItem.{HItem}
 use Rattle.pg_hlist.specs.Items.{IsPara}
-use Rattle.pg_paragraphs.specs.declared.rule.LineRule.{LineRule}
-use Rattle.pg_paragraphs.specs.Galleys.{parskip, with_choice}
-use Rattle.pg_paragraphs.specs.Lines.{line_demerits, line_items}
-use Rattle.pg_paragraphs.specs.Variants.{AreVariantsOf, found_at, lines_of_way, loosenesses, set_lines, variant_at, variants_of, way_items}
-use Rattle.pg_paragraphs.specs.Ways.{IsLeastOf, demerits, is_way, start_of}
-use Rattle.pg_paragraphs.proofs.Costs.{line_few}
+use Rattle.law_lines.specs.declared.rule.LineRule.{LineRule}
+use Rattle.law_lines.specs.Galleys.{parskip, with_choice}
+use Rattle.law_lines.specs.Lines.{line_demerits, line_items}
+use Rattle.law_lines.specs.Variants.{AreVariantsOf, found_at, lines_of_way, loosenesses, set_lines, variant_at, variants_of, way_items}
+use Rattle.law_lines.specs.Ways.{IsLeastOf, demerits, is_way, start_of}
+use Rattle.law_lines.proofs.Costs.{line_few}
 use Rattle.pg_break_lines.proofs.Counted.{way_short}
 
 abbrev size : Variant → ℕ

@@ -5,13 +5,13 @@ use Rattle.pg_list.specs.Counts.{item_count, item_limit}
 use Rattle.pg_list.specs.GalleyValue.{GalleyValue}
 use Rattle.pg_list.specs.declared.variants.Variant.{Variant}
 use Rattle.pg_hlist.specs.declared.item.HItem.{HItem}
-use Rattle.pg_paragraphs.specs.declared.rule.LineRule.{LineRule}
-use Rattle.pg_paragraphs.specs.declared.rule.LineFault.{LineFault}
-use Rattle.pg_paragraphs.specs.declared.rule.LineFault.TheVariants.{Memory}
-use Rattle.pg_paragraphs.specs.Galleys.{Breaks, Broken}
-use Rattle.pg_paragraphs.specs.Listing.{least_way}
-use Rattle.pg_paragraphs.specs.Variants.{AreVariantsOf, found_at, variant_at}
-use Rattle.pg_paragraphs.specs.Ways.{CannotBreak, demerits, is_way}
+use Rattle.law_lines.specs.declared.rule.LineRule.{LineRule}
+use Rattle.law_lines.specs.declared.rule.LineFault.{LineFault}
+use Rattle.law_lines.specs.declared.rule.LineFault.TheVariants.{Memory}
+use Rattle.law_lines.specs.Galleys.{Breaks, Broken}
+use Rattle.law_lines.specs.Listing.{least_way}
+use Rattle.law_lines.specs.Variants.{AreVariantsOf, found_at, variant_at}
+use Rattle.law_lines.specs.Ways.{CannotBreak, demerits, is_way}
 use Rattle.pg_break_lines.specs.declared.ways.Way.{Way}
 use Rattle.pg_variants.specs.declared.galley.Made.{Made}
 

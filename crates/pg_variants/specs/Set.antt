@@ -1,12 +1,12 @@
--- How the lines of a way are set, from the first on. It is proved to give what pg_paragraphs defines; nobody need
+-- How the lines of a way are set, from the first on. It is proved to give what law_lines defines; nobody need
 -- believe what stands here.
 use Rattle.std.specs.Prelude.{ℕ, ◌+◌, ◌==◌, nat_lt, Bool, false, if◌then◌else◌, List, [], ◌∷◌, ◌++◌, length}
 use Rattle.pg_list.specs.declared.item.Item.{Item}
 use Rattle.pg_hlist.specs.declared.item.HItem.{HItem}
-use Rattle.pg_paragraphs.specs.declared.rule.LineRule.{LineRule}
-use Rattle.pg_paragraphs.specs.Boxes.{line_box}
-use Rattle.pg_paragraphs.specs.Lines.{line_items}
-use Rattle.pg_paragraphs.specs.Variants.{between_item}
+use Rattle.law_lines.specs.declared.rule.LineRule.{LineRule}
+use Rattle.law_lines.specs.Boxes.{line_box}
+use Rattle.law_lines.specs.Lines.{line_items}
+use Rattle.law_lines.specs.Variants.{between_item}
 
 -- what a break costs behind a line that is the first, or the last but one, or both
 abbrev pub gap : Bool → Bool → ℕ

@@ -2,21 +2,20 @@
 ghost use Rattle.std.specs.Prelude.{◌≡◌, ◌≤◌, ◌<◌, ◌+◌, ◌^◌, ◌++◌, ◌+ℤ◌, ◌-ℤ◌, ◌≤ℤ◌, IfOk, OnOk, length, min, nat_abs, pos};
 ghost use Rattle.pg_list.specs.Shapes.{HasItemsInRange};
 ghost use Rattle.pg_hlist.specs.Items.{IsPara};
-ghost use Rattle.pg_line_space.specs.LineSpace.{IsLow, line_meaning};
+ghost use Rattle.law_lines.specs.LineSpace.{IsLow, line_meaning};
 ghost use Rattle.pg_table.specs.Label.{IsTable};
 ghost use Rattle.pg_break_lines.specs.Found.{IsFound};
 ghost use Rattle.pg_break_lines.specs.Moves.{low_by};
-ghost use Rattle.pg_paragraphs.specs.Laws.{IsRule};
-ghost use Rattle.pg_paragraphs.specs.Variants.{AreVariantsOf, loosenesses as loosenesses_of, most_demerits, variant_of as variant_of_way};
-ghost use Rattle.pg_paragraphs.specs.Ways.{IsBestWay, demerits};
+ghost use Rattle.law_lines.specs.ParagraphsLaws.{IsRule};
+ghost use Rattle.law_lines.specs.Variants.{AreVariantsOf, loosenesses as loosenesses_of, most_demerits, variant_of as variant_of_way};
+ghost use Rattle.law_lines.specs.Ways.{IsBestWay, demerits};
 ghost use Rattle.pg_variants.specs.Answers.{IsCount, IsKnown, Varies, variant_by};
 
 use crate::lines::way_items;
+use law_lines::{LineRule, LineState};
 use pg_break_lines::{BestSpace, LineLists, LineSpace, Way, best_count, fewest_lines, least_way};
 use pg_hlist::HItem;
-use pg_line_space::LineState;
 use pg_list::Variant;
-use pg_paragraphs::LineRule;
 use pg_steps::Steps;
 use pg_table::Table;
 use std::alloc::{AllocError, Global};

@@ -5,14 +5,14 @@ ghost use Rattle.pg_list.specs.Ranges.{IsItemInRange};
 ghost use Rattle.pg_list.specs.Shapes.{IsChoice};
 ghost use Rattle.pg_list.specs.declared.blocks.Block.TheVariants.{Choice as AChoice, One};
 ghost use Rattle.pg_hlist.specs.Items.{IsPara};
-ghost use Rattle.pg_paragraphs.specs.Galleys.{parskip, with_choice};
-ghost use Rattle.pg_paragraphs.specs.Laws.{IsRule};
+ghost use Rattle.law_lines.specs.Galleys.{parskip, with_choice};
+ghost use Rattle.law_lines.specs.ParagraphsLaws.{IsRule};
 ghost use Rattle.pg_variants.specs.Answers.{AnswersLines, EndsIn, IsMade, LeadsOn};
 
 use crate::choice::variants_of;
+use law_lines::{LineFault, LineRule};
 use pg_hlist::{HItem, Paras};
 use pg_list::{Block, Blocks, Bytes, Choice, Galley, ITEM_LIMIT, Item, Order, Variant};
-use pg_paragraphs::{LineFault, LineRule};
 use pg_steps::Steps;
 use std::alloc::{AllocError, Global};
 use std::sync::ledger::Ledger;

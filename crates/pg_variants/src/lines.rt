@@ -2,17 +2,17 @@
 ghost use Rattle.std.specs.Prelude.{◌≡◌, ◌≤◌, ◌++◌, take, drop, IfOk, OnOk};
 ghost use Rattle.pg_list.specs.Ranges.{IsItemInRange};
 ghost use Rattle.pg_hlist.specs.Items.{IsPara};
-ghost use Rattle.pg_paragraphs.specs.Boxes.{line_box as line_box_of};
-ghost use Rattle.pg_paragraphs.specs.Laws.{IsRule};
-ghost use Rattle.pg_paragraphs.specs.Lines.{from_box as from_box_of, line_items};
-ghost use Rattle.pg_paragraphs.specs.Variants.{between_item, way_items as way_items_of};
+ghost use Rattle.law_lines.specs.Boxes.{line_box as line_box_of};
+ghost use Rattle.law_lines.specs.ParagraphsLaws.{IsRule};
+ghost use Rattle.law_lines.specs.Lines.{from_box as from_box_of, line_items};
+ghost use Rattle.law_lines.specs.Variants.{between_item, way_items as way_items_of};
 ghost use Rattle.pg_variants.specs.Set.{gap, set_line};
 
 use itoa::Buffer;
+use law_lines::LineRule;
 use pg_hlist::HItem;
 use pg_line_boxes::line_box;
 use pg_list::{Bytes, Item, Items};
-use pg_paragraphs::LineRule;
 use std::alloc::{AllocError, Global};
 
 // The items up to a place.

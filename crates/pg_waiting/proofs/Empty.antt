@@ -10,8 +10,8 @@ use Rattle.pg_flat.specs.Whole.{whole_sum_by}
 use Rattle.pg_style.specs.Values.{StyleValue}
 use Rattle.pg_floats.specs.History.{ages_of}
 use Rattle.pg_rules.specs.Floats.{distance_table, entry}
-use Rattle.pg_place_laws.proofs.Among.{Among, all_at, all_of, sum_same}
-use Rattle.pg_move_laws.proofs.Ages.{flat_same}
+use Rattle.law_places.proofs.Among.{Among, all_at, all_of, sum_same}
+use Rattle.law_moves.proofs.Ages.{flat_same}
 use Rattle.pg_waiting.specs.Lines.{is_line_empty, later, left_in, line_in, paid_by, price_in, with_zeros, young_in, are_young}
 use Rattle.pg_waiting.specs.Settling.{AreSettled}
 

@@ -6,7 +6,7 @@ use Rattle.std.proofs.lemmas.List.{map-append}
 use Rattle.pg_flat.specs.Whole.{whole_sum_by}
 use Rattle.pg_areas.proofs.Ranges.{all_append_is}
 use Rattle.pg_waiting.specs.Lines.{are_young, later, paid_by, with_zeros}
-use Rattle.pg_place_laws.proofs.Among.{sum_append}
+use Rattle.law_places.proofs.Among.{sum_append}
 
 take_zeros : (n m : ℕ) → take n (replicate {A = ℕ} m 0) ≡ replicate (min m n) 0
 take_zeros zero m = let e : min m 0 ≡ 0 = omega arith in ap (λ (k : ℕ). replicate {A = ℕ} k 0) (sym e)

@@ -11,7 +11,7 @@ use Rattle.pg_rules.specs.Floats.{distance_table, entry}
 use Rattle.pg_areas.proofs.Ranges.{next_all, next_range}
 use Rattle.pg_waiting.specs.Lines.{are_young, later, left_in, paid_by, price_in, young_in}
 use Rattle.pg_waiting.specs.Settling.{AreSettled}
-use Rattle.pg_place_laws.proofs.Among.{sum_append}
+use Rattle.law_places.proofs.Among.{sum_append}
 
 flat_more : {Y : Type 0} (f : ℕ → List Y) (mid new : List Y) (n : ℕ) → mid ≡ flat_map f (range_with_len 0 n) →
     new ≡ mid ++ f n → new ≡ flat_map f (range_with_len 0 (n + 1))

@@ -8,7 +8,7 @@ use Rattle.pg_style.specs.Values.{StyleValue}
 use Rattle.pg_rules.specs.Floats.{called, entry, float_numbers}
 use Rattle.pg_rules.specs.Follow.{turns}
 use Rattle.pg_rules.specs.Room.{Document}
-use Rattle.pg_move_laws.specs.Ages.{waits_of}
+use Rattle.law_moves.specs.Ages.{waits_of}
 use Rattle.pg_waiting.specs.Lines.{line_in}
 use Rattle.pg_waiting.specs.Settling.{Settles, SettlesBy, known_of}
 use Rattle.pg_waiting.specs.declared.settling.Known.{Known}

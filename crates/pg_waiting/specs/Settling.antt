@@ -6,7 +6,7 @@ use Rattle.pg_style.specs.Values.{StyleValue}
 use Rattle.pg_rules.specs.Floats.{called}
 use Rattle.pg_rules.specs.Follow.{turns}
 use Rattle.pg_rules.specs.Room.{Document}
-use Rattle.pg_move_laws.specs.Ages.{ages_left, float_cost, may_wait, waits_of}
+use Rattle.law_moves.specs.Ages.{ages_left, float_cost, may_wait, waits_of}
 use Rattle.pg_waiting.specs.Lines.{all_left, all_paid, all_young, line_in}
 use Rattle.pg_waiting.specs.declared.classes.Classes.{Classes}
 use Rattle.pg_waiting.specs.declared.settling.Known.{Known}

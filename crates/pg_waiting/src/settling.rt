@@ -3,7 +3,7 @@ ghost use Rattle.std.specs.Prelude.{◌≡◌, IfOk, ◌≤◌, ◌^◌, IfSome}
 ghost use Rattle.pg_list.specs.declared.galley.Place.{Place as APlace};
 ghost use Rattle.pg_rules.specs.Floats.{called};
 ghost use Rattle.pg_rules.specs.Follow.{fills_page, turns as turns_of};
-ghost use Rattle.pg_move_laws.specs.Listed.{calls_all as calls_all_of};
+ghost use Rattle.law_moves.specs.Listed.{calls_all as calls_all_of};
 ghost use Rattle.pg_sources.specs.Document.{doc_of};
 ghost use Rattle.pg_waiting.specs.Settling.{Settles, known_of};
 

@@ -18,16 +18,16 @@ use Rattle.pg_stretch.specs.declared.passing.State.{State}
 use Rattle.pg_stretch.proofs.Left.{first_left}
 use Rattle.pg_stretch.specs.Quiet.{is_quiet, passed_along}
 use Rattle.pg_stretch.proofs.Quiet.{quiet_reach, quiet_stops}
-use Rattle.pg_walk_laws.specs.Reached.{first_reach, quiet, reach_along}
-use Rattle.pg_walk_laws.specs.Walk.{first_front, first_items, past_stretch, variants_at}
-use Rattle.pg_walk_laws.proofs.SpaceLaws.{past_parts}
-use Rattle.pg_walk_laws.proofs.Whole.{first_within}
+use Rattle.law_walk.specs.Reached.{first_reach, quiet, reach_along}
+use Rattle.law_walk.specs.Walk.{first_front, first_items, past_stretch, variants_at}
+use Rattle.law_walk.proofs.SpaceLaws.{past_parts}
+use Rattle.law_walk.proofs.Whole.{first_within}
 use Rattle.pg_candidates.specs.View.{passed_of}
 use Rattle.pg_candidates.specs.declared.along.Walked.{Walked}
 use Rattle.pg_walk.specs.Blocks.{IsAlone, TellsQuiet}
-use Rattle.pg_walk_laws.specs.Candidates.{AreCandidates, Candidate}
-use Rattle.pg_walk_laws.specs.Laws.{LabelsSuffice}
-use Rattle.pg_walk_laws.specs.Space.{first_ends}
+use Rattle.law_walk.specs.Candidates.{AreCandidates, Candidate}
+use Rattle.law_walk.specs.Laws.{LabelsSuffice}
+use Rattle.law_walk.specs.Space.{first_ends}
 use Rattle.pg_walk_space.proofs.Lifted.{entries_of, lifted}
 use Rattle.pg_walk_labels.specs.Collected.{Collects}
 use Rattle.pg_walk_labels.proofs.Collecting.{are_collected}

@@ -21,9 +21,9 @@ use Rattle.pg_stretch.specs.declared.passed.Passed.{Passed}
 use Rattle.pg_stretch.specs.declared.passing.State.{State}
 use Rattle.pg_style.specs.Values.{StyleValue}
 use Rattle.pg_style.specs.declared.style.Run.{Run}
-use Rattle.pg_walk_laws.specs.Laws.{LabelsTellReach, StretchTellsReach}
-use Rattle.pg_walk_laws.specs.Reached.{first_reach, quiet, reach_along, tallest}
-use Rattle.pg_walk_laws.specs.Walk.{first_front, first_items, past_stretch, variants_at}
+use Rattle.law_walk.specs.Laws.{LabelsTellReach, StretchTellsReach}
+use Rattle.law_walk.specs.Reached.{first_reach, quiet, reach_along, tallest}
+use Rattle.law_walk.specs.Walk.{first_front, first_items, past_stretch, variants_at}
 use Rattle.pg_walk_labels.specs.Furthest.{GoesTo}
 use Rattle.pg_walk_labels.proofs.Greatest.{is_greatest}
 use Rattle.pg_walk_space.proofs.Lifted.{entries_of, lifted}

@@ -8,7 +8,7 @@ use Rattle.pg_ends.specs.declared.end.End.{End}
 use Rattle.pg_ends.specs.Ends.{AreEnds}
 use Rattle.pg_rules.specs.Room.{Document}
 use Rattle.pg_candidates.specs.Nears.{AreNearFrom, NearsValue}
-use Rattle.pg_walk_laws.specs.Laws.{AreEndsInEach, AreUpTo}
+use Rattle.law_walk.specs.Laws.{AreEndsInEach, AreUpTo}
 use Rattle.pg_walk.specs.Rooms.{greatest_room}
 
 -- ---- the greatest room

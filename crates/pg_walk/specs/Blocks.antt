@@ -9,8 +9,8 @@ use Rattle.pg_stretch.specs.declared.passing.State.{State}
 use Rattle.pg_walk_labels.specs.Furthest.{GoesTo}
 use Rattle.pg_candidates.specs.View.{passed_of}
 use Rattle.pg_candidates.specs.declared.along.Walked.{Walked}
-use Rattle.pg_walk_laws.specs.Reached.{first_reach, quiet}
-use Rattle.pg_walk_laws.specs.Walk.{first_front, first_items, past_stretch, variants_at}
+use Rattle.law_walk.specs.Reached.{first_reach, quiet}
+use Rattle.law_walk.specs.Walk.{first_front, first_items, past_stretch, variants_at}
 
 -- before a front with what was passed
 abbrev pub state : ℕ → Passed → State

@@ -1,7 +1,7 @@
 //! The ends of the columns of text from a place.
 //!
 //! Proved: `candidates` finds where columns may end in some room up to a greatest one (`AreCandidates` of
-//! pg_walk_laws), and `ends` lists each place and fitness at which a column of text from the place, in a room of a
+//! law_walk), and `ends` lists each place and fitness at which a column of text from the place, in a room of a
 //! height, keeps the rules on one column, with its numbers and its best picks, in order, and nothing else (`AreEnds` of
 //! pg_ends); `ends_many` does so for several rooms from one walk; `reach_of` tells how far columns from a place may go
 //! (`IsReach` of pg_rules); `walk_from` does both from one place for all rooms, and gives the candidates with what no

@@ -4,7 +4,7 @@ ghost use Rattle.pg_hops.specs.Index.{AreHops};
 ghost use Rattle.pg_rules.specs.IsState.{IsPlace};
 ghost use Rattle.pg_rules.specs.Legal.{document};
 ghost use Rattle.pg_rules.specs.Reach.{IsReach};
-ghost use Rattle.pg_walk_laws.specs.Reached.{tallest as tallest_of};
+ghost use Rattle.law_walk.specs.Reached.{tallest as tallest_of};
 ghost use Rattle.pg_candidates.specs.Nears.{AreNearFrom};
 
 use crate::reach::{reach_told, tallest};

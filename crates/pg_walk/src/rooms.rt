@@ -5,7 +5,7 @@ ghost use Rattle.pg_rules.specs.IsState.{IsPlace};
 ghost use Rattle.pg_rules.specs.Legal.{document};
 ghost use Rattle.pg_list.specs.declared.galley.Place.{Place as APlace};
 ghost use Rattle.pg_ends.specs.Ends.{AreEnds};
-ghost use Rattle.pg_walk_laws.specs.Laws.{AreEndsInEach, AreUpTo};
+ghost use Rattle.law_walk.specs.Laws.{AreEndsInEach, AreUpTo};
 ghost use Rattle.pg_candidates.specs.Nears.{AreNearFrom};
 ghost use Rattle.pg_walk.specs.Rooms.{greatest_room};
 

@@ -4,14 +4,15 @@ ghost use Rattle.pg_hops.specs.Index.{AreHops};
 ghost use Rattle.pg_rules.specs.IsState.{IsPlace};
 ghost use Rattle.pg_rules.specs.Legal.{document};
 ghost use Rattle.pg_column.specs.Passed.{nothing};
-ghost use Rattle.pg_walk_laws.specs.Candidates.{AreCandidates};
-ghost use Rattle.pg_walk_laws.specs.Reached.{quiet};
-ghost use Rattle.pg_walk_laws.specs.Space.{first_ends};
-ghost use Rattle.pg_walk_laws.specs.Walk.{first_front, first_items, past_stretch};
+ghost use Rattle.law_walk.specs.Candidates.{AreCandidates};
+ghost use Rattle.law_walk.specs.Reached.{quiet};
+ghost use Rattle.law_walk.specs.Space.{first_ends};
+ghost use Rattle.law_walk.specs.Walk.{first_front, first_items, past_stretch};
 ghost use Rattle.pg_candidates.specs.View.{passed_of};
 ghost use Rattle.pg_walk_space.specs.Meaning.{IsOwn};
 ghost use Rattle.pg_walk.specs.Blocks.{IsAlone, TellsQuiet};
 
+use law_walk::laws::walk_is_a_space;
 use pg_candidates::{CandidateList, Walked, walk_on};
 use pg_hops::BreakIndex;
 use pg_list::{Galley, Place};
@@ -19,7 +20,6 @@ use pg_plan::Picks;
 use pg_stretch::{Cursor, Passed, State};
 use pg_style::Style;
 use pg_walk_labels::collect;
-use pg_walk_laws::laws::walk_is_a_space;
 use pg_walk_space::variants_at;
 use std::alloc::{AllocError, Global};
 

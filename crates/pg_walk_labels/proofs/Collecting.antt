@@ -1,7 +1,7 @@
 -- What is collected along the labels in code is what the walk asks for.
 use Rattle.std.proofs.Common.{◌≡◌, refl, sym, subst, ℕ, zero, suc, ◌+◌, inl, inr, Some, Bool, true, false, List, [], ◌∷◌, ◌++◌, arith, ℤ, pos, ◌+ℤ◌}
 use Rattle.std.specs.Prelude.{if◌then◌else◌, reverse, slice_get}
-use Rattle.pg_walk_laws.proofs.Tables.{turned}
+use Rattle.law_walk.proofs.Tables.{turned}
 use Rattle.std.proofs.lemmas.Option.{same_Some}
 use Rattle.pg_list.specs.Places.{place}
 use Rattle.pg_list.specs.declared.galley.Place.{Place}
@@ -13,11 +13,11 @@ use Rattle.pg_stretch.specs.declared.passing.State.{State}
 use Rattle.pg_table.specs.Label.{IsTable, RunOf}
 use Rattle.pg_table.specs.declared.table.Entry.{Entry}
 use Rattle.pg_table.proofs.Labels.{one_run}
-use Rattle.pg_walk_laws.specs.Best.{IsAmong}
-use Rattle.pg_walk_laws.specs.Candidates.{Candidate}
-use Rattle.pg_walk_laws.specs.Space.{AreCollected, IsFromLabel, WalkState, first_ends}
-use Rattle.pg_walk_laws.specs.Walk.{ends_along, picked_front, picked_stretch, variants_at}
-use Rattle.pg_walk_laws.proofs.BestLaws.{among_contains, contains_among}
+use Rattle.law_walk.specs.Best.{IsAmong}
+use Rattle.law_walk.specs.Candidates.{Candidate}
+use Rattle.law_walk.specs.Space.{AreCollected, IsFromLabel, WalkState, first_ends}
+use Rattle.law_walk.specs.Walk.{ends_along, picked_front, picked_stretch, variants_at}
+use Rattle.law_walk.proofs.BestLaws.{among_contains, contains_among}
 use Rattle.pg_walk_space.specs.Meaning.{space_meaning, state_of}
 use Rattle.pg_walk_space.proofs.Lifted.{HasOrigin, among_map, entries_of, entry_of, origin_of, run_of_mapped}
 use Rattle.pg_walk_space.proofs.Moves.{among_cases, among_left, among_right}

@@ -8,12 +8,12 @@ use Rattle.pg_list.specs.declared.galley.Place.{Place}
 use Rattle.pg_stretch.specs.declared.passing.State.{State}
 use Rattle.pg_table.specs.Label.{IsTable}
 use Rattle.pg_table.specs.declared.table.Entry.{Entry}
-use Rattle.pg_walk_laws.specs.Best.{IsAmong}
-use Rattle.pg_walk_laws.specs.Reached.{IsAlongLabel, IsGreatest, first_reach, greatest_from}
-use Rattle.pg_walk_laws.specs.Space.{WalkState}
-use Rattle.pg_walk_laws.specs.Walk.{variants_at}
-use Rattle.pg_walk_laws.proofs.BestLaws.{among_contains, contains_among}
-use Rattle.pg_walk_laws.proofs.Reach.{greatest_at, least_of, of_greatest}
+use Rattle.law_walk.specs.Best.{IsAmong}
+use Rattle.law_walk.specs.Reached.{IsAlongLabel, IsGreatest, first_reach, greatest_from}
+use Rattle.law_walk.specs.Space.{WalkState}
+use Rattle.law_walk.specs.Walk.{variants_at}
+use Rattle.law_walk.proofs.BestLaws.{among_contains, contains_among}
+use Rattle.law_walk.proofs.Reach.{greatest_at, least_of, of_greatest}
 use Rattle.pg_walk_space.specs.Meaning.{greatest_behind, reach_by, space_meaning, state_of}
 use Rattle.pg_walk_space.specs.Reaching.{by_from}
 use Rattle.pg_walk_space.proofs.Lifted.{HasOrigin, among_map, entries_of, entry_of, origin_of}

@@ -15,9 +15,9 @@ use Rattle.pg_table.specs.Label.{IsTable, RunOf}
 use Rattle.pg_table.specs.Space.{Small}
 use Rattle.pg_table.specs.declared.table.Entry.{Entry}
 use Rattle.pg_table.proofs.Labels.{label_own, one_run}
-use Rattle.pg_walk_laws.specs.Best.{IsAmong}
-use Rattle.pg_walk_laws.specs.Candidates.{Candidate}
-use Rattle.pg_walk_laws.proofs.BestLaws.{among_contains, contains_among}
+use Rattle.law_walk.specs.Best.{IsAmong}
+use Rattle.law_walk.specs.Candidates.{Candidate}
+use Rattle.law_walk.proofs.BestLaws.{among_contains, contains_among}
 use Rattle.pg_walk_space.specs.Meaning.{IsOwn, space_meaning}
 use Rattle.pg_walk_space.specs.WalkLawful.{key_test, walk_space_lawful}
 use Rattle.pg_walk_space.proofs.Moves.{among_cases, among_left, among_right}

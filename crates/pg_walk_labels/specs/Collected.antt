@@ -7,10 +7,10 @@ use Rattle.pg_rules.specs.Room.{Document}
 use Rattle.pg_stretch.specs.declared.passing.State.{State}
 use Rattle.pg_table.specs.Label.{IsTable, RunOf}
 use Rattle.pg_table.specs.declared.table.Entry.{Entry}
-use Rattle.pg_walk_laws.specs.Best.{IsAmong}
-use Rattle.pg_walk_laws.specs.Candidates.{Candidate}
-use Rattle.pg_walk_laws.specs.Space.{WalkState}
-use Rattle.pg_walk_laws.specs.Walk.{ends_along, picked_front, picked_stretch, variants_at}
+use Rattle.law_walk.specs.Best.{IsAmong}
+use Rattle.law_walk.specs.Candidates.{Candidate}
+use Rattle.law_walk.specs.Space.{WalkState}
+use Rattle.law_walk.specs.Walk.{ends_along, picked_front, picked_stretch, variants_at}
 use Rattle.pg_walk_space.specs.Meaning.{IsOwn, space_meaning, state_of}
 
 -- the ends along the stretch of a pick that is loose enough, behind these picks at this price

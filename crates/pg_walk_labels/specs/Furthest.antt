@@ -4,7 +4,7 @@ use Rattle.pg_rules.specs.Room.{Document}
 use Rattle.pg_stretch.specs.declared.passing.State.{State}
 use Rattle.pg_table.specs.Label.{IsTable}
 use Rattle.pg_table.specs.declared.table.Entry.{Entry}
-use Rattle.pg_walk_laws.specs.Walk.{variants_at}
+use Rattle.law_walk.specs.Walk.{variants_at}
 use Rattle.pg_walk_space.specs.Meaning.{greatest_behind, reach_by, space_meaning, state_of}
 
 -- the greatest block along the stretch of a pick at the front of one of these labels

@@ -3,8 +3,8 @@ ghost use Rattle.std.specs.Prelude.{◌≡◌, ◌+◌, IfOk, length, ℤ};
 ghost use Rattle.pg_hops.specs.Index.{AreHops};
 ghost use Rattle.pg_rules.specs.Legal.{document};
 ghost use Rattle.pg_style.specs.Values.{StyleValue};
-ghost use Rattle.pg_walk_laws.specs.Reached.{greatest_from};
-ghost use Rattle.pg_walk_laws.specs.Walk.{variants_at as variants_at_of};
+ghost use Rattle.law_walk.specs.Reached.{greatest_from};
+ghost use Rattle.law_walk.specs.Walk.{variants_at as variants_at_of};
 ghost use Rattle.pg_walk_space.specs.Meaning.{IsOwn, greatest_behind, reach_by, state_of};
 ghost use Rattle.pg_walk_labels.specs.Furthest.{AreTold, GoesTo, IsFurthest};
 

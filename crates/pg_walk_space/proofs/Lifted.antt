@@ -7,9 +7,9 @@ use Rattle.pg_stretch.specs.declared.passing.State.{State}
 use Rattle.pg_table.specs.Label.{Covered, IsLabel, IsTable, RunOf}
 use Rattle.pg_table.specs.Space.{IsRun, Reached, Run}
 use Rattle.pg_table.specs.declared.table.Entry.{Entry}
-use Rattle.pg_walk_laws.specs.Best.{IsAmong}
-use Rattle.pg_walk_laws.specs.Space.{HasLabels, Picks, WalkState, is_no_worse, walk_meaning}
-use Rattle.pg_walk_laws.proofs.BestLaws.{among_contains, contains_among}
+use Rattle.law_walk.specs.Best.{IsAmong}
+use Rattle.law_walk.specs.Space.{HasLabels, Picks, WalkState, is_no_worse, walk_meaning}
+use Rattle.law_walk.proofs.BestLaws.{among_contains, contains_among}
 use Rattle.pg_walk_space.specs.Meaning.{next_state, space_meaning, state_of}
 use Rattle.pg_walk_space.specs.WalkLawful.{next_leads}
 

@@ -13,9 +13,9 @@ use Rattle.pg_stretch.specs.View.{view}
 use Rattle.pg_stretch.specs.declared.passing.State.{State}
 use Rattle.pg_table.specs.Space.{AreMoves}
 use Rattle.pg_table.specs.declared.step.Step.{Step}
-use Rattle.pg_walk_laws.specs.Best.{IsAmong}
-use Rattle.pg_walk_laws.specs.Walk.{past_stretch, picked_front, picked_stretch, variants_at}
-use Rattle.pg_walk_laws.proofs.BestLaws.{among_contains, contains_among}
+use Rattle.law_walk.specs.Best.{IsAmong}
+use Rattle.law_walk.specs.Walk.{past_stretch, picked_front, picked_stretch, variants_at}
+use Rattle.law_walk.proofs.BestLaws.{among_contains, contains_among}
 use Rattle.pg_walk_space.specs.WalkLawful.{next_leads, state_same}
 use Rattle.pg_walk_space.specs.Meaning.{Leads, next_state, space_meaning, state_behind, step_by, steps_by, steps_from}
 

@@ -1,7 +1,7 @@
 -- One pick more.
 use Rattle.std.proofs.Common.{◌≡◌, ap, ◌∙◌, ℕ, zero, suc, ◌+◌, ◌-◌, ◌<◌, ◌≤◌, arith}
 use Rattle.std.specs.Prelude.{max}
-use Rattle.pg_walk_laws.specs.Reached.{greatest_from}
+use Rattle.law_walk.specs.Reached.{greatest_from}
 
 -- a greater block to begin with
 pub greatest_with : (f : ℕ → ℕ) (b m a n : ℕ) → greatest_from f (max b m) a n ≡ max m (greatest_from f b a n)

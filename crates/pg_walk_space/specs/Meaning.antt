@@ -12,9 +12,9 @@ use Rattle.pg_stretch.specs.View.{IsFor, view}
 use Rattle.pg_stretch.specs.declared.passing.State.{State}
 use Rattle.pg_table.specs.Space.{Meaning}
 use Rattle.pg_table.specs.declared.step.Step.{Step}
-use Rattle.pg_walk_laws.specs.Reached.{greatest_from, reach_along}
-use Rattle.pg_walk_laws.specs.Space.{Picks, WalkState, is_no_worse}
-use Rattle.pg_walk_laws.specs.Walk.{past_stretch, picked_front, picked_stretch, variants_at}
+use Rattle.law_walk.specs.Reached.{greatest_from, reach_along}
+use Rattle.law_walk.specs.Space.{Picks, WalkState, is_no_worse}
+use Rattle.law_walk.specs.Walk.{past_stretch, picked_front, picked_stretch, variants_at}
 use Rattle.pg_walk_space.specs.declared.space.Key.{Key}
 
 -- a state of the walk

@@ -14,12 +14,12 @@ use Rattle.pg_list.specs.declared.blocks.Block.{Block}
 use Rattle.pg_list.specs.declared.blocks.Block.TheVariants.{One, Choice}
 use Rattle.pg_list.specs.declared.item.Item.{Item}
 use Rattle.pg_rules.specs.Room.{Document}
-use Rattle.pg_walk_laws.specs.Reached.{reach_along}
-use Rattle.pg_walk_laws.specs.Space.{Picks, WalkState}
-use Rattle.pg_walk_laws.specs.Walk.{next_front, picked_front, picked_stretch, singles, variants_at}
-use Rattle.pg_walk_laws.proofs.Reach.{greatest_at, least_of, of_greatest}
-use Rattle.pg_walk_laws.proofs.SpaceLaws.{past_parts}
-use Rattle.pg_walk_laws.proofs.Stretches.{front_behind, items_fit}
+use Rattle.law_walk.specs.Reached.{reach_along}
+use Rattle.law_walk.specs.Space.{Picks, WalkState}
+use Rattle.law_walk.specs.Walk.{next_front, picked_front, picked_stretch, singles, variants_at}
+use Rattle.law_walk.proofs.Reach.{greatest_at, least_of, of_greatest}
+use Rattle.law_walk.proofs.SpaceLaws.{past_parts}
+use Rattle.law_walk.proofs.Stretches.{front_behind, items_fit}
 use Rattle.pg_walk_space.specs.Meaning.{greatest_behind, reach_by}
 
 -- ---- the items of a stretch stand from the choice up to the next front

@@ -18,13 +18,13 @@ use Rattle.pg_sums.specs.declared.totals.Totals.{Totals}
 use Rattle.pg_stretch.specs.View.{view}
 use Rattle.pg_stretch.specs.declared.passing.State.{State}
 use Rattle.pg_table.specs.Space.{Lawful, Run, Simulates}
-use Rattle.pg_walk_laws.specs.Space.{Picks, WalkKey, WalkState, same_bool, same_totals, walk_meaning}
-use Rattle.pg_walk_laws.specs.Walk.{picked_stretch}
+use Rattle.law_walk.specs.Space.{Picks, WalkKey, WalkState, same_bool, same_totals, walk_meaning}
+use Rattle.law_walk.specs.Walk.{picked_stretch}
 use Rattle.pg_lemmas.proofs.Bools.{both, both_of}
 use Rattle.pg_lemmas.proofs.Numbers.{eq_refl}
 use Rattle.pg_sums.specs.contracts.totals.TotalsPartialEq.TheImpl as totals_impl
 use Rattle.pg_walk_space.specs.contracts.space.KeyPartialEq.TheImpl as key_impl
-use Rattle.pg_walk_laws.proofs.SpaceLaws.{past_parts, totals_itself, totals_same, walk_lawful}
+use Rattle.law_walk.proofs.SpaceLaws.{past_parts, totals_itself, totals_same, walk_lawful}
 use Rattle.pg_walk_space.specs.declared.space.Key.{Key}
 use Rattle.pg_walk_space.specs.Meaning.{IsOwn, Leads, next_state, space_meaning, state_of}
 use Rattle.pg_walk_space.specs.Reaching.{behind_next, behind_own}

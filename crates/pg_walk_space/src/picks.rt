@@ -1,7 +1,7 @@
 //! The choice at a block.
 ghost use Rattle.std.specs.Prelude.{◌≡◌, ◌≤◌, length};
 ghost use Rattle.pg_column.specs.Judged.{is_loose_enough as is_loose_enough_of};
-ghost use Rattle.pg_walk_laws.specs.Walk.{variants_at as variants_at_of};
+ghost use Rattle.law_walk.specs.Walk.{variants_at as variants_at_of};
 
 use pg_list::{Block, Galley, Variant};
 use pg_style::Style;

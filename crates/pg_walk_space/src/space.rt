@@ -7,8 +7,8 @@ ghost use Rattle.pg_rules.specs.Legal.{document};
 ghost use Rattle.pg_rules.specs.Ranges.{AreInRange, AreInRange_prop};
 ghost use Rattle.pg_stretch.specs.declared.passing.State.{State as AState};
 ghost use Rattle.pg_table.specs.Space.{AreMoves};
-ghost use Rattle.pg_walk_laws.specs.Candidates.{is_no_greater as is_no_greater_of};
-ghost use Rattle.pg_walk_laws.specs.Space.{is_no_worse, key_of as walk_key, same_bool, same_key as same_key_of, same_notes as same_notes_of, same_totals as same_totals_of};
+ghost use Rattle.law_walk.specs.Candidates.{is_no_greater as is_no_greater_of};
+ghost use Rattle.law_walk.specs.Space.{is_no_worse, key_of as walk_key, same_bool, same_key as same_key_of, same_notes as same_notes_of, same_totals as same_totals_of};
 ghost use Rattle.pg_walk_space.specs.Meaning.{IsOwn, IsOwn_prop, greatest_behind, reach_by, space_meaning, state_behind, state_of, steps_by};
 
 use crate::picks::{is_loose_enough, variants_at};

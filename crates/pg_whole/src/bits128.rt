@@ -1,5 +1,5 @@
-//! Exact sums, differences and products in 128 bits.
-ghost use Rattle.std.specs.Prelude.{◌≡◌, ◌+◌, ◌*◌, ◌<◌, ◌≤◌, ◌^◌, ◌+ℤ◌, ◌-ℤ◌, ◌*ℤ◌, nat_abs};
+//! Exact sums and differences in 128 bits.
+ghost use Rattle.std.specs.Prelude.{◌≡◌, ◌+◌, ◌<◌, ◌≤◌, ◌^◌, ◌+ℤ◌, ◌-ℤ◌, nat_abs};
 
 /// The sum of two numbers.
 pub fn large_plus(a: i128, b: i128) -> i128
@@ -19,25 +19,6 @@ pub fn large_minus(a: i128, b: i128) -> i128
     ensures size { nat_abs result ≤ nat_abs a + nat_abs b }
 {
     a - b
-}
-
-/// The product of two numbers.
-pub fn large_times(a: i128, b: i128) -> i128
-    requires a { nat_abs a < 2 ^ 63 }
-    requires b { nat_abs b < 2 ^ 63 }
-    ensures value { result ≡ a *ℤ b }
-    ensures size { nat_abs result ≡ nat_abs a * nat_abs b }
-{
-    a * b
-}
-
-/// The square of a number.
-pub fn large_square(a: i128) -> i128
-    requires { nat_abs a < 2 ^ 63 }
-    ensures value { result ≡ a *ℤ a }
-    ensures size { nat_abs result ≡ nat_abs a * nat_abs a }
-{
-    large_times(a, a)
 }
 
 /// A number of 64 bits in 128.

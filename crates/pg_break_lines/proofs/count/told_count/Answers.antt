@@ -3,7 +3,7 @@ use Rattle.std.specs.Prelude.{slice_get}
 use Rattle.std.proofs.lemmas.Option.{slice_get_within}
 use Rattle.pg_table.specs.Label.{Grounded, IsBestOf, RunOf}
 use Rattle.pg_table.specs.declared.table.Entry.{Entry}
-use Rattle.pg_line_space.proofs.BestCount.{tells_best_count}
+use Rattle.law_lines.proofs.BestCount.{tells_best_count}
 use Rattle.pg_break_lines.proofs.Counted.{best_told, way_short}
 use Rattle.pg_break_lines.proofs.count.told_count.Goals as goal
 

@@ -1,6 +1,6 @@
 use Rattle.std.proofs.Common.{◌≡◌, ◌≤◌, ◌-◌, length, take, false}
 use Rattle.std.specs.Prelude.{drop}
-use Rattle.pg_paragraphs.specs.Lines.{holds_box}
+use Rattle.law_lines.specs.Lines.{holds_box}
 use Rattle.pg_break_lines.proofs.ends.next_box.Given as goal
 
 abbrev pub invariant-front : goal.invariant-front

@@ -4,8 +4,8 @@ use Rattle.pg_lemmas.proofs.Lists.{no_items}
 use Rattle.pg_break_lines.specs.declared.ends.LineEnd.{LineEnd}
 use Rattle.pg_break_lines.specs.Moves.{low_by}
 use Rattle.pg_break_lines.proofs.LowLaws.{among_front}
-use Rattle.pg_place_laws.proofs.Among.{Among}
-use Rattle.pg_member_laws.proofs.Members.{contains_among}
+use Rattle.law_places.proofs.Among.{Among}
+use Rattle.law_places.proofs.Members.{contains_among}
 use Rattle.pg_break_lines.proofs.fewest.fewest_over.Goals as goal
 
 pub ends-preserved : goal.ends-preserved

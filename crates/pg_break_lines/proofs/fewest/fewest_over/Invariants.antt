@@ -2,7 +2,7 @@ use Rattle.std.proofs.Common.{◌≤◌, ◌+◌, length}
 use Rattle.std.specs.Prelude.{◌⊎◌, Contains}
 use Rattle.pg_break_lines.specs.declared.ends.LineEnd.{LineEnd}
 use Rattle.pg_break_lines.specs.Moves.{low_by}
-use Rattle.pg_place_laws.proofs.Among.{Among}
+use Rattle.law_places.proofs.Among.{Among}
 use Rattle.pg_break_lines.proofs.fewest.fewest_over.Given as goal
 
 abbrev pub invariant-ends : goal.invariant-ends

@@ -1,8 +1,8 @@
 use Rattle.std.proofs.Common.{◌≡◌, ◌<◌, ◌≤◌, ◌-◌, length, ℕ, Some}
 use Rattle.std.specs.Prelude.{slice_get}
 use Rattle.pg_table.specs.declared.table.Entry.{Entry}
-use Rattle.pg_line_space.specs.declared.state.LineState.{LineState}
-use Rattle.pg_line_space.specs.LineSpace.{line_state}
+use Rattle.law_lines.specs.declared.state.LineState.{LineState}
+use Rattle.law_lines.specs.LineSpace.{line_state}
 use Rattle.pg_break_lines.proofs.ways.label_at.Given as goal
 
 abbrev pub invariant-labels : goal.invariant-labels

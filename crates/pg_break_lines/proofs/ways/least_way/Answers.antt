@@ -3,8 +3,8 @@ use Rattle.std.specs.Int.{w128}
 use Rattle.std.proofs.lemmas.Int.{to_z-of_z}
 use Rattle.pg_table.specs.Label.{IsTable}
 use Rattle.pg_table.specs.declared.table.Entry.{Entry}
-use Rattle.pg_line_space.specs.declared.state.LineState.{LineState}
-use Rattle.pg_line_space.specs.LineSpace.{line_meaning}
+use Rattle.law_lines.specs.declared.state.LineState.{LineState}
+use Rattle.law_lines.specs.LineSpace.{line_meaning}
 use Rattle.pg_break_lines.specs.Moves.{low_by}
 use Rattle.pg_break_lines.proofs.Counted.{no_way_told, way_told}
 use Rattle.pg_break_lines.proofs.ways.least_way.Goals as goal

@@ -5,7 +5,7 @@ use mir.Val.{SFits}
 use Rattle.pg_rules.specs.Legal.{document}
 use Rattle.pg_column.specs.Passed.{fits}
 use Rattle.pg_stretch.specs.Ahead.{front_ahead, items_ahead}
-use Rattle.pg_walk_laws.specs.Walk.{ends_along}
+use Rattle.law_walk.specs.Walk.{ends_along}
 use Rattle.pg_stretch.specs.Quiet.{is_quiet}
 use Rattle.pg_stretch.specs.View.{view}
 use Rattle.pg_stretch.specs.declared.passed.Passed.{Passed}

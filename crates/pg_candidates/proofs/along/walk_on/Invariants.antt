@@ -3,8 +3,8 @@ use Rattle.pg_list.specs.Places.{place}
 use Rattle.std.specs.Prelude.{max}
 use Rattle.pg_rules.specs.Legal.{document}
 use Rattle.pg_column.specs.Passed.{fits}
-use Rattle.pg_walk_laws.specs.Reached.{reach_along}
-use Rattle.pg_walk_laws.specs.Walk.{ends_along, past_stretch}
+use Rattle.law_walk.specs.Reached.{reach_along}
+use Rattle.law_walk.specs.Walk.{ends_along, past_stretch}
 use Rattle.pg_stretch.specs.Ahead.{IsSettled, front_ahead, items_ahead}
 use Rattle.pg_stretch.specs.Quiet.{is_quiet, passed_along}
 use Rattle.pg_stretch.specs.View.{IsFor, view}

@@ -1,7 +1,7 @@
 use Rattle.std.proofs.Common.{◌≡◌, ap, subst, sym, ◌∙◌, IfSome}
 use Rattle.std.proofs.lemmas.Option.{same_Some}
 use Rattle.pg_rules.specs.Legal.{document}
-use Rattle.pg_walk_laws.specs.Candidates.{Candidate}
+use Rattle.law_walk.specs.Candidates.{Candidate}
 use Rattle.pg_candidates.specs.Nears.{IsServedFrom, IsWorst}
 use Rattle.pg_candidates.specs.View.{candidate_of}
 use Rattle.pg_candidates.proofs.Needed.{found_at}

@@ -1,5 +1,5 @@
 use Rattle.std.proofs.Common.{◌<◌, ℕ}
-use Rattle.pg_walk_laws.specs.Best.{IsAmong}
+use Rattle.law_walk.specs.Best.{IsAmong}
 use Rattle.pg_candidates.specs.Groups.{indices_in}
 use Rattle.pg_candidates.proofs.order.grouped.Given as goal
 

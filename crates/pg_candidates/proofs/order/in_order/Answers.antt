@@ -1,6 +1,6 @@
 use Rattle.std.proofs.Common.{◌<◌, ◌≡◌, ◌∙◌, List, ap, length, map, subst, sym, ℕ}
 use Rattle.std.proofs.lemmas.Result.{IfOk-weaker}
-use Rattle.pg_walk_laws.specs.Best.{IsAmong}
+use Rattle.law_walk.specs.Best.{IsAmong}
 use Rattle.pg_candidates.specs.Groups.{indices_in}
 use Rattle.pg_candidates.specs.declared.order.Ranked.{Ranked}
 use Rattle.pg_candidates.proofs.order.in_order.Goals as goal

@@ -3,7 +3,7 @@ use Rattle.std.specs.Prelude.{Ok, Result}
 use Rattle.std.proofs.lemmas.Int.{to_z-of_z}
 use Rattle.pg_hlist.specs.declared.item.HItem.{HItem}
 use Rattle.pg_outside.specs.Outside.{Held, over_sink}
-use Rattle.pg_paragraphs.specs.declared.rule.LineRule.{LineRule}
+use Rattle.law_lines.specs.declared.rule.LineRule.{LineRule}
 use Rattle.pg_command.specs.Lines.{line_of, status_of}
 use Rattle.pg_course.specs.Calls.{Writes}
 use Rattle.pg_course.specs.Course.{BeginsBy, EndsBy, LinesCourse, Stop, opened_paras, rule_of}

@@ -7,7 +7,7 @@ use Rattle.pg_plan.specs.declared.pages.PageMove.{PageMove}
 use Rattle.pg_plan.specs.declared.states.Label.{Label}
 use Rattle.pg_plan.specs.declared.states.State.{State}
 use Rattle.pg_rules.specs.Frontier.{state_cmp}
-use Rattle.pg_space_laws.specs.Laws.{label_of}
+use Rattle.law_space.specs.SpaceLaws.{label_of}
 use Rattle.pg_table.specs.declared.table.Entry.{Entry}
 use Rattle.pg_frontier.proofs.Listed.{map_sorted}
 use Rattle.pg_frontier.proofs.listing.frontier_of.Goals as goal

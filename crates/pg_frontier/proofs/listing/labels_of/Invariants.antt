@@ -1,7 +1,7 @@
 use Rattle.std.proofs.Common.{◌≡◌, map, take, Bor}
 use Rattle.pg_plan.specs.declared.pages.PageMove.{PageMove}
 use Rattle.pg_plan.specs.declared.states.State.{State}
-use Rattle.pg_space_laws.specs.Laws.{label_of}
+use Rattle.law_space.specs.SpaceLaws.{label_of}
 use Rattle.pg_table.specs.declared.table.Entry.{Entry}
 use Rattle.pg_frontier.proofs.listing.labels_of.Given as goal
 

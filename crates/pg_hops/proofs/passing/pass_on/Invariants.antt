@@ -2,8 +2,8 @@ use Rattle.std.proofs.Common.{◌≡◌, ◌+◌, length, true}
 use Rattle.std.specs.Prelude.{max}
 use Rattle.pg_rules.specs.Legal.{document}
 use Rattle.pg_column.specs.Passed.{fits}
-use Rattle.pg_walk_laws.specs.Reached.{reach_along}
-use Rattle.pg_walk_laws.specs.Walk.{past_stretch}
+use Rattle.law_walk.specs.Reached.{reach_along}
+use Rattle.law_walk.specs.Walk.{past_stretch}
 use Rattle.pg_stretch.specs.Ahead.{IsSettled, front_ahead, items_ahead}
 use Rattle.pg_stretch.specs.View.{IsFor, view}
 use Rattle.pg_hops.proofs.passing.pass_on.Given as goal

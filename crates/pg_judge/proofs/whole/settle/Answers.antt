@@ -9,7 +9,7 @@ use Rattle.pg_rules.specs.Floats.{called, entry}
 use Rattle.pg_rules.specs.History.{placed_of}
 use Rattle.pg_rules.specs.IsState.{IsPlace}
 use Rattle.pg_rules.specs.Legal.{document, is_chained, is_spent_at}
-use Rattle.pg_beginning_laws.proofs.Faults.{kept}
+use Rattle.law_columns.proofs.Faults.{kept}
 use Rattle.pg_areas.specs.Counts.{capped}
 use Rattle.pg_judge.specs.Progress.{broken_pair}
 use Rattle.pg_judge.specs.Settled.{Settles}

@@ -1,7 +1,7 @@
 use Rattle.pg_plan.specs.declared.states.Label.{Label}
 use Rattle.pg_rules.specs.IsState.{IsState}
 use Rattle.pg_sources.specs.Document.{doc_of}
-use Rattle.pg_check_laws.specs.Faults.{IsNoState}
+use Rattle.law_check.specs.Faults.{IsNoState}
 use Rattle.pg_labelcheck.proofs.OneByOne.{before_last, before_more, decided_not, first_is}
 use Rattle.pg_labelcheck.proofs.firsts.first_no_state.Goals as goal
 

@@ -3,8 +3,8 @@ use Rattle.std.specs.Prelude.{Contains, Option, ℤ}
 use Rattle.std.proofs.lemmas.Option.{slice_get_read}
 use Rattle.pg_plan.specs.declared.states.Label.{Label}
 use Rattle.pg_sources.specs.Document.{doc_of}
-use Rattle.pg_check_laws.specs.Faults.{IsFaultOrMemory, IsFirst}
-use Rattle.pg_check_laws.specs.Tests.{AreStates}
+use Rattle.law_check.specs.Faults.{IsFaultOrMemory, IsFirst}
+use Rattle.law_check.specs.Tests.{AreStates}
 use Rattle.pg_labelcheck.specs.Tested.{IsFinalBelow}
 use Rattle.pg_labelcheck.proofs.Passes.{final_fails, final_passes, index_few, index_within}
 use Rattle.pg_labelcheck.proofs.labels.test_final.Goals as goal

@@ -1,7 +1,7 @@
 use Rattle.std.proofs.Common.{sym}
 use Rattle.pg_list.specs.GalleyValue.{GalleyValue}
 use Rattle.pg_style.specs.Values.{StyleValue}
-use Rattle.pg_check_laws.specs.Tests.{PassesAll, PassesText}
+use Rattle.law_check.specs.Tests.{PassesAll, PassesText}
 use Rattle.pg_labelcheck.specs.Tested.{Tested}
 use Rattle.pg_space.proofs.Telling.{of_equal}
 use Rattle.pg_labelcheck.proofs.labels.test_labels.Goals as goal

@@ -1,6 +1,6 @@
 use Rattle.std.proofs.Common.{subst, sym}
 use Rattle.pg_sources.specs.Document.{doc_of}
-use Rattle.pg_check_laws.specs.Tests.{AreStates}
+use Rattle.law_check.specs.Tests.{AreStates}
 use Rattle.pg_labelcheck.proofs.Passes.{open_few, steps_fail, steps_pass}
 use Rattle.pg_labelcheck.proofs.labels.test_steps.Goals as goal
 

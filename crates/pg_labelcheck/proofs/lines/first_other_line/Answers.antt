@@ -1,7 +1,7 @@
 use Rattle.std.proofs.Common.{◌∙◌, sym, ap}
 use Rattle.std.specs.Option.{option_map}
 use Rattle.pg_labels.specs.Reading.{lines_left}
-use Rattle.pg_check_laws.specs.Faults.{first_difference}
+use Rattle.law_check.specs.Faults.{first_difference}
 use Rattle.pg_labelcheck.proofs.Differing.{first_ends, second_ends}
 use Rattle.pg_labelcheck.proofs.lines.first_other_line.Goals as goal
 

@@ -3,7 +3,7 @@ use Rattle.std.specs.Option.{option_map}
 use Rattle.pg_scan.specs.Parts.{parts_of}
 use Rattle.pg_words.specs.EntriesLeft.{size_left}
 use Rattle.pg_labels.specs.Reading.{lines_left}
-use Rattle.pg_check_laws.specs.Faults.{first_difference}
+use Rattle.law_check.specs.Faults.{first_difference}
 use Rattle.pg_labelcheck.proofs.lines.first_other_line.Given as goal
 
 abbrev pub invariant-loop-rest : goal.invariant-loop-rest

@@ -2,7 +2,7 @@ use Rattle.std.proofs.Common.{subst, ℤ, List}
 use Rattle.std.specs.Int.{w128}
 use Rattle.std.proofs.lemmas.Int.{to_z-of_z}
 use Rattle.pg_plan.specs.declared.states.Label.{Label}
-use Rattle.pg_check_laws.specs.Faults.{IsFaultOrMemory}
+use Rattle.law_check.specs.Faults.{IsFaultOrMemory}
 use Rattle.pg_labelcheck.specs.Tested.{showing}
 use Rattle.pg_labelcheck.proofs.Shows.{other_cost}
 use Rattle.pg_labelcheck.proofs.shown.test_pages.Goals as goal

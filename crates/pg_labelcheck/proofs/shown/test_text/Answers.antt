@@ -3,7 +3,7 @@ use Rattle.std.specs.Int.{w128}
 use Rattle.std.proofs.lemmas.Int.{to_z-of_z}
 use Rattle.pg_scan.specs.Parts.{parts_of}
 use Rattle.pg_pages.specs.PageText.{page_text}
-use Rattle.pg_check_laws.specs.Faults.{first_difference}
+use Rattle.law_check.specs.Faults.{first_difference}
 use Rattle.pg_labelcheck.proofs.Differing.{text_same}
 use Rattle.pg_labelcheck.proofs.Shows.{printed_is}
 use Rattle.pg_labelcheck.proofs.shown.test_text.Goals as goal

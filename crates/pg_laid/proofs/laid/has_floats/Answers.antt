@@ -1,7 +1,7 @@
 use Rattle.std.proofs.Common.{◌≡◌, ◌∙◌, ap, List, ℕ, length}
 use Rattle.std.specs.Prelude.{nat_lt}
 use Rattle.pg_areas.specs.Counts.{count_in}
-use Rattle.pg_bound_laws.proofs.Counts.{float_total}
+use Rattle.law_columns.proofs.BoundCounts.{float_total}
 use Rattle.pg_rules.specs.Floats.{float_numbers}
 use Rattle.pg_laid.proofs.laid.has_floats.Goals as goal
 

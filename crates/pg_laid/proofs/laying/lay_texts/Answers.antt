@@ -3,7 +3,7 @@ use Rattle.std.specs.Prelude.{Contains, IfOk}
 use Rattle.pg_layouts.proofs.Fits.{short_of}
 use Rattle.pg_layouts.specs.Layouts.{text_layouts}
 use Rattle.pg_layouts.specs.declared.layout.Layout.{Layout}
-use Rattle.pg_member_laws.proofs.Members.{contains_among}
+use Rattle.law_places.proofs.Members.{contains_among}
 use Rattle.pg_sources.specs.Document.{doc_of}
 use Rattle.pg_laid.specs.Laid.{laid_of}
 use Rattle.pg_laid.proofs.Dealt.{placed_short, text_laid}

@@ -1,6 +1,6 @@
 use Rattle.std.proofs.Common.{◌≡◌, ◌++◌, length}
 use Rattle.std.specs.List.{flat_map}
-use Rattle.pg_paragraphs.specs.Boxes.{own_width}
+use Rattle.law_lines.specs.Boxes.{own_width}
 use Rattle.pg_line_boxes.proofs.glue.own_widths.Given as goal
 
 abbrev pub invariant-items : goal.invariant-items

@@ -1,6 +1,6 @@
 use Rattle.std.proofs.Common.{◌≡◌, ◌++◌, length}
 use Rattle.std.specs.List.{AllByRecursion}
-use Rattle.pg_paragraphs.specs.Boxes.{items_text}
+use Rattle.law_lines.specs.Boxes.{items_text}
 use Rattle.pg_glue.specs.Widths.{IsPrintable}
 use Rattle.pg_line_boxes.proofs.text.print_items.Given as goal
 

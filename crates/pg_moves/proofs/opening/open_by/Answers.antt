@@ -1,7 +1,7 @@
 use Rattle.std.proofs.Common.{subst, sym}
 use Rattle.pg_sources.specs.Document.{doc_of}
 use Rattle.pg_laid.specs.Laid.{HasSoMany}
-use Rattle.pg_move_laws.specs.Listed.{beyond}
+use Rattle.law_moves.specs.Listed.{beyond}
 use Rattle.pg_moves.proofs.AllSteps.{opened}
 use Rattle.pg_laid.proofs.Dealt.{called_has}
 use Rattle.pg_moves.proofs.opening.open_by.Goals as goal

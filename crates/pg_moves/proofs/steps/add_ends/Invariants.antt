@@ -2,7 +2,7 @@ use Rattle.std.proofs.Common.{take}
 use Rattle.std.specs.List.{AllByRecursion}
 use Rattle.pg_candidates.specs.RoomEnds.{ends_of}
 use Rattle.pg_candidates.specs.declared.room_end.RoomEnd.{RoomEnd}
-use Rattle.pg_move_laws.specs.Listed.{listed_with}
+use Rattle.law_moves.specs.Listed.{listed_with}
 use Rattle.pg_sources.specs.Document.{doc_of}
 use Rattle.pg_moves.specs.Stepping.{IsBehind, IsOpenAt}
 use Rattle.pg_moves.specs.Thinned.{Adds}

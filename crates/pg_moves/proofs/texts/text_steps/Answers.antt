@@ -2,7 +2,7 @@ use Rattle.std.proofs.Common.{◌∙◌, ap, ℕ, subst, sym, List, map}
 use Rattle.std.specs.Prelude.{Contains, ◌≤ℤ◌}
 use Rattle.std.specs.List.{AllByRecursion}
 use Rattle.pg_layouts.specs.Layouts.{text_layouts}
-use Rattle.pg_walk_laws.specs.Reached.{tallest}
+use Rattle.law_walk.specs.Reached.{tallest}
 use Rattle.pg_sources.specs.Document.{doc_of}
 use Rattle.pg_laid.specs.Laid.{HasSoMany, laid_of}
 use Rattle.pg_laid.specs.declared.laid.Laid.{Laid}

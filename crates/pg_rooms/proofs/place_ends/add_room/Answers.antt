@@ -1,7 +1,7 @@
 use Rattle.std.proofs.Common.{rules, sym, subst, ◌∙◌, ℤ, ◌≤ℤ◌, w64}
 use Rattle.std.proofs.lemmas.Int.{to_z-of_z}
 use Rattle.pg_sources.specs.Document.{doc_of}
-use Rattle.pg_walk_laws.specs.Reached.{tallest}
+use Rattle.law_walk.specs.Reached.{tallest}
 use Rattle.pg_rooms.proofs.Kept.{has_added, has_still, rooms_added}
 use Rattle.pg_rooms.proofs.place_ends.add_room.Goals as goal
 

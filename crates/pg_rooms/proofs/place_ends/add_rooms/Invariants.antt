@@ -4,7 +4,7 @@ use Rattle.pg_laid.specs.declared.laid.Laid.{Laid}
 use Rattle.pg_list.specs.declared.galley.Place.{Place}
 use Rattle.pg_sources.specs.Document.{doc_of}
 use Rattle.pg_rooms.specs.Calls.{AreCalls}
-use Rattle.pg_walk_laws.specs.Reached.{tallest}
+use Rattle.law_walk.specs.Reached.{tallest}
 use Rattle.pg_candidates.specs.Nears.{AreNearFrom}
 use Rattle.pg_rooms.specs.PlaceEnds.{AreRoomEnds, has_room}
 use Rattle.pg_rooms.proofs.place_ends.add_rooms.Given as goal

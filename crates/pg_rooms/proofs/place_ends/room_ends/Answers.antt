@@ -1,7 +1,7 @@
 use Rattle.std.proofs.Common.{sym, subst, ℤ, ◌≤ℤ◌, w64}
 use Rattle.std.proofs.lemmas.Int.{to_z-of_z}
 use Rattle.pg_sources.specs.Document.{doc_of}
-use Rattle.pg_walk_laws.specs.Reached.{tallest}
+use Rattle.law_walk.specs.Reached.{tallest}
 use Rattle.pg_rooms.specs.PlaceEnds.{AreGroups}
 use Rattle.pg_rooms.proofs.place_ends.room_ends.Goals as goal
 

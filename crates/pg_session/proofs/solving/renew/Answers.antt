@@ -2,7 +2,7 @@ use Rattle.std.proofs.Common.{◌+◌, ◌∙◌, ap, refl, subst, ℕ, List, ma
 use Rattle.std.specs.List.Sorted.{IsPermutation}
 use Rattle.pg_plan.specs.declared.pages.PageMove.{PageMove}
 use Rattle.pg_plan.specs.declared.states.State.{State}
-use Rattle.pg_space_laws.specs.Laws.{label_of}
+use Rattle.law_space.specs.SpaceLaws.{label_of}
 use Rattle.pg_table.specs.declared.table.Entry.{Entry}
 use Rattle.pg_session.proofs.Reaching.{reaching_same}
 use Rattle.pg_session.specs.declared.kept.Kept.{Kept}

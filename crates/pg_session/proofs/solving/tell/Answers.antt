@@ -2,7 +2,7 @@ use Rattle.std.proofs.Common.{sym}
 use Rattle.pg_list.specs.GalleyValue.{GalleyValue}
 use Rattle.pg_rules.specs.Legal.{document}
 use Rattle.pg_space.proofs.Telling.{of_equal}
-use Rattle.pg_space_laws.specs.PageSpace.{page_meaning}
+use Rattle.law_space.specs.PageSpace.{page_meaning}
 use Rattle.pg_style.specs.Values.{StyleValue}
 use Rattle.pg_table.specs.Label.{IsTable}
 use Rattle.pg_session.proofs.solving.tell.Goals as goal

@@ -2,7 +2,7 @@ use Rattle.std.proofs.Common.{sym, subst, List}
 use Rattle.pg_sources.specs.Document.{doc_of}
 use Rattle.pg_plan.specs.declared.pages.PageMove.{PageMove}
 use Rattle.pg_plan.specs.declared.states.State.{State}
-use Rattle.pg_space_laws.specs.PageSpace.{page_meaning}
+use Rattle.law_space.specs.PageSpace.{page_meaning}
 use Rattle.pg_table.specs.Label.{IsBestOf, IsTable}
 use Rattle.pg_table.specs.declared.table.Entry.{Entry}
 use Rattle.pg_space.proofs.solving.outcome_of.Goals as goal

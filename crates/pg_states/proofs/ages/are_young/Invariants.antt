@@ -1,8 +1,8 @@
 use Rattle.std.proofs.Common.{◌≡◌, ◌≤◌, ◌+◌, map, length, ℕ}
 use Rattle.std.specs.List.{range_with_len}
 use Rattle.pg_rules.specs.Floats.{distance_table}
-use Rattle.pg_move_laws.specs.Ages.{waits_of}
-use Rattle.pg_move_laws.specs.StateTest.{young_by}
+use Rattle.law_moves.specs.Ages.{waits_of}
+use Rattle.law_moves.specs.StateTest.{young_by}
 use Rattle.pg_sources.specs.Document.{doc_of}
 use Rattle.pg_states.specs.Parts.{waits_in}
 use Rattle.pg_states.proofs.ages.are_young.Given as goal

@@ -1,6 +1,6 @@
 use Rattle.std.proofs.Common.{ap, sym, ◌∙◌}
 use Rattle.pg_rules.specs.NoWorse.{are_same_counts}
-use Rattle.pg_column_laws.proofs.Simulation.{counts_refl}
+use Rattle.law_columns.proofs.Simulation.{counts_refl}
 use Rattle.pg_states.proofs.comparing.has_same_placed.Goals as goal
 
 pub returns-then-has_surely_same_placed : goal.returns-then-has_surely_same_placed

@@ -1,7 +1,7 @@
 use Rattle.std.proofs.Common.{◌≡◌, sym, subst, true}
 use Rattle.pg_plan.specs.declared.states.State.{State}
 use Rattle.pg_rules.specs.NoWorse.{are_no_older, is_no_worse, is_same_key, key}
-use Rattle.pg_column_laws.proofs.Simulation.{key_refl, no_older_refl}
+use Rattle.law_columns.proofs.Simulation.{key_refl, no_older_refl}
 use Rattle.pg_lemmas.proofs.Bools.{both}
 use Rattle.pg_states.proofs.comparing.no_worse.Goals as goal
 

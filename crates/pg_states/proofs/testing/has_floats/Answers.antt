@@ -1,7 +1,7 @@
 use Rattle.std.proofs.Common.{◌∙◌, ap, length, List, ℕ}
 use Rattle.std.specs.Prelude.{◌==◌}
 use Rattle.pg_sources.specs.Document.{doc_of}
-use Rattle.pg_move_laws.specs.Listed.{calls_all}
+use Rattle.law_moves.specs.Listed.{calls_all}
 use Rattle.pg_lemmas.proofs.Numbers.{eq_yes}
 use Rattle.pg_states.proofs.Both.{as_many, not_equal, missed, passed}
 use Rattle.pg_states.proofs.testing.has_floats.Goals as goal

@@ -6,8 +6,7 @@ use Rattle.pg_stylefile.proofs.distance.entries_in.Given as goal
 
 abbrev pub invariant-loop-value : goal.invariant-loop-value
 invariant-loop-value l = record {
-  same : each_entry (items_view l.values) ≡ behind l.entries.items (each_entry
+  same : each_entry (items_view l.values) ≡ behind l.entries (each_entry
       (items_view (drop l.value-index l.values)));
-  count : length l.entries.items ≡ l.value-index;
-  room : 9 ≤ l.entries.capacity;
+  count : length l.entries ≡ l.value-index;
 }

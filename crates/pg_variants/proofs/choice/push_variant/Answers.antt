@@ -3,7 +3,7 @@ use Rattle.std.proofs.lemmas.Int.{to_z-of_z}
 use Rattle.pg_break_lines.specs.Found.{IsFound}
 use Rattle.pg_break_lines.proofs.Counted.{way_short}
 use Rattle.pg_list.specs.declared.variants.Variant.{Variant}
-use Rattle.pg_paragraphs.specs.Variants.{variant_of}
+use Rattle.law_lines.specs.Variants.{variant_of}
 use Rattle.pg_variants.proofs.Found.{no_lines, no_variant, one_variant}
 use Rattle.pg_variants.proofs.choice.push_variant.Goals as goal
 

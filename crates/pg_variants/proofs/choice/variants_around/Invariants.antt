@@ -1,7 +1,7 @@
 use Rattle.std.proofs.Common.{◌≡◌, ◌++◌, length}
 use Rattle.std.specs.Prelude.{ℤ, pos, ◌+ℤ◌, ◌≤ℤ◌}
 use Rattle.std.specs.List.{AllByRecursion, flat_map}
-use Rattle.pg_paragraphs.specs.Variants.{loosenesses}
+use Rattle.law_lines.specs.Variants.{loosenesses}
 use Rattle.pg_variants.specs.Answers.{variant_by}
 use Rattle.pg_variants.proofs.choice.variants_around.Given as goal
 

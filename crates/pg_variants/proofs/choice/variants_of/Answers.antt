@@ -1,6 +1,6 @@
 use Rattle.std.proofs.Common.{◌∙◌, sym, subst, arith, List, Some}
 use Rattle.pg_hlist.specs.declared.item.HItem.{HItem}
-use Rattle.pg_paragraphs.specs.declared.rule.LineRule.{LineRule}
+use Rattle.law_lines.specs.declared.rule.LineRule.{LineRule}
 use Rattle.pg_break_lines.specs.Found.{IsBestNumber, IsFound}
 use Rattle.pg_variants.proofs.Found.{best_found, count_few, moved}
 use Rattle.pg_variants.proofs.choice.variants_of.Goals as goal

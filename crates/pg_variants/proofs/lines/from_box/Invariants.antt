@@ -1,5 +1,5 @@
 use Rattle.std.proofs.Common.{◌≡◌, length}
-use Rattle.pg_paragraphs.specs.Lines.{from_box as from_box_of}
+use Rattle.law_lines.specs.Lines.{from_box as from_box_of}
 use Rattle.pg_variants.proofs.lines.from_box.Given as goal
 
 abbrev pub invariant-items : goal.invariant-items

@@ -1,6 +1,6 @@
 use Rattle.std.proofs.Common.{◌≡◌, ◌∙◌, ap, sym, subst, drop}
 use Rattle.pg_hlist.specs.Items.{IsPara}
-use Rattle.pg_paragraphs.specs.Lines.{from_box, line_items}
+use Rattle.law_lines.specs.Lines.{from_box, line_items}
 use Rattle.pg_variants.proofs.LineRanges.{line_keeps}
 use Rattle.pg_variants.proofs.lines.line_between.Goals as goal
 

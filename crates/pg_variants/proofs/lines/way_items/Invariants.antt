@@ -1,6 +1,6 @@
 use Rattle.std.proofs.Common.{◌≡◌, ◌≤◌, ◌++◌, length}
 use Rattle.std.specs.Prelude.{reverse}
-use Rattle.pg_paragraphs.specs.Variants.{way_items as way_items_of}
+use Rattle.law_lines.specs.Variants.{way_items as way_items_of}
 use Rattle.pg_variants.specs.Set.{set_ends}
 use Rattle.pg_variants.proofs.lines.way_items.Given as goal
 

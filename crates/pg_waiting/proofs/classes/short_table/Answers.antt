@@ -1,5 +1,5 @@
 use Rattle.std.proofs.Common.{◌≤◌, length, subst, sym}
-use Rattle.pg_column_laws.proofs.StyleFacts.{slot_table}
+use Rattle.law_columns.proofs.StyleFacts.{slot_table}
 use Rattle.pg_waiting.proofs.classes.short_table.Goals as goal
 
 pub returns-clause-few : goal.returns-clause-few

@@ -2,7 +2,7 @@ use Rattle.std.proofs.Common.{subst, ℤ, w64}
 use Rattle.std.proofs.lemmas.Int.{to_z-of_z}
 use Rattle.std.proofs.lemmas.Result.{IfOk-weaker}
 use Rattle.pg_rules.specs.Legal.{document}
-use Rattle.pg_walk_laws.specs.Candidates.{AreCandidates}
+use Rattle.law_walk.specs.Candidates.{AreCandidates}
 use Rattle.pg_candidates.specs.Nears.{AreNear, AreNearFrom}
 use Rattle.pg_walk.proofs.place.near_from.Goals as goal
 

@@ -1,8 +1,8 @@
 use Rattle.std.proofs.Common.{rules, subst, ◌∙◌, IfSome, ℤ, w64}
 use Rattle.std.proofs.lemmas.Int.{to_z-of_z}
 use Rattle.pg_rules.specs.Legal.{document}
-use Rattle.pg_walk_laws.specs.Candidates.{AreCandidates}
-use Rattle.pg_walk_laws.specs.Reached.{quiet}
+use Rattle.law_walk.specs.Candidates.{AreCandidates}
+use Rattle.law_walk.specs.Reached.{quiet}
 use Rattle.pg_walk.specs.Blocks.{IsAlone}
 use Rattle.pg_walk.proofs.place.walk_from.Goals as goal
 

@@ -8,7 +8,7 @@ use Rattle.pg_list.proofs.Sizes.{blocks_le}
 use Rattle.pg_rules.specs.Legal.{document}
 use Rattle.pg_stretch.specs.View.{view}
 use Rattle.pg_stretch.proofs.Left.{first_left}
-use Rattle.pg_walk_laws.specs.Walk.{variants_at}
+use Rattle.law_walk.specs.Walk.{variants_at}
 use Rattle.pg_walk_space.specs.Meaning.{IsOwn}
 use Rattle.pg_walk.proofs.First.{place_within}
 use Rattle.pg_walk.proofs.Furthest.{IsBegun, alone, begun, by_picks, stops}

@@ -1,6 +1,6 @@
 use Rattle.std.proofs.Common.{subst, Option, IfSome, ℕ, inl}
 use Rattle.pg_rules.specs.Legal.{document}
-use Rattle.pg_walk_laws.specs.Reached.{quiet, tallest}
+use Rattle.law_walk.specs.Reached.{quiet, tallest}
 use Rattle.pg_walk.specs.Blocks.{IsAlone}
 use Rattle.pg_walk.proofs.reach.reach_told.Goals as goal
 

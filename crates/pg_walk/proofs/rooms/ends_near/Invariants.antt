@@ -4,7 +4,7 @@ use Rattle.std.specs.List.{AllByRecursion}
 use Rattle.pg_list.specs.declared.galley.Place.{Place}
 use Rattle.pg_ends.specs.declared.end.End.{End}
 use Rattle.pg_rules.specs.Legal.{document}
-use Rattle.pg_walk_laws.specs.Laws.{AreEndsInEach, AreUpTo}
+use Rattle.law_walk.specs.Laws.{AreEndsInEach, AreUpTo}
 use Rattle.pg_candidates.specs.Nears.{AreNearFrom}
 use Rattle.pg_walk.proofs.rooms.ends_near.Given as goal
 

@@ -1,6 +1,6 @@
 use Rattle.std.proofs.Common.{rules, subst, sym, ◌∙◌, ℤ, w64}
 use Rattle.std.proofs.lemmas.Int.{to_z-of_z}
-use Rattle.pg_walk_laws.specs.Laws.{AreUpTo}
+use Rattle.law_walk.specs.Laws.{AreUpTo}
 use Rattle.pg_walk.proofs.Several.{up_to}
 use Rattle.pg_walk.proofs.rooms.top_of.Goals as goal
 

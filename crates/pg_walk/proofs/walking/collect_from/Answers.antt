@@ -10,9 +10,9 @@ use Rattle.pg_column.specs.Passed.{nothing}
 use Rattle.pg_stretch.specs.View.{view}
 use Rattle.pg_stretch.specs.declared.passing.State.{State}
 use Rattle.pg_candidates.specs.View.{passed_of}
-use Rattle.pg_walk_laws.specs.Candidates.{AreCandidates, Candidate}
-use Rattle.pg_walk_laws.specs.Space.{first_ends}
-use Rattle.pg_walk_laws.specs.Walk.{first_front, first_items, past_stretch, variants_at}
+use Rattle.law_walk.specs.Candidates.{AreCandidates, Candidate}
+use Rattle.law_walk.specs.Space.{first_ends}
+use Rattle.law_walk.specs.Walk.{first_front, first_items, past_stretch, variants_at}
 use Rattle.pg_walk_labels.specs.Collected.{Collects}
 use Rattle.pg_walk.proofs.First.{labels_do, told_alone}
 use Rattle.pg_walk.proofs.walking.collect_from.Goals as goal

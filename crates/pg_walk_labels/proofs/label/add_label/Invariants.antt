@@ -1,6 +1,6 @@
 use Rattle.std.proofs.Common.{◌≡◌, ◌+◌, ◌≤◌, ◌++◌, length}
 use Rattle.pg_rules.specs.Legal.{document}
-use Rattle.pg_walk_laws.specs.Walk.{variants_at}
+use Rattle.law_walk.specs.Walk.{variants_at}
 use Rattle.pg_walk_space.specs.Meaning.{state_of}
 use Rattle.pg_walk_labels.specs.Collected.{ends_from}
 use Rattle.pg_walk_labels.proofs.label.add_label.Given as goal

@@ -1,7 +1,7 @@
 use Rattle.std.proofs.Common.{◌∙◌, ◌<◌, ap, sym, arith, ℕ, length}
 use Rattle.std.specs.Prelude.{max}
 use Rattle.pg_rules.specs.Legal.{document}
-use Rattle.pg_walk_laws.specs.Walk.{variants_at}
+use Rattle.law_walk.specs.Walk.{variants_at}
 use Rattle.pg_walk_labels.proofs.Greatest.{some_items, some_picks}
 use Rattle.pg_walk_labels.proofs.reach.reach_of_label.Goals as goal
 

@@ -1,5 +1,5 @@
 use Rattle.std.proofs.Common.{◌≡◌, length}
-use Rattle.pg_walk_laws.specs.Space.{same_notes}
+use Rattle.law_walk.specs.Space.{same_notes}
 use Rattle.pg_walk_space.proofs.space.same_notes.Given as goal
 
 abbrev pub invariant-classes : goal.invariant-classes

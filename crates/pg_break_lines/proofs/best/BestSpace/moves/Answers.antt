@@ -2,7 +2,7 @@ use Rattle.std.proofs.Common.{◌≡◌, ◌∙◌, ◌++◌, [], sym, ap, subst
 use Rattle.std.specs.List.{flat_map}
 use Rattle.pg_lemmas.proofs.Lists.{no_items}
 use Rattle.pg_table.specs.Space.{AreMoves}
-use Rattle.pg_line_space.specs.BestSpace.{best_meaning}
+use Rattle.law_lines.specs.BestSpace.{best_meaning}
 use Rattle.pg_break_lines.specs.declared.ends.LineEnd.{LineEnd}
 use Rattle.pg_break_lines.specs.Moves.{best_step, ends_at}
 use Rattle.pg_break_lines.proofs.Moves.{best_moves, listed_at}

@@ -3,8 +3,8 @@ use Rattle.std.specs.List.{flat_map}
 use Rattle.pg_lemmas.proofs.Lists.{no_items}
 use Rattle.pg_table.specs.Space.{AreMoves}
 use Rattle.pg_table.specs.declared.step.Step.{Step}
-use Rattle.pg_line_space.specs.declared.state.LineState.{LineState}
-use Rattle.pg_line_space.specs.LineSpace.{line_meaning}
+use Rattle.law_lines.specs.declared.state.LineState.{LineState}
+use Rattle.law_lines.specs.LineSpace.{line_meaning}
 use Rattle.pg_break_lines.specs.declared.ends.LineEnd.{LineEnd}
 use Rattle.pg_break_lines.specs.Moves.{ends_at, line_step, low_by}
 use Rattle.pg_break_lines.proofs.Moves.{line_moves, listed_at}

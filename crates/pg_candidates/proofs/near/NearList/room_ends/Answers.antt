@@ -4,8 +4,8 @@ use Rattle.std.proofs.lemmas.List.{take_all}
 use Rattle.pg_lemmas.proofs.Lists.{one_more}
 use Rattle.pg_ends.specs.Ends.{AreEnds}
 use Rattle.pg_rules.specs.Legal.{document}
-use Rattle.pg_walk_laws.specs.Best.{AreBest}
-use Rattle.pg_walk_laws.specs.Candidates.{Candidate, kept_ends}
+use Rattle.law_walk.specs.Best.{AreBest}
+use Rattle.law_walk.specs.Candidates.{Candidate, kept_ends}
 use Rattle.pg_candidates.specs.Nears.{NearsValue, needed_in}
 use Rattle.pg_candidates.specs.RoomEnds.{ends_of}
 use Rattle.pg_candidates.specs.View.{candidate_of}

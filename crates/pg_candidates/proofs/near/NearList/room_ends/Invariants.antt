@@ -1,8 +1,8 @@
 use Rattle.std.proofs.Common.{map, take}
 use Rattle.std.specs.List.{AllByRecursion}
 use Rattle.pg_rules.specs.Legal.{document}
-use Rattle.pg_walk_laws.specs.Best.{AreBest}
-use Rattle.pg_walk_laws.specs.Candidates.{kept_ends}
+use Rattle.law_walk.specs.Best.{AreBest}
+use Rattle.law_walk.specs.Candidates.{kept_ends}
 use Rattle.pg_candidates.specs.Nears.{IsNearIn, needed_in}
 use Rattle.pg_candidates.specs.RoomEnds.{ends_of}
 use Rattle.pg_candidates.specs.View.{candidate_of}

@@ -2,7 +2,7 @@ use Rattle.std.proofs.Common.{◌≡◌, ◌∙◌, ap, sym}
 use Rattle.std.proofs.Math.Logic.{∥∥₁_map}
 use Rattle.pg_hops.specs.Index.{AreHops}
 use Rattle.pg_list.specs.GalleyValue.{GalleyValue}
-use Rattle.pg_reach_laws.specs.ReachAt.{reach_at}
+use Rattle.law_space.specs.ReachAt.{reach_at}
 use Rattle.pg_rooms.proofs.Kept.{begun}
 use Rattle.pg_rules.specs.Legal.{document}
 use Rattle.pg_sources.specs.Document.{doc_of}

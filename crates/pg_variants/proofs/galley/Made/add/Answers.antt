@@ -2,7 +2,7 @@ use Rattle.std.proofs.Common.{◌≤◌, sym, subst, List}
 use Rattle.pg_list.specs.Counts.{block_size, item_limit}
 use Rattle.pg_list.specs.declared.blocks.Block.TheVariants.{Choice}
 use Rattle.pg_list.specs.declared.variants.Variant.{Variant}
-use Rattle.pg_paragraphs.proofs.Shapes.{variants_choice}
+use Rattle.law_lines.proofs.Shapes.{variants_choice}
 use Rattle.pg_variants.specs.Answers.{Varies}
 use Rattle.pg_variants.proofs.Going.{made_more}
 use Rattle.pg_variants.proofs.Sizes.{variants_few}

@@ -4,8 +4,8 @@ use Rattle.pg_list.proofs.Sizes.{blocks_le}
 use Rattle.pg_lemmas.proofs.Lists.{no_items}
 use Rattle.pg_rules.specs.Legal.{document}
 use Rattle.pg_table.specs.Space.{AreMoves}
-use Rattle.pg_walk_laws.specs.Reached.{greatest_from}
-use Rattle.pg_walk_laws.specs.Walk.{variants_at}
+use Rattle.law_walk.specs.Reached.{greatest_from}
+use Rattle.law_walk.specs.Walk.{variants_at}
 use Rattle.pg_walk_space.specs.Meaning.{reach_by, space_meaning, state_of, steps_from}
 use Rattle.pg_walk_space.specs.Reaching.{behind_few}
 use Rattle.pg_walk_space.proofs.Moves.{are_moves, steps_more}

@@ -1,7 +1,7 @@
 use Rattle.std.proofs.Common.{◌≡◌, ◌+◌, ◌-◌, ◌≤◌, ◌++◌, length}
 use Rattle.pg_rules.specs.Legal.{document}
-use Rattle.pg_walk_laws.specs.Reached.{greatest_from}
-use Rattle.pg_walk_laws.specs.Walk.{variants_at}
+use Rattle.law_walk.specs.Reached.{greatest_from}
+use Rattle.law_walk.specs.Walk.{variants_at}
 use Rattle.pg_walk_space.specs.Meaning.{greatest_behind, reach_by, state_of, steps_from}
 use Rattle.pg_walk_space.proofs.space.WalkSpace.opened.Given as goal
 

@@ -1,0 +1,5 @@
+mod FittingColumns
+mod FlatMarks
+mod OneBest
+pub mod FewPages
+pub mod ShortFits

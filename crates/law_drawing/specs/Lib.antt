@@ -1,0 +1,4 @@
+pub mod Marks
+pub mod DrawLaws
+pub mod Heights
+pub mod PageLaws

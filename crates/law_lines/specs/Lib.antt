@@ -1,0 +1,12 @@
+pub mod Lines
+pub mod Ways
+pub mod Boxes
+pub mod Variants
+pub mod Galleys
+pub mod Listing
+pub mod ParagraphsLaws
+pub mod LineSpace
+pub mod LineSpaceLaws
+pub mod BestSpace
+pub mod Clean
+pub mod LineLaws

@@ -1,0 +1,14 @@
+pub mod Among
+pub mod Tests
+pub mod Places
+pub mod Measures
+pub mod Callouts
+pub mod Steps
+pub mod PlaceContracts
+pub mod Sizes
+pub mod Splits
+pub mod Alike
+pub mod Counted
+pub mod CutContracts
+pub mod Members
+pub mod Pairs

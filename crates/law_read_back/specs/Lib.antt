@@ -1,0 +1,5 @@
+pub mod Ranges
+pub mod PageRanges
+pub mod StateRanges
+pub mod OutputLaws
+pub mod RecheckLaws

@@ -1,0 +1,17 @@
+pub mod Picks
+pub mod ReachAt
+pub mod Lengths
+pub mod Onward
+pub mod Next
+pub mod ReachContracts
+pub mod ReachWorked
+pub mod Runs
+pub mod Least
+pub mod SpaceLaws
+pub mod Rank
+pub mod Bounds
+pub mod Solve
+pub mod FrontierLaws
+pub mod SpaceContracts
+pub mod Merely
+pub mod SpaceWorked

@@ -1,0 +1,4 @@
+pub mod ReachAt
+pub mod ReachLaws
+pub mod PageSpace
+pub mod SpaceLaws

@@ -1,5 +1,0 @@
-use Rattle.pg_agree_laws.proofs.Agree.{pages_agree}
-use Rattle.pg_agree_laws.proofs.laws.pages_agree.Goals as goal
-
-pub returns : goal.returns
-returns c = pages_agree _ _ _ c.requires.galley c.requires.other

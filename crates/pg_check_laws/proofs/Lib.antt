@@ -1,4 +1,0 @@
-mod Sound
-mod Passing
-mod Failing
-mod BestPicks

@@ -1,8 +1,0 @@
-use Rattle.pg_check_laws.proofs.Passing.{best_shown_passes, none_shown_passes}
-use Rattle.pg_check_laws.proofs.laws.frontier_passes.Goals as goal
-
-pub returns-clause-best : goal.returns-clause-best
-returns-clause-best c = best_shown_passes _ _ c.requires
-
-pub returns-clause-none : goal.returns-clause-none
-returns-clause-none c = none_shown_passes _ _ c.requires

@@ -1,3 +1,0 @@
-pub mod Tests
-pub mod Faults
-pub mod Laws

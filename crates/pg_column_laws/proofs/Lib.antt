@@ -1,9 +1,0 @@
-pub mod Waiting
-pub mod Ages
-pub mod Push
-pub mod Beginnings
-pub mod Simulation
-pub mod GalleyFacts
-pub mod StyleFacts
-pub mod Contracts
-pub mod Counts

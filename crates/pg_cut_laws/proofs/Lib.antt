@@ -1,4 +1,0 @@
-pub mod Splits
-pub mod Alike
-pub mod Counted
-pub mod Contracts

@@ -1,3 +1,0 @@
-mod FittingColumns
-mod FlatMarks
-mod OneBest

@@ -1,5 +1,0 @@
-use Rattle.pg_mark_laws.proofs.OneBest.{best_one}
-use Rattle.pg_mark_laws.proofs.laws.best_pagination_is_one.Goals as goal
-
-pub returns : goal.returns
-returns c = best_one c.args.galley.now c.args.style.now c.requires

@@ -1,5 +1,0 @@
-use Rattle.pg_mark_laws.proofs.FlatMarks.{marks_flat}
-use Rattle.pg_mark_laws.proofs.laws.marks_are_those_of_the_flat_list.Goals as goal
-
-pub returns : goal.returns
-returns c = marks_flat c.args.galley.now c.args.style.now c.requires

@@ -1,4 +1,0 @@
-pub mod Ranges
-pub mod PageRanges
-pub mod StateRanges
-pub mod Laws

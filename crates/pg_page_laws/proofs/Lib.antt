@@ -1,4 +1,0 @@
-pub mod SetSizes
-pub mod Shrinking
-pub mod Shown
-pub mod Filling

@@ -1,2 +1,0 @@
-pub mod FewPages
-pub mod ShortFits

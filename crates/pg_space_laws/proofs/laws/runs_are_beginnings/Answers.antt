@@ -1,8 +1,0 @@
-use Rattle.pg_space_laws.proofs.Contracts.{runs_are_beginnings, beginnings_are_runs}
-use Rattle.pg_space_laws.proofs.laws.runs_are_beginnings.Goals as goal
-
-pub returns-clause-runs : goal.returns-clause-runs
-returns-clause-runs c = runs_are_beginnings _ _ c.requires
-
-pub returns-clause-beginnings : goal.returns-clause-beginnings
-returns-clause-beginnings c = beginnings_are_runs _ _ c.requires

@@ -1,5 +1,0 @@
-use Rattle.pg_text_laws.proofs.EachOnce.{each_once}
-use Rattle.pg_text_laws.proofs.laws.legal_plans_have_each_once.Goals as goal
-
-pub returns : goal.returns
-returns c = each_once _ _ c.requires

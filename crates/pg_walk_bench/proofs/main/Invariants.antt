@@ -1,5 +1,0 @@
-use Rattle.std.proofs.Common.{length}
-use Rattle.pg_walk_bench.proofs.main.Given as goal
-
-abbrev pub decreases-files : goal.decreases-files
-decreases-files l = length l.left

@@ -1,0 +1,80 @@
+//! The commands that paginate, and the check of what one writes.
+ghost use Rattle.std.specs.Prelude.{Some};
+ghost use Rattle.pg_outside.specs.Outside.{over_sink};
+ghost use Rattle.pg_command.specs.Lines.{status_of};
+ghost use Rattle.pg_command.specs.Words.{check as check_command, edit as edit_command, run as run_command, style_name, IsStyle, named};
+ghost use Rattle.pg_course.specs.Calls.{Goes, over_shelf};
+ghost use Rattle.pg_course.specs.Complete.{IsComplete};
+ghost use Rattle.pg_course.specs.Counted.{IsCounted, UnlessMemory};
+
+use pg_command::{Ending, StyleWord};
+use pg_outside::{Shelf, Sink};
+use pg_steps::Steps;
+use std::alloc::Global;
+use std::sync::ledger::Ledger;
+
+/// The command `run`.
+pub fn run_course<'a, H: Shelf, O: Sink, L: Ledger>(
+    alloc: Global,
+    style: StyleWord<'a>,
+    name: &'a str,
+    labels: bool,
+    wrap: Option<u32>,
+    shelf: &mut H,
+    out: &mut O,
+    steps: &mut Steps<L>,
+) -> Ending<'a>
+    requires { IsStyle style }
+    ensures goes { Goes (Some (run_command (style_name style.entry) name.now labels wrap))
+        (over_shelf (H.held shelf.old) (H.faults shelf.old) (H.faults shelf.new) (H.last_failed shelf.new))
+        (over_sink (O.written out.old) (O.written out.new) (O.faults out.old) (O.faults out.new)) result }
+    ensures counted { UnlessMemory (status_of result)
+        (IsCounted (Some (run_command (style_name style.entry) name.now labels wrap)) (H.held shelf.old)
+        steps.old steps.new) }
+{
+    pg_course::run_course(alloc, style, name, labels, wrap, shelf, out, steps)
+}
+
+/// The command `edit`.
+pub fn edit_course<'a, H: Shelf, O: Sink, L: Ledger>(
+    alloc: Global,
+    style: &'a str,
+    galley: &'a str,
+    script: &'a str,
+    labels: bool,
+    wrap: Option<u32>,
+    shelf: &mut H,
+    out: &mut O,
+    steps: &mut Steps<L>,
+) -> Ending<'a>
+    ensures goes { Goes (Some (edit_command style.now galley.now script.now labels wrap))
+        (over_shelf (H.held shelf.old) (H.faults shelf.old) (H.faults shelf.new) (H.last_failed shelf.new))
+        (over_sink (O.written out.old) (O.written out.new) (O.faults out.old) (O.faults out.new)) result }
+    ensures counted { UnlessMemory (status_of result)
+        (IsCounted (Some (edit_command style.now galley.now script.now labels wrap)) (H.held shelf.old)
+        steps.old steps.new) }
+{
+    pg_course::edit_course(
+        alloc, style, galley, script, labels, wrap, shelf, out, steps,
+    )
+}
+
+/// The command `check`.
+pub fn check_course<'a, H: Shelf, O: Sink>(
+    alloc: Global,
+    style: &'a str,
+    galley: &'a str,
+    output: &'a str,
+    wrap: Option<u32>,
+    shelf: &mut H,
+    out: &mut O,
+) -> Ending<'a>
+    ensures goes { Goes (Some (check_command style.now galley.now output.now wrap))
+        (over_shelf (H.held shelf.old) (H.faults shelf.old) (H.faults shelf.new) (H.last_failed shelf.new))
+        (over_sink (O.written out.old) (O.written out.new) (O.faults out.old) (O.faults out.new)) result }
+    ensures complete { IsComplete (Some (check_command style.now galley.now output.now wrap))
+        (over_shelf (H.held shelf.old) (H.faults shelf.old) (H.faults shelf.new) (H.last_failed shelf.new))
+        (over_sink (O.written out.old) (O.written out.new) (O.faults out.old) (O.faults out.new)) (status_of result) }
+{
+    pg_course::check_course(alloc, style, galley, output, wrap, shelf, out)
+}

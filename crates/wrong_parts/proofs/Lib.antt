@@ -1,0 +1,2 @@
+mod LastBreak
+mod LineByLine

@@ -1,0 +1,34 @@
+-- What the judge may answer.
+use Rattle.std.proofs.Common.{◌≡◌, ◌∙◌, ◌⊎◌, inl, inr, refl, sym, ap, ℕ, Some, None, Option, Ok, Err}
+use Rattle.std.specs.Prelude.{ℤ, Result}
+use Rattle.pg_list.specs.GalleyValue.{GalleyValue}
+use Rattle.pg_plan.specs.declared.pages.Pagination.{Pagination}
+use Rattle.pg_style.specs.Values.{StyleValue}
+use Rattle.pg_rules.specs.Cost.{cost}
+use Rattle.pg_rules.specs.Legal.{breach}
+use Rattle.pg_judge.specs.Settled.{JudgesPlan, answered}
+use Rattle.pg_judge.specs.declared.rule.JudgeFault.{JudgeFault}
+use Rattle.pg_judge.specs.declared.rule.JudgeFault.TheVariants.{Broken, Memory}
+
+-- but for want of memory there is one answer: the least rule that is broken with its first column, else the cost
+answers_are : (galley : GalleyValue) (style : StyleValue) (plan : Pagination) (answer : Result ℤ JudgeFault) →
+    JudgesPlan galley style plan answer →
+    (answer ≡ Err Memory) ⊎ (answer ≡ answered (breach galley style plan) (cost galley style plan))
+answers_are galley style plan (Ok paid) is = inr (ap Ok is.1
+    ∙ sym (ap (λ (found : Option (ℕ × ℕ)). answered found (cost galley style plan)) is.0))
+answers_are galley style plan (Err (Broken rule column)) is = inr
+    (sym (ap (λ (found : Option (ℕ × ℕ)). answered found (cost galley style plan)) is))
+answers_are galley style plan (Err Memory) is = inl refl
+
+none_some : {A : Type 0} {x : A} → None ≡ Some x → ⊥
+none_some e = absurd cc
+
+-- a pagination that breaks a rule, as one that leaves a float behind its last page, has no cost
+no_cost_at_a_breach : (galley : GalleyValue) (style : StyleValue) (plan : Pagination) (rule column : ℕ) (paid : ℤ) →
+    breach galley style plan ≡ Some (rule, column) → JudgesPlan galley style plan (Ok paid) → ⊥
+no_cost_at_a_breach galley style plan rule column paid broken is = none_some (sym is.0 ∙ broken)
+
+-- a pagination that breaks none is not refused
+no_breach_where_there_is_none : (galley : GalleyValue) (style : StyleValue) (plan : Pagination) (rule column : ℕ) →
+    breach galley style plan ≡ None → JudgesPlan galley style plan (Err (Broken rule column)) → ⊥
+no_breach_where_there_is_none galley style plan rule column legal is = none_some (sym legal ∙ is)

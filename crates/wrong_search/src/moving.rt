@@ -1,0 +1,34 @@
+//! The columns that follow a state.
+ghost use Rattle.std.specs.Prelude.{◌≡◌, IfOk, OnOk};
+ghost use Rattle.law_space.specs.PageSpace.{page_meaning};
+ghost use Rattle.law_space.specs.ReachAt.{reach_at};
+ghost use Rattle.pg_rooms.specs.PlaceEnds.{ArePlaceEnds};
+ghost use Rattle.pg_rules.specs.IsState.{IsState};
+ghost use Rattle.pg_sources.specs.Document.{doc_of};
+ghost use Rattle.pg_table.specs.Space.{AreWanted};
+
+use pg_plan::State;
+use pg_rooms::PlaceEnds;
+use pg_small::{SmallMove, SmallState};
+use pg_sources::Sources;
+use pg_table::{Opened, Wants};
+use std::alloc::AllocError;
+
+/// The columns that are wanted.
+pub fn open_by<W: Wants<State = SmallState>>(
+    sources: &Sources<'_>,
+    state: &State,
+    kept: &mut PlaceEnds,
+    wants: &W,
+) -> Result<Opened<SmallState, SmallMove>, AllocError>
+    requires own { IsState (doc_of sources.now) state.now }
+    requires reach { kept.old.walk.reach ≡ reach_at (doc_of sources.now) state.now.place }
+    ensures moves { IfOk result (λ it. ArePlaceEnds (doc_of sources.now) state.now.place kept.old →
+        AreWanted (page_meaning (doc_of sources.now)) state.now (W.spares wants.now) it.steps) }
+    ensures reach { IfOk result (λ it. it.reach ≡ reach_at (doc_of sources.now) state.now.place) }
+    ensures kept { OnOk result (ArePlaceEnds (doc_of sources.now) state.now.place kept.old →
+        ArePlaceEnds (doc_of sources.now) state.now.place kept.new) }
+    ensures walk { OnOk result (kept.new.walk ≡ kept.old.walk) }
+{
+    pg_moves::open_by(sources, state, kept, wants)
+}

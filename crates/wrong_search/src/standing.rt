@@ -1,0 +1,41 @@
+//! States, and what is asked of them.
+ghost use Rattle.std.specs.Prelude.{◌≡◌, ◌↔◌, IfOk, IsTrue};
+ghost use Rattle.pg_rules.specs.IsState.{IsState};
+ghost use Rattle.pg_rules.specs.NoWorse.{is_no_worse, key};
+ghost use Rattle.pg_rules.specs.States.{is_done as is_done_of};
+ghost use Rattle.pg_sources.specs.Document.{doc_of};
+
+use pg_plan::{PageKey, State};
+use pg_small::SmallState;
+use pg_sources::Sources;
+use pg_space::PageSpace;
+use std::alloc::{AllocError, Global};
+
+/// What states have in common that are compared.
+pub fn key_of(alloc: Global, state: &SmallState) -> Result<PageKey, AllocError>
+    ensures { IfOk result (λ it. it ≡ key state.now) }
+{
+    pg_states::key_of(alloc, state)
+}
+
+/// Whether a state is no worse than another one.
+pub fn no_worse(a: &SmallState, b: &SmallState) -> bool
+    ensures { result ≡ is_no_worse a.now b.now }
+{
+    pg_states::no_worse(a, b)
+}
+
+/// Whether nothing is left to do.
+pub fn is_done(sources: &Sources<'_>, state: &SmallState) -> bool
+    requires { IsState (doc_of sources.now) state.now }
+    ensures { result ≡ is_done_of (doc_of sources.now) state.now }
+{
+    pg_states::is_done(sources, state)
+}
+
+/// Whether a value is a state of the galley.
+pub fn is_state(space: &PageSpace<'_>, state: &State) -> bool
+    ensures { IsTrue result ↔ IsState (doc_of space.now.sources) state.now }
+{
+    space.is_state(state)
+}
