@@ -1,0 +1,21 @@
+-- l3build: `l3build ctan` packs the files as CTAN wants them, `l3build install` puts them where TeX finds them
+module = "pg"
+packageversion = "1.0"
+packagedate = "2026-11-29"
+
+sourcefiles = { "pg.sty", "pg.lua" }
+installfiles = { "pg.sty", "pg.lua" }
+scriptfiles = { "pgtex.lua" }
+scriptmanfiles = { "pgtex.1" }
+textfiles = { "README.md" }
+docfiles = { "latexmkrc", "Makefile" }
+unpackfiles = {}
+typesetfiles = {}
+
+uploadconfig = {
+  pkg = "pg",
+  author = "The pg authors",
+  license = "mit",
+  summary = "Pages of least cost over a whole LaTeX document",
+  ctanPath = "/macros/latex/contrib/pg",
+}

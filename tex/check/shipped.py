@@ -1,0 +1,373 @@
+#!/usr/bin/env python3
+"""Are the pages that TeX shipped out those of the page text?
+
+    tex/check/shipped.py [--lengths] [--ragged] PAGES LOG STYLE
+
+PAGES is what `pg run` wrote, STYLE the style that it was made with, LOG the log of the run that made the pages, with
+`\\tracingoutput=1`, all levels and items shown, and lines of any length (`max_print_line`). Item by item: the boxes of each
+column of text stand one after another in one list of the page, of the same sizes and with the same lines within them, where
+the galley shows these; between them stand the same glue, kerns and penalties, and each box is within a unit of its place; the
+text begins where the floats above it end, as on all pages, and ends at its goal; notes and floats stand on their page, in
+their order, on their side of the text; no other letters stand between head and foot. `--lengths`: paragraphs were set in
+several lengths, so a first line may have another height and a last one another depth, and its baseline decides. `--ragged`: a
+text that is shorter than its goal has its own height.
+
+One thing may differ: marks, destinations and other whatsits stand behind the glue and the penalties in front of a box, not
+among them. It is counted as `moved`. A penalty may have become 10000, as TeX's page builder leaves one at which it cut; it takes
+no room. A page that has nothing between head and foot may stand in front of any other.
+It prints a line of counts and a line for each fault, and ends with 1 where there is one."""
+
+import sys
+from collections import Counter
+from itertools import zip_longest
+
+from listing import all_nodes, first_difference, letters, place, shipped_boxes, shipped_count
+from page_text import Style, insert_size, items_of, read_pages
+
+COUNTS = ("pages", "blank", "columns", "items", "glue", "bodies", "notes", "floats", "moved")
+POINT = 65536
+
+
+def points(number):
+    return f"{number / POINT:.5f}pt"
+
+
+class Sheet:
+    """A page that was shipped out, with the place of each box, and its lists."""
+
+    def __init__(self, root):
+        self.root = root
+        place(root, 0, root.height)
+        self.lists = [node for node in all_nodes(root) if node.kind == "vbox" and node.items and node.x is not None]
+
+    def stray(self, top, foot):
+        """The letters between two heights that belong to nothing that was found."""
+        out, waiting = [], [self.root]
+        while waiting:
+            node = waiting.pop()
+            if node.covered or node.x is None:
+                continue
+            text = letters(item for item in node.items if not item.is_box()) if node.kind == "hbox" else ""
+            if text and node.base > top and node.top < foot:
+                out.append(text)
+            waiting.extend(reversed([item for item in node.items if item.is_box()]))
+        return "".join(out)
+
+
+class Check:
+    """The comparison of one document."""
+
+    def __init__(self, style, by_lengths, is_ragged):
+        self.style, self.by_lengths, self.is_ragged = style, by_lengths, is_ragged
+        self.counts, self.faults, self.off = Counter(), [], 0
+        self.top = None  # where columns begin
+
+    def fault(self, page, column, what):
+        where = f"page {page.number}" + (f" column {column}" if column else "")
+        self.faults.append(f"{where}: {what}")
+
+    # ------------------------------------------------------------ a column's text
+
+    def same_box(self, item, node):
+        """Whether a box of the page may be this one."""
+        due = item.node
+        if due.kind != node.kind or due.width != node.width:
+            return False
+        if self.by_lengths:
+            return not due.items or first_difference(due, node) is None
+        return (due.height, due.depth) == (node.height, node.depth)
+
+    def find(self, boxes, sheet):
+        """The longest row of boxes that are the first of these, in a list, behind `\\topskip`: how many, the list, their positions."""
+        best = (0, None, [])
+        for box in sheet.lists:
+            spots = [i for i, item in enumerate(box.items) if item.is_box()]
+            for start, spot in enumerate(spots):
+                if not spot or not box.items[spot - 1].line.startswith("\\glue(\\topskip)"):
+                    continue
+                pairs = zip(boxes, (box.items[i] for i in spots[start:]))
+                count = next((k for k, pair in enumerate(pairs) if not self.same_box(*pair)), None)
+                count = min(len(boxes), len(spots) - start) if count is None else count
+                row = spots[start : start + count]
+                if count > best[0] and not any(box.items[i].covered for i in row):
+                    best = (count, box, row)
+        return best
+
+    def text(self, page, number, column, sheet):
+        """Looks for the text of a column; gives the list that has it and where on the page it starts."""
+        items = items_of(column, self.is_ragged and column.total < column.goal)
+        boxes = [item for item in items if item.node.is_box()]
+        count, box, spots = self.find(boxes, sheet)
+        if count < len(boxes):
+            got = shown_instead(box, spots)
+            self.fault(page, number, f"{count} of {len(boxes)} boxes, then {boxes[count].line!r} is due, shipped {got!r}")
+            return None
+        self.counts["columns"] += 1
+        nodes = [box.items[i] for i in spots]
+        for item, node in zip(boxes, nodes):
+            self.body(page, number, item.node, node)
+            node.covered = True
+        self.spaces(page, number, items, box, spots)
+        start = nodes[0].base - boxes[0].base
+        self.places(page, number, boxes, nodes, start)
+        self.heights(page, number, column, items)
+        self.counts["items"] += len(items)
+        return box, start
+
+    def body(self, page, number, due, node):
+        """Compares how a box sets its glue, and what stands within it, where the galley shows it."""
+        if due.line.removesuffix(" []") != node.line.removesuffix(" []") and not self.by_lengths:
+            self.fault(page, number, f"{node.line!r} is shipped, and {due.line!r} is due")
+        if not due.items:
+            return
+        other = first_difference(due, node)
+        if other:
+            self.fault(page, number, f"within {due.line!r} stands {other[1]!r}, and {other[0]!r} is due")
+        else:
+            self.counts["bodies"] += 1
+
+    def spaces(self, page, number, items, box, spots):
+        """Compares what stands in front of each box of the text, and behind the last."""
+        due = [[]]
+        for item in items:
+            if item.node.is_box():
+                due.append([])
+            else:
+                due[-1].append(item)
+        ends = [0] + [i + 1 for i in spots] + [len(box.items)]
+        for k, gap in enumerate(due):
+            got = box.items[ends[k] : spots[k] if k < len(spots) else ends[-1]]
+            self.gap(page, number, gap, got, k == 0, k == len(spots))
+
+    def gap(self, page, number, due, got, is_first, is_last):
+        """Compares what is no box between two boxes; the list may have more at its ends."""
+        spaces = [item for item in due if item.node.is_space()]
+        wanted = [item for item in spaces if not (is_empty(item.node) and item.size == 0)]
+        found = [node for node in got if node.is_space() and not is_empty(node)]
+        if is_first:
+            found = found[max(0, len(found) - len(wanted)) :]
+        elif is_last:
+            found = found[: len(wanted)]
+        if len(wanted) != len(found) or not all(map(self.same_space, wanted, found)):
+            pairs = zip_longest(wanted, found)
+            other = next(pair for pair in pairs if None in pair or not self.same_space(*pair))
+            space, shown = (one.line if one else "a box" for one in other)
+            self.fault(page, number, f"in front of a box stands {shown!r}, and {space!r} is due")
+        self.counts["glue"] += sum(item.node.kind == "glue" for item in spaces)
+        self.carries(page, number, due, got)
+
+    def same_space(self, item, node):
+        """Whether a glue, kern or penalty of the page is this one: as the galley has it, or glue of the printed width."""
+        due = item.node
+        if due.kind != node.kind:
+            return False
+        if due.kind == "glue":
+            if self.by_lengths and item.line.startswith("\\glue(\\baselineskip)"):
+                return node.line.startswith("\\glue(\\baselineskip)")
+            return node.line == item.line or node.width == item.size and "plus" not in node.line and "minus" not in node.line
+        if due.kind == "kern":
+            return due.width == node.width
+        return node.line in (due.line, "\\penalty 10000")
+
+    def carries(self, page, number, due, got):
+        """Marks and whatsits have to be there; where they stand among the glue and the penalties may differ."""
+        wanted = [item.line for item in due if item.node.kind == "carry"]
+        lost = Counter(wanted) - Counter(node.line for node in got if node.kind == "carry")
+        for line in lost:
+            self.fault(page, number, f"{line!r} is not there")
+        before = [item.line for item in due if item.node.is_space() or item.line in wanted]
+        after = [node.line for node in got if node.is_space() or node.line in wanted]
+        if wanted and [line in wanted for line in before] != [line in wanted for line in after]:
+            self.counts["moved"] += len(wanted)
+
+    def places(self, page, number, boxes, nodes, start):
+        """Compares the baselines."""
+        far = max(abs(node.base - start - item.base) for item, node in zip(boxes, nodes))
+        self.off = max(self.off, far)
+        if far > 1:
+            self.fault(page, number, f"a box stands {points(far)} from its place")
+
+    def heights(self, page, number, column, items):
+        """Adds up the items: as they are set the goal, or where nothing is stretched the total; as the galley has them the total."""
+        total = sum(item.node.width for item in items if item.node.kind in ("glue", "kern"))
+        total += sum(item.node.height + item.node.depth for item in items if item.node.is_box())
+        last = next((item.node for item in reversed(items) if item.node.kind not in ("penalty", "carry")), None)
+        over = min(last.depth if last and last.is_box() else 0, self.style.maxdepth)
+        if total - over != column.total:
+            high, due = points(total - over), points(column.total)
+            self.fault(page, number, f"the galley's items are {high} high, and the total is {due}")
+        if items[-1].end - over not in (column.goal, column.total):
+            self.fault(page, number, f"the items are {points(items[-1].end - over)} high, and the goal is {points(column.goal)}")
+
+    # ------------------------------------------------------------ notes and floats
+
+    def notes(self, page, number, column, sheet, x, foot):
+        """Looks for the notes of a column, below its text and in their order."""
+        for insert in column.areas.get("notes", []):
+            boxes = [BoxItem(node) for node in insert.items if node.is_box()]
+            if not boxes:
+                continue
+            found = self.below(boxes, sheet, x, foot)
+            if found is None:
+                shown = letters(insert.items)[:40]
+                self.fault(page, number, f"the note {shown!r} of {points(insert_size(insert))} is not below the text")
+                continue
+            for due, node in zip(boxes, found):
+                self.body(page, number, due.node, node)
+                node.covered = True
+            foot = found[-1].foot
+            self.counts["notes"] += 1
+        return foot
+
+    def below(self, boxes, sheet, x, foot):
+        """The boxes of the page that are these, below a height: of those that have the same lines within them, the uppermost."""
+        best = None
+        for box in sheet.lists:
+            nodes = [item for item in box.items if item.is_box()]
+            for start in range(len(nodes) - len(boxes) + 1):
+                row = nodes[start : start + len(boxes)]
+                if row[0].covered or row[0].top < foot - self.style.maxdepth or abs(row[0].x - x) > POINT:
+                    continue
+                if all(map(self.same_box, boxes, row)) and all(
+                    not due.node.items or first_difference(due.node, node) is None for due, node in zip(boxes, row)
+                ):
+                    if best is None or row[0].top < best[0].top:
+                        best = row
+        return best
+
+    def floats(self, page, number, inserts, sheet, x, top, foot, area):
+        """Looks for the floats of an area between two heights, in their order."""
+        for insert in inserts:
+            size = insert_size(insert)
+            node = self.float_box(insert, sheet, x, top, foot)
+            if node is None:
+                self.fault(page, number, f"no float of {points(size)} stands in the area {area}")
+                continue
+            node.covered = True
+            top = node.foot
+            self.counts["floats"] += 1
+
+    def float_box(self, insert, sheet, x, top, foot):
+        """The uppermost box of a float's size between two heights."""
+        boxes, size = [node for node in insert.items if node.kind == "vbox" and node.items], insert_size(insert)
+        best = None
+        for node in all_nodes(sheet.root):
+            if node.kind not in ("vbox", "hbox") or node.x is None or node.covered:
+                continue
+            if size < 0 or abs(node.height + node.depth - size) > 1 or x is not None and abs(node.x - x) > POINT:
+                continue
+            if node.top < top - 1 or node.foot > foot + self.style.maxdepth:
+                continue
+            if boxes and not any(first_difference(box, inner) is None for box in boxes for inner in all_nodes(node)):
+                continue
+            if best is None or node.top < best.top:
+                best = node
+        return best
+
+    # ------------------------------------------------------------ pages
+
+    def page(self, page, sheet):
+        """Compares a page: the texts of its columns, then what stands above and below them."""
+        wide = self.style.height_of("wide", page.wide)
+        found = []
+        for number, column in enumerate(page.columns, 1):
+            found.append(self.text(page, number, column, sheet) if column.has_text() else None)
+            if found[-1]:
+                above = wide + self.style.height_of("top", column.areas.get("top", []))
+                self.same_start(page, number, found[-1][1] - above)
+        self.counts["pages"] += 1
+        self.around(page, sheet, found, wide)
+
+    def same_start(self, page, number, start):
+        """All columns begin at one height of the paper, that of the first."""
+        if self.top is None:
+            self.top = start
+        elif start != self.top:
+            self.fault(page, number, f"it begins {points(start - self.top)} lower than the first column of all")
+
+    def around(self, page, sheet, found, wide):
+        """Compares what stands around the texts of a page."""
+        top = self.top or 0
+        end = top + self.style.height + self.style.extras[page.run]
+        self.floats(page, 0, page.wide, sheet, None, top, top + wide, "wide")
+        for number, (column, text) in enumerate(zip(page.columns, found), 1):
+            if column.has_text() and not text:
+                continue
+            x, start = (text[0].x, text[1]) if text else (None, end)
+            foot = start + column.goal if text else end
+            self.floats(page, number, column.areas.get("top", []), sheet, x, top + wide, start, "top")
+            self.floats(page, number, column.areas.get("bottom", []), sheet, x, foot, end, "bottom")
+            self.notes(page, number, column, sheet, x, min(foot, start + column.total) if text else foot)
+        stray = sheet.stray(top, end)
+        if stray and not any(column.has_text() and not text for column, text in zip(page.columns, found)):
+            self.fault(page, 0, f"letters that belong to nothing: {stray[:60]!r}")
+
+    def pages(self, pages, sheets, count):
+        """Compares all pages with the sheets, of which there are so many; a sheet without letters may stand in front of any."""
+        blank = []
+        for page in pages:
+            sheet = next(sheets, None)
+            while sheet and len(blank) < count - len(pages) and not self.begins(page, sheet):
+                blank.append(sheet)
+                sheet = next(sheets, None)
+            if not sheet:
+                self.fault(page, 0, "not shipped out")
+                break
+            self.page(page, sheet)
+        for sheet in blank + list(sheets):
+            stray = sheet.stray(self.top or 0, (self.top or 0) + self.style.height)
+            if stray:
+                self.faults.append(f"a page that is none of pg's: {stray[:60]!r}")
+            else:
+                self.counts["blank"] += 1
+
+    def begins(self, page, sheet):
+        """Whether the page may be this one: the first boxes of its first text stand on it."""
+        texts = [column for column in page.columns if column.has_text()]
+        if not texts:
+            return True
+        boxes = [item for item in items_of(texts[0]) if item.node.is_box()]
+        return self.find(boxes, sheet)[0] >= min(3, len(boxes))
+
+
+class BoxItem:
+    """A box of a note, as an item of a text."""
+
+    def __init__(self, node):
+        self.node, self.line = node, node.line
+
+
+def is_empty(node):
+    """Glue of no width at all, as TeX puts it where it splits a list."""
+    return node.kind == "glue" and node.width == 0 and " plus " not in node.line and " minus " not in node.line
+
+
+def shown_instead(box, spots):
+    """The line of the box behind a row of boxes."""
+    if box is None:
+        return "none of them"
+    behind = [item.line for item in box.items[spots[-1] + 1 :] if item.is_box()]
+    return behind[0] if behind else "the end of the list"
+
+
+def compare(pages_path, log_path, style_path, by_lengths=False, is_ragged=False):
+    """The counts, how far the farthest box is off, and the faults."""
+    check = Check(Style(style_path), by_lengths, is_ragged)
+    check.pages(read_pages(pages_path), map(Sheet, shipped_boxes(log_path)), shipped_count(log_path))
+    return check.counts, check.off, check.faults
+
+
+def main():
+    words = [word for word in sys.argv[1:] if word not in ("--lengths", "--ragged")]
+    if len(words) != 3:
+        raise SystemExit(__doc__)
+    counts, off, faults = compare(*words, "--lengths" in sys.argv, "--ragged" in sys.argv)
+    told = " ".join(f"{name} {counts[name]}" for name in COUNTS)
+    print(f"{told} off {off} faults {len(faults)}")
+    for fault in faults[:20]:
+        print(f"  {fault}")
+    return 1 if faults else 0
+
+
+if __name__ == "__main__":
+    sys.exit(main())

@@ -1,0 +1,940 @@
+#!/usr/bin/env texlua
+-- pgtex: from the log of a LaTeX run with \usepackage{pg} to the pages that pg chooses, as commands for pg.sty.
+--
+--   NAME.log has the galley; pgtex runs `pg run` on it, a part at a time, and writes NAME.pgx.
+--
+-- A part ends where no float may go on: at \clearpage, \cleardoublepage, a chapter. The parts are paginated one by
+-- one and joined.
+
+local VERSION = "1.0"
+local DATE = "2026-11-29"
+local FORMAT = 1 -- of NAME.pgx
+
+local USAGE = "usage: pgtex [--keep] [--latex COMMAND] NAME"
+local HELP = USAGE .. [[
+
+
+Reads NAME.log, the log of a LaTeX run of a document with \usepackage{pg}, lets the program pg choose the pages, and
+writes NAME.pgx. LaTeX, run again, makes these pages. Where the galley and the style have not changed, nothing is
+written.
+
+  --keep            keep NAME.pgg, the galley, and NAME.pages, the page text of pg
+  --latex COMMAND   the LaTeX for draft runs, where the option lengths asks for them; the engine of NAME.log otherwise
+  --help            print this
+  --version         print the version
+
+The program is `pg` in the path, or what the variable PG names. The status is 0 where NAME.pgx is that of the galley,
+1 where no pagination is legal or pg refuses, 2 for wrong words.]]
+
+local function say(...) io.stdout:write("pgtex: ", string.format(...), "\n") end
+local function complain(...) io.stderr:write("pgtex: ", string.format(...), "\n") end
+
+---------------------------------------------------------------- words
+local name, keep, latex
+do
+  local i = 1
+  while arg[i] do
+    local word = arg[i]
+    if word == "--keep" then keep = true
+    elseif word == "--help" or word == "-h" then print(HELP) os.exit(0)
+    elseif word == "--version" then print("pgtex " .. VERSION .. " " .. DATE) os.exit(0)
+    elseif word == "--latex" and arg[i + 1] then i = i + 1 latex = arg[i]
+    elseif word:sub(1, 1) == "-" or name then io.stderr:write(USAGE, "\n") os.exit(2)
+    else name = word end
+    i = i + 1
+  end
+  if not name then io.stderr:write(USAGE, "\n") os.exit(2) end
+  name = name:gsub("%.tex$", ""):gsub("%.log$", "")
+end
+
+-- what is stale is never used: where pgtex fails, there are no pages
+local temporary = {}
+local function stop(...)
+  complain(...)
+  os.remove(name .. ".pgx")
+  os.remove(name .. ".pgi")
+  for _, file in ipairs(temporary) do os.remove(file) end
+  os.exit(1)
+end
+local function temporary_name()
+  local file = name .. ".pgtex-" .. #temporary + 1
+  temporary[#temporary + 1] = file
+  return file
+end
+local function read_file(file)
+  local f = io.open(file, "rb")
+  if not f then return nil end
+  local text = f:read("a")
+  f:close()
+  return text
+end
+-- whole, or not at all
+local function write_file(file, text)
+  local new = file .. ".new"
+  local f, why = io.open(new, "wb")
+  if not f or not f:write(text) or not f:close() then stop("%s cannot be written: %s", file, why or "no room") end
+  os.remove(file)
+  local ok, why_not = os.rename(new, file)
+  if not ok then stop("%s cannot be written: %s", file, why_not) end
+end
+
+---------------------------------------------------------------- numbers, as TeX prints them
+local function units(word) -- of a number of points
+  local sign, whole, fraction = word:match("^(-?)(%d+)%.(%d+)$")
+  local a = 0
+  for i = math.min(#fraction, 17), 1, -1 do a = (a + (fraction:byte(i) - 48) * 131072) // 10 end
+  local value = 65536 * math.tointeger(tonumber(whole)) + (a + 1) // 2
+  return sign == "-" and -value or value
+end
+local function integer(word) return math.tointeger(tonumber(word)) end
+local function points(value) return string.format("%.2fpt", value / 65536) end
+
+---------------------------------------------------------------- the log
+-- TeX breaks the lines of its log. In a listing a line that does not begin with a point goes on; so does one behind
+-- a line of just the width.
+local function log_width(engine, longest)
+  kpse.set_program_name(engine)
+  local width = tonumber(kpse.var_value("max_print_line")) or 79
+  return longest > width and math.huge or width
+end
+
+local KIND = {
+  hbox = "box", vbox = "box", rule = "box", glue = "glue", leaders = "glue", cleaders = "glue", xleaders = "glue",
+  kern = "kern", penalty = "penalty", insert = "insert",
+}
+local function new_item(line, at)
+  local word = line:match("^\\(%a+)")
+  local item = { line = line, deep = {}, at = at, kind = KIND[word] or "carry" }
+  if item.kind == "penalty" then item.penalty = integer(line:match("^\\penalty (-?%d+)")) or 0
+  elseif item.kind == "insert" then
+    local class, size = line:match("^\\insert(%d+), natural size (-?[%d.]+)")
+    item.class, item.size = integer(class), size and units(size)
+  elseif item.kind == "box" then
+    local height, depth = line:match("^\\%a+%((-?[%d.]+)%+(-?[%d.]+)%)")
+    item.height, item.depth = height and units(height), depth and units(depth)
+  end
+  return item
+end
+
+local function read_log(file)
+  local text = read_file(file)
+  if not text then stop("there is no %s: run LaTeX first", file) end
+  local lines, longest, listing = {}, 0, false
+  for line in text:gmatch("([^\n]*)\n?") do
+    line = line:gsub("\r$", "")
+    lines[#lines + 1] = line
+    if line == "pg: galley begins" then listing, longest = true, 0
+    elseif line == "pg: galley ends" then listing = false
+    elseif listing then longest = math.max(longest, utf8.len(line) or #line) end
+  end
+  local log = { file = file, items = {}, paragraphs = {} }
+  local first = lines[1] or ""
+  log.engine = first:match("XeTeX") and "xelatex" or first:match("Lua") and "lualatex" or "pdflatex"
+  local width = log_width(log.engine, longest)
+  local function full(line) return (utf8.len(line) or #line) == width or #line == width end
+  local inside, i = false, 1
+  local markers
+  while lines[i] do
+    local line, at = lines[i], i
+    if inside or line:sub(1, 4) == "pg: " then
+      while full(lines[i]) and lines[i + 1] do i = i + 1 line = line .. lines[i] end
+    end
+    if line == "pg: galley begins" then
+      inside = true
+      log.items, log.root, log.ended = {}, nil, false
+    elseif line == "pg: galley ends" then inside = false log.ended = true
+    elseif line:sub(1, 4) == "pg: " then
+      local n, count, how = line:match("^pg: paragraph (%d+) lines (%d+) (%a+)$")
+      if n then
+        if how == "text" then log.paragraphs[integer(n)] = integer(count) end
+      else
+        local key, value = line:match("^pg: (%a+) (.*)$")
+        if key then log[key] = value end
+      end
+    elseif inside then
+      if line:sub(1, 6) == "\\vbox(" then log.root = line
+      elseif log.root then
+        local item = log.items[#log.items]
+        if line:sub(1, 2) == ".." then item.deep[#item.deep + 1] = line:sub(2)
+        elseif line:sub(1, 1) == "." then
+          item = new_item(line:sub(2), at)
+          if item.kind == "carry" then
+            local class, mark = item.line:match("^\\marks(%d+){(.*)}$")
+            if class and class == log.markers then item.marker = mark end
+          end
+          log.items[#log.items + 1] = item
+        elseif line ~= "" and item then
+          if #item.deep > 0 then item.deep[#item.deep] = item.deep[#item.deep] .. line
+          else
+            log.items[#log.items] = new_item(item.line .. line, item.at)
+          end
+        end
+      end
+    end
+    i = i + 1
+  end
+  if not log.ended then stop("%s has no galley: does the document use pg, and did LaTeX come to its end?", file) end
+  if not log.root then stop("%s shows no galley: is there a shrink without bound (\\vss) in the text?", file) end
+  return log
+end
+
+---------------------------------------------------------------- pg
+local program = os.getenv("PG") or "pg"
+local function quoted(word)
+  if os.type == "windows" then return '"' .. word .. '"' end
+  return "'" .. word:gsub("'", "'\\''") .. "'"
+end
+-- output, or nil and the message
+local function run_pg(words, output)
+  local errors = temporary_name()
+  local command = quoted(program) .. " " .. words .. " > " .. quoted(output) .. " 2> " .. quoted(errors)
+  if os.type == "windows" then command = '"' .. command .. '"' end
+  local ok, how, status = os.execute(command)
+  if type(ok) == "number" then status = ok > 255 and ok // 256 or ok end -- as LuaTeX tells it
+  if ok == true then status = 0 end
+  local said = (read_file(errors) or ""):match("[^\n]*")
+  os.remove(errors)
+  if status == 0 or status == 1 then return read_file(output) end
+  return nil, said ~= "" and said or string.format("%s ended with the status %s: is it in the path, or named by PG?",
+    program, tostring(status))
+end
+
+local LIST_FAULT = {
+  [1] = "there is no galley",
+  [2] = "the line is not as its kind of line has to be; was the log edited?",
+  [3] = "no list has such an item; was the log edited?",
+  [4] = "a number is wanting",
+  [5] = "a size of 16384 points or more, or demerits out of range",
+  [6] = "the list was cut",
+  [7] = "a shrink without bound between the lines, as of \\vss: give it a finite amount",
+  [8] = "a rule whose height or depth is open",
+  [9] = "a footnote or float of negative size: put what it holds into a box",
+  [10] = "the markers of a choice are out of place: does something stand within \\lengths that ends a paragraph?",
+  [11] = "the versions of a paragraph have other footnotes",
+  [12] = "more than 1048576 items",
+}
+local STYLE_FAULT = {
+  [1] = "is no TOML", [2] = "is missing", [3] = "is not known", [4] = "is of another kind",
+  [5] = "is out of range", [6] = "has an entry below the one before", [7] = "has the number of an earlier class",
+  [8] = "is empty",
+}
+-- what pg said, in words; part: the items that it read, from line 2 on
+local function in_words(said, style, log, read)
+  local line, fault = said:match("line (%d+): list fault (%d+)$")
+  if line then
+    local item = read[integer(line) - 1]
+    return string.format("%s%s: %s%s", log.file, item and ":" .. item.at or "", LIST_FAULT[integer(fault)] or "list fault",
+      item and " [" .. item.line .. "]" or "")
+  end
+  local number, key = said:match("style fault (%d+) at (.*)$")
+  if number then return string.format("%s: %s %s", style, key, STYLE_FAULT[integer(number)] or "is at fault") end
+  local class = said:match("class (%d+) is not in the style")
+  if class then
+    for _, item in ipairs(read) do
+      if item.class == integer(class) then
+        return string.format("%s:%d: an \\insert of class %s, which %s does not have; pg.sty writes LaTeX's footnotes and floats alone",
+          log.file, item.at, class, style)
+      end
+    end
+  end
+  if said:match("floats are too many") then return "a part has more than 4096 floats: put a \\clearpage between" end
+  return said
+end
+
+---------------------------------------------------------------- the style
+local function read_style(file)
+  local text = read_file(file)
+  if not text then stop("there is no style %s: run LaTeX first", file) end
+  local style = { file = file, text = text, floats = {}, notes = {}, is_float = {}, runs = {} }
+  local place, table_name = style, ""
+  for line in text:gmatch("[^\n]+") do
+    local header = line:match("^%s*%[+%s*([%w_]+)%s*%]")
+    if header then
+      table_name, place = header, {}
+      if header == "runs" then style.runs[#style.runs + 1] = place
+      elseif header == "classes" then style.classes = style.classes or {} table.insert(style.classes, place)
+      else style[header] = place end
+    else
+      local key, value = line:match("^%s*([%w_]+)%s*=%s*\"?([^\"#]*)\"?")
+      if key then place[key] = value:match("^(.-)%s*$") end
+    end
+  end
+  for _, class in ipairs(style.classes or {}) do
+    local number = integer(class.number or "")
+    if number and class.kind == "float" then
+      class.number = number
+      style.floats[#style.floats + 1], style.is_float[number] = class, class
+    elseif number then style.notes[number] = class end
+  end
+  table.sort(style.floats, function(a, b) return a.number < b.number end)
+  return style
+end
+local function size_of(place, key)
+  local word = place and place[key]
+  return word and word:match("^-?%d+%.%d+$") and units(word) or 0
+end
+
+---------------------------------------------------------------- blocks and parts
+-- A block is an item, or a paragraph in several versions. Those that pgtex itself has marked are hidden from pg.
+local function is_discardable(item) return item.kind == "glue" or item.kind == "kern" or item.kind == "penalty" end
+
+local function make_blocks(items)
+  local blocks, choice, paragraph = {}, nil, nil
+  for _, item in ipairs(items) do
+    local of_lua = item.line:match("^\\special{pgtex:paragraph (%d+)}")
+    if of_lua then paragraph = integer(of_lua) -- shown by pg.lua, and no item of the galley
+    elseif item.line == "\\special{pg:choice}" then choice, paragraph = { versions = {}, paragraph = paragraph }, nil
+    elseif choice and item.line:match("^\\special{pg:variant ") then
+      choice.versions[#choice.versions + 1] = { marker = item.line, looseness = integer(item.line:match("variant (-?%d+)")) }
+    elseif choice and item.line == "\\special{pg:end}" then
+      blocks[#blocks + 1], choice = choice, nil
+    elseif choice and #choice.versions > 0 then table.insert(choice.versions[#choice.versions], item)
+    else blocks[#blocks + 1] = { item = item } end
+  end
+  if choice then stop("a choice is not closed: does a page begin within \\lengths?") end
+  return blocks
+end
+local function has_box(block) return block.versions ~= nil or block.item.kind == "box" end
+local function has_insert(block)
+  for _, item in ipairs(block.versions and block.versions[1] or { block.item }) do
+    if item.kind == "insert" then return true end
+  end
+end
+
+-- parts: first and last block, the columns of a page, and what LaTeX does in front of it
+local function make_parts(blocks, columns)
+  local parts, first, before = {}, 1, nil
+  local boxes, inserts = false, false
+  local function close(last)
+    parts[#parts + 1] = { first = first, last = last, before = before, columns = columns, floats_alone = not boxes }
+    first, before, boxes, inserts = last + 1, nil, false, false
+  end
+  for b, block in ipairs(blocks) do
+    local marker = block.item and block.item.marker
+    if marker == "clear" or marker == "cleardouble" then
+      if boxes or inserts then close(b - 1) end
+      -- of several behind one another the strongest counts
+      if #parts > 0 or marker == "cleardouble" then before = before == "cleardouble" and before or marker end
+    elseif marker and marker:match("^columns ") then columns = marker:match("%d+")
+    elseif has_box(block) then boxes = true
+    elseif has_insert(block) then inserts = true end
+  end
+  if boxes or inserts then close(#blocks)
+  elseif #parts > 0 then parts[#parts].last = #blocks end
+  return parts
+end
+
+-- what pg reads of a part: without markers, without what TeX drops in front of its first box, and with the marks and
+-- writes behind its last box in front of the glue that TeX drops there
+local function show_to_pg(part, blocks)
+  local shown, tail, seen = {}, {}, false
+  local last_box = 0
+  for b = part.first, part.last do if has_box(blocks[b]) then last_box = b end end
+  for b = part.first, part.last do
+    local block = blocks[b]
+    local item = block.item
+    if item and item.marker then
+    elseif has_box(block) then seen = true shown[#shown + 1] = b
+    elseif is_discardable(item) then
+      if b > last_box then tail[#tail + 1] = b
+      elseif seen then shown[#shown + 1] = b end
+    else shown[#shown + 1] = b end
+  end
+  for _, b in ipairs(tail) do shown[#shown + 1] = b end
+  part.shown, part.last_box = shown, last_box
+end
+local function galley_text(shown, blocks, root)
+  local lines, read = { root }, {}
+  local function put(item)
+    lines[#lines + 1], read[#lines - 1] = "." .. item.line, item
+    for _, deep in ipairs(item.deep) do lines[#lines + 1], read[#lines - 1] = "." .. deep, item end
+  end
+  local function mark(line, item) lines[#lines + 1], read[#lines - 1] = "." .. line, item end
+  for _, b in ipairs(shown) do
+    local block = blocks[b]
+    if block.versions then
+      mark("\\special{pg:choice}", block.versions[1][1])
+      for _, version in ipairs(block.versions) do
+        mark(version.marker, version[1])
+        for _, item in ipairs(version) do if not item.marker then put(item) end end
+      end
+      mark("\\special{pg:end}", block.versions[1][1])
+    else put(block.item) end
+  end
+  return table.concat(lines, "\n") .. "\n", read
+end
+
+---------------------------------------------------------------- the page text
+local function counts(word)
+  local list = {}
+  if word ~= "-" then for digits in word:gmatch("%d+") do list[#list + 1] = integer(digits) end end
+  return list
+end
+local function read_pages(text)
+  local pages, page, column, area = {}, nil, nil, nil
+  for line in text:gmatch("[^\n]+") do
+    if line:sub(1, 1) == "." then
+      if area == "notes" then
+        local size = line:match("^%.\\insert%d+, natural size ([%d.]+)")
+        if size then column.notes = column.notes + units(size) end
+      end
+    else
+      local w = {}
+      for word in line:gmatch("%S+") do w[#w + 1] = word end
+      if w[1] == "pages" then pages.cost, pages.width = w[4], w[6]
+      elseif w[1] == "page" then
+        page = { side = w[4], run = integer(w[6]), wide = counts(w[8]), columns = {}, text = {} }
+        pages[#pages + 1] = page
+      elseif w[1] == "column" then
+        column = { from = { integer(w[4]), integer(w[5]), integer(w[6]) }, to = { integer(w[8]), integer(w[9]), integer(w[10]) },
+          above = counts(w[12]), below = counts(w[14]), picks = counts(w[16]), notes = 0 }
+        page.columns[#page.columns + 1] = column
+      elseif w[1] == "set" then column.goal, column.total = units(w[3]), units(w[5])
+      elseif w[1] == "area" then area = w[2] end
+    end
+    if page then page.text[#page.text + 1] = line end
+  end
+  return pages
+end
+
+---------------------------------------------------------------- where nothing is legal
+local function largest_room(style)
+  local extra = 0
+  for _, run in ipairs(style.runs) do extra = math.max(extra, size_of(run, "extra")) end
+  return size_of(style, "height") + extra
+end
+local function explain(part, blocks, style, log)
+  local room = largest_room(style)
+  local found = {}
+  local function note(item, ...) found[#found + 1] = string.format("%s:%d: ", log.file, item.at) .. string.format(...) end
+  local seen = {}
+  for b = 1, part.last do
+    local block = blocks[b]
+    for _, item in ipairs(block.versions and block.versions[1] or { block.item }) do
+      if item.kind == "insert" and item.size then
+        seen[item.class] = (seen[item.class] or 0) + 1
+        local limit = style.notes[item.class] and size_of(style.notes[item.class], "limit")
+        if b >= part.first then
+          if item.size > room then
+            note(item, "%s %d of class %d is %s high, and a page %s", style.is_float[item.class] and "float" or "note",
+              seen[item.class], item.class, points(item.size), points(room))
+          elseif limit and item.size > limit then
+            note(item, "note %d is %s high, and at most %s may be", seen[item.class], points(item.size), points(limit))
+          end
+        end
+      elseif b >= part.first and item.kind == "box" and item.height and item.height + item.depth > room then
+        note(item, "a box is %s high, which no page breaks, and a page %s", points(item.height + item.depth), points(room))
+      end
+    end
+  end
+  return found
+end
+-- how far a part can be paginated: the least front of it that cannot
+local function least_illegal_front(part, blocks, style_file, log)
+  local galley, output = temporary_name(), temporary_name()
+  local function legal(n)
+    local front = {}
+    for i = 1, n do front[i] = part.shown[i] end
+    write_file(galley, (galley_text(front, blocks, log.root)))
+    local text = run_pg("run " .. quoted(style_file) .. " " .. quoted(galley), output)
+    return text and not text:match("^no legal pagination") and text
+  end
+  local low, high, pages = 0, #part.shown, 0
+  while high - low > 1 do
+    local middle = (low + high) // 2
+    local text = legal(middle)
+    if text then low, pages = middle, integer(text:match("^pages (%d+)")) else high = middle end
+  end
+  return blocks[part.shown[high]], pages
+end
+
+---------------------------------------------------------------- all parts
+-- the page that a part begins on, by its number
+local function number_at(part, blocks, number)
+  if part.before == "cleardouble" and number % 2 == 0 then number = number + 1 end
+  for b = part.first, part.last do
+    local block = blocks[b]
+    local marked = block.item and block.item.marker and block.item.marker:match("^page (%d+)$")
+    if marked then number = integer(marked) end
+    if has_box(block) then break end
+  end
+  return number
+end
+-- floats that stand between two \clearpage without text: as many to a page as it holds
+local function pages_of_floats(part, blocks, style)
+  local pages, room, page = {}, size_of(style, "height"), nil
+  local left = 0
+  local function one_of(class)
+    local list = {}
+    for k, float in ipairs(style.floats) do list[k] = float.number == class and 1 or 0 end
+    return list
+  end
+  for b = part.first, part.last do
+    local item = blocks[b].item
+    if item and item.kind == "insert" and style.is_float[item.class] then
+      if item.size > room then return nil, item end
+      local wide = style.is_float[item.class].area == "wide"
+      if wide then
+        pages[#pages + 1] = { side = "S", run = 0, wide = one_of(item.class), columns = { { above = {}, below = {}, picks = {}, idle = true } }, text = {} }
+        left = 0
+      elseif left >= item.size then
+        local column = page.columns[1]
+        for k, n in ipairs(one_of(item.class)) do column.above[k] = column.above[k] + n end
+        left = left - item.size - size_of(style.top, "sep")
+      else
+        page = { side = "S", run = 0, wide = {}, columns = { { above = one_of(item.class), below = {}, picks = {} } }, text = {} }
+        pages[#pages + 1] = page
+        left = room - item.size - size_of(style.top, "sep")
+      end
+    end
+  end
+  pages.cost = "0"
+  return pages
+end
+local function paginate(parts, blocks, style, log)
+  local number = integer(log.page or "1")
+  local galley, output, styles = temporary_name(), temporary_name(), {}
+  local function style_for(first, columns, longer)
+    if first == style.first and columns == style.columns and not longer then return style.file end
+    local which = first .. columns .. (longer and " longer" or "")
+    if not styles[which] then
+      styles[which] = temporary_name()
+      local text = style.text:gsub("(\n%s*first%s*=%s*)\"%a+\"", "%1\"" .. first .. "\"", 1)
+      text = text:gsub("(\n%s*columns%s*=%s*)%d+", "%1" .. columns, 1)
+      if longer then text = text:gsub("(distance = %[0, [%d, ]+)", "%1" .. string.rep(", 100000000", 4)) end
+      write_file(styles[which], text)
+    end
+    return styles[which]
+  end
+  for k, part in ipairs(parts) do
+    show_to_pg(part, blocks)
+    number = number_at(part, blocks, number)
+    if part.floats_alone then
+      local pages, item = pages_of_floats(part, blocks, style)
+      if not pages then stop("no legal pagination: %s:%d: a float is %s high", log.file, item.at, points(item.size)) end
+      part.pages = pages
+    else
+      local text, read = galley_text(part.shown, blocks, log.root)
+      write_file(galley, text)
+      local first = style.first ~= "single" and (number % 2 == 1 and "right" or "left") or style.first
+      local out, said = run_pg("run " .. quoted(style_for(first, part.columns)) .. " " .. quoted(galley), output)
+      if not out then stop("%s", in_words(said, style.file, log, read)) end
+      -- in a style of pg.sty a float may wait four pages; where many come together, eight
+      if out:match("^no legal pagination") and style.text:match("^# written by pg.sty") then
+        out, said = run_pg("run " .. quoted(style_for(first, part.columns, true)) .. " " .. quoted(galley), output)
+        if not out then stop("%s", in_words(said, style.file, log, read)) end
+      end
+      if out:match("^no legal pagination") then
+        for _, line in ipairs(explain(part, blocks, style, log)) do complain("%s", line) end
+        local block, pages = least_illegal_front(part, blocks, style_for(first, part.columns), log)
+        local item = block and (block.item or block.versions[1][1])
+        stop("no legal pagination%s: %d pages can be made, and nothing behind %s:%d%s", #parts > 1 and " of part " .. k or "", pages,
+          log.file, item and item.at or 0, item and " [" .. item.line .. "]" or "")
+      end
+      part.pages = read_pages(out)
+    end
+    number = number + #part.pages
+  end
+end
+
+---------------------------------------------------------------- breaks of TeX
+-- The list as TeX has it in the last run, with the versions that pg picked; the place of each block in it.
+local function flatten(parts, blocks)
+  local flat, picked = {}, {}
+  for _, part in ipairs(parts) do
+    local picks = {}
+    for _, page in ipairs(part.pages) do
+      for _, column in ipairs(page.columns) do for _, v in ipairs(column.picks) do picks[#picks + 1] = v end end
+    end
+    local n = 0
+    for b = part.first, part.last do
+      local block = blocks[b]
+      block.offset = #flat
+      if block.versions then
+        n = n + 1
+        block.pick = picks[n] or 0
+        picked[#picked + 1] = block
+        for _, item in ipairs(block.versions[block.pick + 1]) do flat[#flat + 1] = item end
+      else flat[#flat + 1] = block.item end
+    end
+    part.finish = #flat
+  end
+  return flat, picked
+end
+-- \vsplit to a height far below 0 takes the list up to its first break (TeX: The Program, 970), and pg.sty first cuts
+-- the list at each penalty that forces a page. pieces[n] is how many pieces the first n items make, where one ends there.
+local function count_pieces(flat)
+  local all, count = #flat, 0
+  local pieces = { [0] = 0 }
+  local function is_break(place) -- between the first `place` items and what follows
+    local item, behind = flat[place + 1], flat[place + 2]
+    if item.kind == "glue" then return not is_discardable(flat[place])
+    elseif item.kind == "kern" then return behind and behind.kind == "glue"
+    else return item.kind == "penalty" and item.penalty < 10000 end
+  end
+  -- discardable items in front of a box go; what else stands there is a piece of its own
+  local function prune(place, finish)
+    local kept = false
+    while place < finish and flat[place + 1].kind ~= "box" do
+      place = place + 1
+      kept = kept or not is_discardable(flat[place])
+    end
+    if kept then count = count + 1 end
+    if kept and place == finish then pieces[finish] = count end
+    return place
+  end
+  local place = 0
+  while place < all do
+    place = prune(place, all)
+    local finish = math.min(place + 1, all)
+    while finish < all and not (flat[finish + 1].kind == "penalty" and flat[finish + 1].penalty <= -10000) do
+      finish = finish + 1
+    end
+    while place < finish do
+      repeat place = place + 1 until place == finish or is_break(place)
+      count = count + 1
+      pieces[place] = count
+      place = prune(place, finish)
+    end
+  end
+  return pieces
+end
+
+---------------------------------------------------------------- NAME.pgi
+-- For LuaTeX: each item by its kind and sizes, so that pg.lua can say which one is another; starts[n] is the page whose
+-- text begins behind n items.
+local function described_items(flat, starts)
+  local out = {}
+  local function length(word)
+    local number, order = word:match("^(-?[%d.]+)(f?i?l*)$")
+    return units(number) .. order
+  end
+  for k, item in ipairs(flat) do
+    if starts[k - 1] then out[#out + 1] = "page " .. starts[k - 1] end
+    local text = item.line
+    if text:match("^\\rule") then text = "rule"
+    elseif item.kind == "box" then text = string.format("box %d %d", item.height, item.depth)
+    elseif item.kind == "glue" then
+      local width = text:match("^\\%a+%b() (-?[%d.]+)") or text:match("^\\%a+ (-?[%d.]+)")
+      local stretch, shrink = text:match(" plus (-?[%d.]+f?i?l*)"), text:match(" minus (-?[%d.]+f?i?l*)")
+      text = string.format("glue %d %s %s", units(width), stretch and length(stretch) or "0", shrink and length(shrink) or "0")
+    elseif item.kind == "kern" then text = "kern " .. units(text:match("(-?[%d.]+)"))
+    elseif item.kind == "penalty" then text = "penalty " .. item.penalty
+    elseif item.kind == "insert" then text = string.format("insert %d %d", item.class, item.size)
+    else text = "carry" end
+    out[#out + 1] = text
+  end
+  return table.concat(out, "\n") .. "\n"
+end
+
+---------------------------------------------------------------- NAME.pgx
+local function write_commands(parts, blocks, style, log, sum)
+  local flat, picked = flatten(parts, blocks)
+  local pieces = count_pieces(flat)
+  local out = {}
+  local function put(...) out[#out + 1] = string.format(...) end
+
+  local sizes, dealt = {}, {}
+  for _, class in ipairs(style.floats) do sizes[class.number], dealt[class.number] = {}, 0 end
+  for _, item in ipairs(flat) do
+    if item.kind == "insert" and sizes[item.class] then table.insert(sizes[item.class], item.size) end
+  end
+  for _, class in ipairs(style.floats) do
+    for n, size in ipairs(sizes[class.number]) do put("\\pg@size{%d}{%d}{%d}", class.number, n, size) end
+  end
+  local by_hand = 0
+  for _, block in ipairs(picked) do
+    if not block.paragraph then by_hand = by_hand + 1 block.number = by_hand end
+    if block.pick ~= 0 then
+      if block.paragraph then put("\\pg@length{%d}{%d}", block.paragraph, block.versions[block.pick + 1].looseness)
+      else put("\\pg@choice{%d}{%d}", block.number, block.pick) end
+    end
+  end
+  -- the next floats of each class: their list, heights and number
+  local function deal(numbers)
+    local list, height, n = {}, 0, 0
+    for k, class in ipairs(style.floats) do
+      for _ = 1, numbers[k] or 0 do
+        local at = dealt[class.number] + 1
+        dealt[class.number] = at
+        list[#list + 1] = string.format("\\pg@place{%d}{%d}", class.number, at)
+        height, n = height + sizes[class.number][at], n + 1
+      end
+    end
+    return table.concat(list), height, n
+  end
+
+  local page_number, columns, done, starts = 0, 0, 0, {}
+  for _, part in ipairs(parts) do
+    put("\\pg@part{%s}{%s}", part.before or "", part.columns)
+    local finish = part.finish
+    local box_end = finish
+    if part.last_box > 0 then
+      local block = blocks[part.last_box]
+      box_end = block.offset + (block.versions and #block.versions[block.pick + 1] or 1)
+      while not pieces[box_end] do box_end = box_end + 1 end
+    end
+    while not pieces[finish] do finish = finish - 1 end
+    local last
+    for _, page in ipairs(part.pages) do
+      for _, column in ipairs(page.columns) do if column.goal then last = column end end
+    end
+    -- how far in the list a place of pg's is
+    local function offset(place)
+      local b = part.shown[place[1] + 1]
+      if not b then return part.finish end
+      local block, n = blocks[b], place[3]
+      if not block.versions then return block.offset end
+      for k, item in ipairs(block.versions[block.pick + 1]) do
+        if not item.marker then
+          if n == 0 then return block.offset + k - 1 end
+          n = n - 1
+        end
+      end
+      return block.offset + #block.versions[block.pick + 1]
+    end
+    for _, page in ipairs(part.pages) do
+      page_number = page_number + 1
+      local wide, height, n = deal(page.wide)
+      if n > 0 then height = height + (n - 1) * size_of(style.wide, "sep") + size_of(style.wide, "gap") end
+      put("\\pg@page{%d}{%d}{%s}{%d}", page_number, size_of(style.runs[page.run + 1], "extra"), wide, height)
+      for _, column in ipairs(page.columns) do
+        local above, _, how_many = deal(column.above)
+        local below = deal(column.below)
+        if column.goal then
+          columns = columns + 1
+          local to, tail, back, set = offset(column.to), 0, -1, 1
+          local from_item = offset(column.from)
+          starts[from_item] = starts[from_item] or page_number
+          local at
+          if column == last then
+            at = finish
+            tail = pieces[finish] - pieces[box_end]
+            if column.total <= column.goal then set = 0 end
+          else
+            at = to
+            while not pieces[at] do at = at - 1 end
+          end
+          local from = column == last and box_end or at
+          if from < to and tail == 0 then
+            -- a break behind a break with no box between: what TeX drops at the first one is put back
+            back = 0
+            local place = from
+            while flat[place + 1] and flat[place + 1].kind ~= "box" do
+              local item = flat[place + 1]
+              if is_discardable(item) then if place >= to then back = back + 1 end
+              elseif place < to then
+                complain("%s:%d: this item may come out on the page behind", log.file, item.at)
+              end
+              place = place + 1
+            end
+          end
+          put("\\pg@column{%d}{%d}{%d}{%d}{%d}{%d}{%d}{%s}{%s}", pieces[at] - done, tail, back, column.goal, column.total, set,
+            column.notes, above, below)
+          done = pieces[at]
+        else
+          put("\\pg@floatcolumn{%s}{%d}", above, how_many)
+        end
+      end
+    end
+  end
+  if log.engine == "lualatex" then write_file(name .. ".pgi", described_items(flat, starts)) end
+  local text = string.format("%% the pages of %s for pg.sty, made by pgtex %s\n", name, VERSION) ..
+    string.format("\\pg@pages{%d}{%s}{%d}{%d}\n", FORMAT, sum, page_number, columns) ..
+    string.format("\\pg@layout{%d}{%d}{%d}\n", size_of(style, "height"), size_of(style, "topskip"), size_of(style, "maxdepth")) ..
+    table.concat(out, "\n") .. "\n\\endinput\n"
+  write_file(name .. ".pgx", text)
+  return page_number
+end
+
+---------------------------------------------------------------- the page text of all parts
+local function joined_pages(parts, log)
+  local out, number, block, cost = {}, 0, 0, 0
+  for _, part in ipairs(parts) do
+    cost = cost + (tonumber(part.pages.cost) or 0)
+    for _, page in ipairs(part.pages) do
+      number = number + 1
+      if #page.text == 0 then
+        local function list(t) return #t > 0 and table.concat(t, ",") or "-" end
+        local column = page.columns[1]
+        out[#out + 1] = string.format("page %d side S run 0 wide %s", number, list(page.wide))
+        out[#out + 1] = string.format("column 1 from %d 0 0 to %d 0 0 top %s bottom - picks -", block, block, list(column.above))
+        out[#out + 1] = "without text demerits 0"
+      end
+      for _, line in ipairs(page.text) do
+        if line:sub(1, 1) ~= "." then
+          line = line:gsub("^page %d+", "page " .. number)
+          line = line:gsub("^(column %d+ from )(%d+)( %d+ %d+ to )(%d+)", function(a, from, b, to)
+            return a .. integer(from) + block .. b .. integer(to) + block end)
+        end
+        out[#out + 1] = line
+      end
+    end
+    block = block + #part.shown
+  end
+  return string.format("pages %d cost %d width %s\n", number, cost, log.root:match("x(-?[%d.]+)")) .. table.concat(out, "\n") .. "\n"
+end
+
+---------------------------------------------------------------- paragraphs in several lengths
+-- LaTeX is run once more for each looseness, as a draft in a folder of its own: what stands beside the document stays
+-- as it is.
+local function draft_run(log, looseness)
+  local folder = temporary_name()
+  lfs.mkdir(folder)
+  local program_of_engine = latex or log.engine
+  local without_pdf = log.engine == "xelatex" and "-no-pdf" or "-draftmode"
+  local base = name:match("[^/\\]*$")
+  local command = string.format("%s %s -interaction=batchmode -output-directory=%s -jobname=%s %s", program_of_engine, without_pdf,
+    quoted(folder), quoted(base), quoted(string.format("\\def\\pgloose{%d}\\input{%s}", looseness, name)))
+  os.execute(command .. (os.type == "windows" and " > NUL" or " > /dev/null"))
+  local draft = lfs.isfile(folder .. "/" .. base .. ".log") and read_log(folder .. "/" .. base .. ".log")
+  for file in lfs.dir(folder) do os.remove(folder .. "/" .. file) end
+  lfs.rmdir(folder)
+  if not draft then stop("the draft run `%s' wrote no log", command) end
+  return draft
+end
+
+local function is_line(item) return item and item.line:match("^\\hbox") end
+-- the items of a paragraph from its first line to its last, with the inserts of the last
+local function paragraph_at(items, first, lines)
+  local list, count, i = {}, 0, first
+  while items[i] and count < lines do
+    local item = items[i]
+    if item.marker and (i ~= first + 1 or not item.marker:match("^paragraph")) then return nil end
+    list[#list + 1] = item
+    if is_line(item) then count = count + 1 end
+    i = i + 1
+  end
+  if count < lines then return nil end
+  if lines == 1 and items[i] and items[i].marker then list[#list + 1] = items[i] i = i + 1 end
+  while items[i] and items[i].kind == "insert" do list[#list + 1] = items[i] i = i + 1 end
+  return list, i - 1
+end
+-- what TeX counts for its lines, by the ratio that each line shows
+local function demerits(list)
+  local sum = 0
+  for _, item in ipairs(list) do
+    if is_line(item) then
+      local ratio, order = item.line:match("glue set %-? ?([%d.]+)(f?i?l*)")
+      local badness = ratio and order == "" and math.floor(100 * tonumber(ratio) ^ 3 + 0.5) or 0
+      sum = sum + (10 + math.min(badness, 10000)) ^ 2
+    end
+  end
+  return math.floor(sum)
+end
+local function inserts(list)
+  local words = {}
+  for _, item in ipairs(list) do
+    if item.kind == "insert" then words[#words + 1] = item.line .. "\n" .. table.concat(item.deep, "\n") end
+  end
+  return table.concat(words, "\n")
+end
+local function with_line(item, line) return { line = line, deep = item.deep, at = item.at, kind = item.kind, marker = item.marker } end
+-- the version as high as the natural one in its first line and as deep in its last, so that the glue around is right
+-- whichever is picked
+local function fitted(version, own)
+  local last, own_last = 0, nil
+  for k, item in ipairs(version) do if is_line(item) then last = k end end
+  for _, item in ipairs(own) do if is_line(item) then own_last = item end end
+  local height = own[1].line:match("^\\hbox%((%-?[%d.]+)%+")
+  local depth = own_last.line:match("^\\hbox%(%-?[%d.]+%+(%-?[%d.]+)%)")
+  local copy = {}
+  for k, item in ipairs(version) do copy[k] = item end
+  copy[1] = with_line(copy[1], (copy[1].line:gsub("^\\hbox%(%-?[%d.]+%+", "\\hbox(" .. height .. "+")))
+  copy[last] = with_line(copy[last], (copy[last].line:gsub("^(\\hbox%(%-?[%d.]+%+)%-?[%d.]+%)", "%1" .. depth .. ")")))
+  return copy
+end
+local function blocks_of_runs(log, drafts)
+  local places = {}
+  for looseness, draft in pairs(drafts) do
+    places[looseness] = {}
+    for i, item in ipairs(draft.items) do
+      local n = item.marker and item.marker:match("^paragraph (%d+)$")
+      if n then places[looseness][integer(n)] = i - 1 end
+    end
+  end
+  local items, singles, i = log.items, {}, 1
+  local out = {}
+  local function flush()
+    for _, block in ipairs(make_blocks(singles)) do out[#out + 1] = block end
+    singles = {}
+  end
+  local by_hand = false -- within \lengths there are no choices
+  while items[i] do
+    local behind = items[i + 1]
+    local n = integer(behind and behind.marker and behind.marker:match("^paragraph (%d+)$") or "")
+    local lines = n and log.paragraphs[n]
+    local own, last
+    if items[i].line == "\\special{pg:choice}" then by_hand = true
+    elseif items[i].line == "\\special{pg:end}" then by_hand = false end
+    if lines and not by_hand and is_line(items[i]) then own, last = paragraph_at(items, i, lines) end
+    local versions = {}
+    for _, looseness in ipairs { -1, 1, -2, 2 } do
+      local draft = own and drafts[looseness]
+      local first = draft and places[looseness][n]
+      if first and draft.paragraphs[n] == lines + looseness then
+        local version = paragraph_at(draft.items, first, draft.paragraphs[n])
+        if version and is_line(version[1]) and inserts(version) == inserts(own) then
+          local price = math.max(0, math.min(100000000, demerits(version) - demerits(own)))
+          version = fitted(version, own)
+          version.looseness, version.marker = looseness, string.format("\\special{pg:variant %d %d}", looseness, price)
+          versions[#versions + 1] = version
+        end
+      end
+    end
+    if #versions > 0 then
+      flush()
+      own.looseness, own.marker = 0, "\\special{pg:variant 0 0}"
+      table.insert(versions, 1, own)
+      out[#out + 1] = { versions = versions, paragraph = n }
+      i = last + 1
+    else
+      singles[#singles + 1] = items[i]
+      i = i + 1
+    end
+  end
+  flush()
+  return out
+end
+
+---------------------------------------------------------------- the whole
+local log = read_log(name .. ".log")
+local style = read_style(log.style or name .. ".toml")
+-- a run with pages shows the lengths that were picked: the natural ones come of a draft
+if log.picks == "1" then
+  local draft = draft_run(log, 0)
+  draft.style, log = log.style, draft
+end
+local drafts = {}
+local lengths = integer(log.lengths or "0")
+if log.engine ~= "lualatex" then
+  for looseness = 1, lengths do
+    drafts[-looseness], drafts[looseness] = draft_run(log, -looseness), draft_run(log, looseness)
+  end
+end
+local blocks = next(drafts) and blocks_of_runs(log, drafts) or make_blocks(log.items)
+local parts = make_parts(blocks, log.columns or style.columns)
+if #parts == 0 then stop("%s.log: the galley is empty", name) end
+
+local galley = {}
+for _, part in ipairs(parts) do
+  show_to_pg(part, blocks)
+  galley[#galley + 1] = (part.before or "") .. part.columns .. "\n" .. galley_text(part.shown, blocks, log.root)
+end
+galley = table.concat(galley)
+local sum = md5.sumhexa(VERSION .. style.text .. galley)
+local old = read_file(name .. ".pgx")
+if old and old:match("\\pg@pages{%d+}{(%x+)}") == sum and not keep then
+  say("%s.pgx is of this galley", name)
+  os.exit(0)
+end
+paginate(parts, blocks, style, log)
+local how_many = write_commands(parts, blocks, style, log, sum)
+if keep then
+  local all = {}
+  for _, part in ipairs(parts) do for _, b in ipairs(part.shown) do all[#all + 1] = b end end
+  write_file(name .. ".pgg", (galley_text(all, blocks, log.root)))
+  write_file(name .. ".pages", joined_pages(parts, log))
+end
+for _, file in ipairs(temporary) do os.remove(file) end
+say("%s.pgx has %d pages; run LaTeX again", name, how_many)
