@@ -1,12 +1,12 @@
 -- Heights of areas whose floats are there.
-use Rattle.std.proofs.Common.{◌≡◌, refl, sym, ap, ◌∙◌, subst, ℕ, ◌<◌, List, true, Option, Some, None, ℤ, pos, arith, ◌++◌, map, take, get_or, length, ◌+◌, [], ◌∷◌}
-use Rattle.std.specs.Prelude.{nat_abs, ◌^◌, ◌≤ℤ◌, ◌<ℤ◌, ◌&&◌, int_le, int_lt, ◌-ℤ◌, ◌+ℤ◌, unwrap_or, IfSome}
+use Rattle.std.proofs.Common.{Bool, ◌≡◌, refl, sym, ap, ◌∙◌, subst, ℕ, ◌<◌, List, true, Option, Some, None, ℤ, pos, arith, ◌++◌, map, take, get_or, length, ◌+◌, [], ◌∷◌}
+use Rattle.std.specs.Prelude.{◌==◌, nat_lt, if◌then◌else◌, nat_abs, ◌^◌, ◌≤ℤ◌, ◌<ℤ◌, ◌&&◌, int_le, int_lt, ◌-ℤ◌, ◌+ℤ◌, unwrap_or, IfSome}
 use Rattle.std.specs.Option.{option_map_or}
 use Rattle.std.proofs.lemmas.Int.{ints}
 use Rattle.pg_plan.specs.declared.states.State.{State}
 use Rattle.pg_style.specs.Ranges.{IsAreaRule}
 use Rattle.pg_style.specs.Values.{AreaRuleValue}
-use Rattle.pg_rules.specs.Floats.{dealt, float_numbers, floats, plus_counts}
+use Rattle.pg_rules.specs.Floats.{dealt, float_numbers, floats, plus_counts, total_count}
 use Rattle.pg_rules.specs.IsState.{IsState, not_first}
 use Rattle.pg_rules.specs.Room.{Document, checked_height, extra}
 use Rattle.std.specs.List.{AllByRecursion}
@@ -15,9 +15,10 @@ use Rattle.law_columns.proofs.Areas.{area_range, dealt_range, floats_range}
 use Rattle.pg_layouts.specs.declared.layout.Layout.{Layout}
 use Rattle.std.proofs.lemmas.List.{map-append}
 use Rattle.pg_lemmas.proofs.Lists.{all_append, one_more}
-use Rattle.pg_lemmas.proofs.Bools.{both_of}
+use Rattle.pg_lemmas.proofs.Bools.{both_of, by_bool, if_false}
+use Rattle.std.proofs.lemmas.Bool.{eqb-true}
 use Rattle.law_moves.proofs.Moves.{checked_is}
-use Rattle.law_moves.specs.Steps.{area_of, text_room}
+use Rattle.law_moves.specs.Steps.{area_of, text_room, wide_of}
 use Rattle.pg_laid.specs.Laid.{IsLaidBy, IsThere, laid_of}
 use Rattle.pg_laid.specs.declared.laid.Laid.{Laid}
 use Rattle.law_places.proofs.Tests.{le_int, less_int}
@@ -37,6 +38,29 @@ height_small doc rule before counts z blocks range there e =
     there.few in
     let few = r.1 in
     subst (λ (y : ℤ). nat_abs y < 2 ^ 34) (sym e) (omega (arith, few))
+
+-- the wide area of the page of a later column, and of a first one
+pub wide_kept : (doc : Document) (u : State) (wide : List ℕ) → (u.column ≡ 1 → ⊥) → u.wide ≡ wide_of doc u wide
+wide_kept doc u wide n = by_bool (u.column == 1) (λ t. absurd (n (eqb-true u.column 1 t)))
+    (λ f. sym (if_false (u.column == 1) _ _ f))
+
+pub wide_first : (doc : Document) (u : State) (wide : List ℕ) (b : Bool) → u.column ≡ 1 → b ≡ nat_lt 0 (total_count wide) →
+    (if b then Some (area_of doc doc.style.wide u.placed wide) else None) ≡ wide_of doc u wide
+wide_first doc u wide b one e =
+    ap (λ (c : Bool). if c then Some (area_of doc doc.style.wide u.placed wide) else None) e
+    ∙ ap (λ (n : ℕ). if n == 1 then (if nat_lt 0 (total_count wide) then Some (area_of doc doc.style.wide u.placed wide)
+    else None) else u.wide) (sym one)
+
+-- a height that a state keeps
+pub kept_small : (column : ℕ) (o : Option ℤ) →
+    option_map_or (λ (z : ℤ). not_first column && (int_le (pos 0) z && int_lt z (pos (2 ^ 33)))) o true ≡ true →
+    IfSome o (λ height. nat_abs height < 2 ^ 34)
+kept_small column None e = tt
+kept_small column (Some z) e =
+    let b = both_of (int_le (pos 0) z) (int_lt z (pos (2 ^ 33))) (both_of (not_first column) _ e).1 in
+    let l = le_int (pos 0) z b.0 in
+    let h = less_int z (pos (2 ^ 33)) b.1 in
+    omega (arith, ints, l, h)
 
 -- what the areas of a layout leave to a text
 pub room_is : (doc : Document) (u : State) (layout : Layout) (wide : Option ℤ) (before below : List ℕ)

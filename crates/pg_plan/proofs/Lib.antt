@@ -2,4 +2,3 @@ pub mod OrderLaws
 pub mod LastLemmas
 pub mod BackwardsLemmas
 pub mod PickLemmas
-pub mod InPlace

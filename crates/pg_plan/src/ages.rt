@@ -1,6 +1,7 @@
 //! Ages of waiting floats.
 ghost use Rattle.std.specs.Prelude.{◌≡◌, ◌<◌, ◌≤◌, ◌+◌, IfOk, ◌++◌, OnOk, OnErr, ◌∷◌, [], length, nat_le, slice_index, map};
 ghost use Rattle.std.specs.List.{insert, remove, AllByRecursion};
+ghost use Rattle.pg_plan.specs.AgesKept.{ages_kept};
 
 use std::alloc::{AllocError, Global};
 use std::marker::Model;
@@ -42,6 +43,17 @@ impl FewAges {
         }
     }
 
+    #[tactic(auto, using(std::proofs::lemmas::List::take_at))]
+    fn of(ages: &[u8]) -> FewAges
+        requires { length ages.now ≤ 16 }
+        ensures { result ≡ ages.now }
+    {
+        let len = ages.len();
+        let mut places = [0; 16];
+        places[..len].copy_from_slice(ages);
+        FewAges { len, ages: places }
+    }
+
     fn copy(&self) -> FewAges
         ensures { result ≡ self.now }
     {
@@ -72,7 +84,7 @@ impl FewAges {
         self.len += 1;
     }
 
-    #[tactic(auto, using(crate::proofs::InPlace::one_in))]
+    #[tactic(auto, using(pg_lemmas::proofs::InPlace::one_in))]
     fn insert(&mut self, index: usize, age: u8)
         requires room { length self.old < 16 }
         requires within { index ≤ length self.old }
@@ -103,7 +115,7 @@ impl FewAges {
 }
 
 #[derive(Drop)]
-pub(crate) enum Kept {
+pub(crate) enum KeptAges {
     Few(FewAges),
     Many(Vec<u8>),
 }
@@ -120,11 +132,21 @@ fn spilled(alloc: Global, ages: &[u8], age: u8) -> Result<Vec<u8>, AllocError>
     Ok(many)
 }
 
+// These in place if they fit, since a list on the heap may have grown short again.
+fn kept_copy(alloc: Global, ages: &[u8]) -> Result<KeptAges, AllocError>
+    ensures { IfOk result (λ kept. ages_kept kept ≡ ages.now) }
+{
+    if ages.len() <= 16 {
+        return Ok(KeptAges::Few(FewAges::of(ages)));
+    }
+    Ok(KeptAges::Many(Vec::from_slice(alloc, ages)?))
+}
+
 /// The ages of waiting floats in pages, listed by class, then by number. Up to 16 of them stand in place.
 #[derive(Drop)]
 pub struct Ages {
     alloc: Global,
-    kept: Kept,
+    kept: KeptAges,
 }
 
 impl Model for Ages {
@@ -143,7 +165,7 @@ impl Ages {
     {
         Ages {
             alloc,
-            kept: Kept::Few(FewAges::new()),
+            kept: KeptAges::Few(FewAges::new()),
         }
     }
 
@@ -153,14 +175,14 @@ impl Ages {
         ensures err { OnErr result (self.new ≡ self.old) }
     {
         match &mut self.kept {
-            Kept::Few(few) => {
+            KeptAges::Few(few) => {
                 if few.is_full() {
-                    self.kept = Kept::Many(spilled(self.alloc, few.as_slice(), age)?);
+                    self.kept = KeptAges::Many(spilled(self.alloc, few.as_slice(), age)?);
                 } else {
                     few.push(age);
                 }
             }
-            Kept::Many(many) => many.push(age)?,
+            KeptAges::Many(many) => many.push(age)?,
         }
         Ok(())
     }
@@ -172,16 +194,16 @@ impl Ages {
         ensures err { OnErr result (self.new ≡ self.old) }
     {
         match &mut self.kept {
-            Kept::Few(few) => {
+            KeptAges::Few(few) => {
                 if few.is_full() {
                     let mut many = spilled(self.alloc, few.as_slice(), age)?;
                     many[index..].rotate_right(1);
-                    self.kept = Kept::Many(many);
+                    self.kept = KeptAges::Many(many);
                 } else {
                     few.insert(index, age);
                 }
             }
-            Kept::Many(many) => many.insert(index, age)?,
+            KeptAges::Many(many) => many.insert(index, age)?,
         }
         Ok(())
     }
@@ -193,8 +215,8 @@ impl Ages {
         ensures age { result ≡ slice_index self.old index }
     {
         match &mut self.kept {
-            Kept::Few(few) => few.remove(index),
-            Kept::Many(many) => many.remove(index),
+            KeptAges::Few(few) => few.remove(index),
+            KeptAges::Many(many) => many.remove(index),
         }
     }
 
@@ -204,8 +226,8 @@ impl Ages {
         ensures { self.new ≡ map (λ age. age + 1) self.old }
     {
         match &mut self.kept {
-            Kept::Few(few) => few.rise(),
-            Kept::Many(many) => raise(many.as_mut_slice()),
+            KeptAges::Few(few) => few.rise(),
+            KeptAges::Many(many) => raise(many.as_mut_slice()),
         }
     }
 
@@ -213,8 +235,8 @@ impl Ages {
         ensures { result.now ≡ self.now }
     {
         match &self.kept {
-            Kept::Few(few) => few.as_slice(),
-            Kept::Many(many) => many.as_slice(),
+            KeptAges::Few(few) => few.as_slice(),
+            KeptAges::Many(many) => many.as_slice(),
         }
     }
 
@@ -222,8 +244,8 @@ impl Ages {
         ensures { IfOk result (λ ages. ages ≡ self.now) }
     {
         let kept = match &self.kept {
-            Kept::Few(few) => Kept::Few(few.copy()),
-            Kept::Many(many) => Kept::Many(Vec::from_slice(self.alloc, many.as_slice())?),
+            KeptAges::Few(few) => KeptAges::Few(few.copy()),
+            KeptAges::Many(many) => kept_copy(self.alloc, many.as_slice())?,
         };
         Ok(Ages {
             alloc: self.alloc,

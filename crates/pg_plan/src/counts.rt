@@ -79,7 +79,7 @@ impl FewCounts {
         }
     }
 
-    #[tactic(auto, using(crate::proofs::InPlace::set_among))]
+    #[tactic(auto, using(pg_lemmas::proofs::InPlace::set_among))]
     fn set(&mut self, slot: usize, count: u16)
         requires { slot < length self.old }
         ensures { self.new ≡ slice_set self.old slot count }
@@ -90,7 +90,7 @@ impl FewCounts {
 }
 
 #[derive(Drop)]
-pub(crate) enum Kept {
+pub(crate) enum KeptCounts {
     Few(FewCounts),
     Many(Vec<u16>),
 }
@@ -111,7 +111,7 @@ fn spilled(alloc: Global, counts: &[u16], count: u16) -> Result<Vec<u16>, AllocE
 #[derive(Drop)]
 pub struct Counts {
     alloc: Global,
-    kept: Kept,
+    kept: KeptCounts,
 }
 
 impl Model for Counts {
@@ -130,7 +130,7 @@ impl Counts {
     {
         Counts {
             alloc,
-            kept: Kept::Few(FewCounts::new()),
+            kept: KeptCounts::Few(FewCounts::new()),
         }
     }
 
@@ -141,7 +141,7 @@ impl Counts {
     {
         Counts {
             alloc,
-            kept: Kept::Few(FewCounts::zeros(slots)),
+            kept: KeptCounts::Few(FewCounts::zeros(slots)),
         }
     }
 
@@ -149,8 +149,8 @@ impl Counts {
         ensures { result.now ≡ self.now }
     {
         match &self.kept {
-            Kept::Few(few) => few.as_slice(),
-            Kept::Many(many) => many.as_slice(),
+            KeptCounts::Few(few) => few.as_slice(),
+            KeptCounts::Many(many) => many.as_slice(),
         }
     }
 
@@ -160,14 +160,14 @@ impl Counts {
         ensures err { OnErr result (self.new ≡ self.old) }
     {
         match &mut self.kept {
-            Kept::Few(few) => {
+            KeptCounts::Few(few) => {
                 if few.is_full() {
-                    self.kept = Kept::Many(spilled(self.alloc, few.as_slice(), count)?);
+                    self.kept = KeptCounts::Many(spilled(self.alloc, few.as_slice(), count)?);
                 } else {
                     few.push(count);
                 }
             }
-            Kept::Many(many) => many.push(count)?,
+            KeptCounts::Many(many) => many.push(count)?,
         }
         Ok(())
     }
@@ -178,8 +178,8 @@ impl Counts {
         ensures { self.new ≡ slice_set self.old slot count }
     {
         match &mut self.kept {
-            Kept::Few(few) => few.set(slot, count),
-            Kept::Many(many) => many.as_mut_slice()[slot] = count,
+            KeptCounts::Few(few) => few.set(slot, count),
+            KeptCounts::Many(many) => many.as_mut_slice()[slot] = count,
         }
     }
 
@@ -187,8 +187,11 @@ impl Counts {
         ensures { IfOk result (λ counts. counts ≡ self.now) }
     {
         let kept = match &self.kept {
-            Kept::Few(few) => Kept::Few(few.copy()),
-            Kept::Many(many) => Kept::Many(Vec::from_slice(self.alloc, many.as_slice())?),
+            KeptCounts::Few(few) => KeptCounts::Few(few.copy()),
+            KeptCounts::Many(many) => KeptCounts::Many(Vec::from_slice(
+                self.alloc,
+                many.as_slice(),
+            )?),
         };
         Ok(Counts {
             alloc: self.alloc,

@@ -63,7 +63,7 @@ impl FewPicks {
 }
 
 #[derive(Drop)]
-pub(crate) enum Kept {
+pub(crate) enum KeptPicks {
     Few(FewPicks),
     Many(Vec<u32>),
 }
@@ -84,7 +84,7 @@ fn spilled(alloc: Global, picks: &[u32], pick: u32) -> Result<Vec<u32>, AllocErr
 #[derive(Drop)]
 pub struct Picks {
     alloc: Global,
-    kept: Kept,
+    kept: KeptPicks,
 }
 
 impl Model for Picks {
@@ -103,7 +103,7 @@ impl Picks {
     {
         Picks {
             alloc,
-            kept: Kept::Few(FewPicks::new()),
+            kept: KeptPicks::Few(FewPicks::new()),
         }
     }
 
@@ -113,14 +113,14 @@ impl Picks {
         ensures err { OnErr result (self.new ≡ self.old) }
     {
         match &mut self.kept {
-            Kept::Few(few) => {
+            KeptPicks::Few(few) => {
                 if few.is_full() {
-                    self.kept = Kept::Many(spilled(self.alloc, few.as_slice(), pick)?);
+                    self.kept = KeptPicks::Many(spilled(self.alloc, few.as_slice(), pick)?);
                 } else {
                     few.push(pick);
                 }
             }
-            Kept::Many(many) => many.push(pick)?,
+            KeptPicks::Many(many) => many.push(pick)?,
         }
         Ok(())
     }
@@ -129,8 +129,8 @@ impl Picks {
         ensures { result.now ≡ self.now }
     {
         match &self.kept {
-            Kept::Few(few) => few.as_slice(),
-            Kept::Many(many) => many.as_slice(),
+            KeptPicks::Few(few) => few.as_slice(),
+            KeptPicks::Many(many) => many.as_slice(),
         }
     }
 
@@ -138,8 +138,8 @@ impl Picks {
         ensures { IfOk result (λ picks. picks ≡ self.now) }
     {
         let kept = match &self.kept {
-            Kept::Few(few) => Kept::Few(few.copy()),
-            Kept::Many(many) => Kept::Many(Vec::from_slice(self.alloc, many.as_slice())?),
+            KeptPicks::Few(few) => KeptPicks::Few(few.copy()),
+            KeptPicks::Many(many) => KeptPicks::Many(Vec::from_slice(self.alloc, many.as_slice())?),
         };
         Ok(Picks {
             alloc: self.alloc,

@@ -6,7 +6,7 @@ use Rattle.std.proofs.lemmas.Bool.Decides.{nat_tests}
 use Rattle.std.proofs.lemmas.List.{length-take}
 use Rattle.pg_style.specs.declared.style.Class.{Class}
 use Rattle.pg_style.specs.Classes.{class_in, inserted}
-use Rattle.pg_style.proofs.InPlace.{one_in}
+use Rattle.pg_lemmas.proofs.InPlace.{one_in}
 use Rattle.pg_style.specs.Ranges.{AreInOrder, AreClasses, IsClass}
 
 insert_step : (b : Bool) (first class : Class) (classes : List Class) (n : ℕ) → insert classes n class ≡ inserted class classes

@@ -1,3 +1,2 @@
 pub mod ClassLemmas
-pub mod InPlace
 pub mod DistanceLemmas

@@ -1,5 +1,5 @@
 use Rattle.std.proofs.Common.{arith}
-use Rattle.pg_plan.proofs.InPlace.{taken_out}
+use Rattle.pg_lemmas.proofs.InPlace.{taken_out}
 use Rattle.pg_plan.proofs.ages.FewAges.remove.Goals as goal
 
 pub returns-clause-ages : goal.returns-clause-ages
