@@ -18,7 +18,7 @@ use Rattle.pg_plan.specs.declared.pages.Pagination.{Pagination}
 use Rattle.pg_plan.specs.declared.states.State.{State}
 use Rattle.pg_plan.specs.Order.{columns, column_cmp, place_cmp, counts_cmp, picks_cmp, plan_cmp}
 use Rattle.pg_style.specs.Values.{StyleValue}
-use Rattle.pg_flat.specs.Flat.{blocks_at, fronts, picked_variants}
+use Rattle.pg_list.specs.Flat.{blocks_at, fronts, picked_variants}
 use Rattle.pg_rules.specs.ColumnRules.{does_fit, column_variants}
 use Rattle.pg_rules.specs.Cost.{cost}
 use Rattle.pg_rules.specs.Floats.{float_numbers}

@@ -3,7 +3,7 @@ use pg_list::Place;
 
 /// A yes: the cost in demerits that no legal pagination undercuts, or None where none is legal, and by how many labels
 /// this is shown.
-#[derive(Clone, Copy, Debug, Drop, PartialEq, Eq)]
+#[derive(Clone, Copy, Drop, PartialEq, Eq)]
 pub struct Proved {
     pub cost: Option<i128>,
     pub labels: u32,
@@ -11,7 +11,7 @@ pub struct Proved {
 
 /// A no: the first test that fails, in the order of the tests, with what it names; or memory ran out. Rules, columns,
 /// lines and labels are counted from 1, costs are in demerits.
-#[derive(Clone, Copy, Debug, Drop, PartialEq, Eq)]
+#[derive(Clone, Copy, Drop, PartialEq, Eq)]
 pub enum No {
     /// 1: the pagination breaks this rule, first at this column, or at none, which is 0.
     Broken { rule: u8, column: u32 },

@@ -16,8 +16,8 @@ use Rattle.pg_list.specs.declared.item.Item.TheVariants.{BoxItem, Rule, Glue, Ke
 use Rattle.pg_list.specs.declared.variants.Variant.{Variant}
 use Rattle.pg_style.specs.Ranges.{IsAreaRule}
 use Rattle.pg_style.specs.Values.{AreaRuleValue}
-use Rattle.pg_flat.specs.Flat.{FlatItem, flat, flat_items_from, variant_flat_items}
-use Rattle.pg_flat.specs.Whole.{whole_sum_by}
+use Rattle.pg_list.specs.Flat.{FlatItem, flat, flat_items_from, variant_flat_items}
+use Rattle.pg_list.specs.Whole.{whole_sum_by}
 use Rattle.pg_rules.specs.Floats.{entry, sizes_of, floats, float_numbers, float_count, total_count, dealt, dealt_from, has_all, area_height, is_area_allowed, takes_wide}
 use Rattle.pg_rules.specs.History.{made_wide}
 use Rattle.pg_rules.specs.Room.{Document, checked_height}

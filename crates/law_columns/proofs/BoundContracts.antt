@@ -6,7 +6,7 @@ use Rattle.pg_list.specs.GalleyValue.{GalleyValue}
 use Rattle.pg_list.specs.Shapes.{IsBlock}
 use Rattle.pg_list.specs.declared.galley.Place.{Place}
 use Rattle.pg_style.specs.Values.{StyleValue}
-use Rattle.pg_flat.specs.Flat.{blocks_at}
+use Rattle.pg_list.specs.Flat.{blocks_at}
 use Rattle.pg_rules.specs.ColumnRules.{column_variants}
 use Rattle.pg_rules.specs.Follow.{age_in, context_in}
 use Rattle.pg_rules.specs.IsState.{IsState}

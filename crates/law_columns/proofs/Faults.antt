@@ -6,7 +6,7 @@ use Rattle.std.specs.List.{AllByRecursion}
 use Rattle.pg_plan.specs.declared.pages.PageMove.{PageMove}
 use Rattle.pg_plan.specs.declared.pages.Page.{Page}
 use Rattle.pg_rules.specs.Room.{Document}
-use Rattle.pg_flat.specs.Flat.{is_same_place}
+use Rattle.pg_list.specs.Flat.{is_same_place}
 use Rattle.pg_rules.specs.ColumnRules.{does_fit, is_well_formed, is_tolerable, passes_breaks, has_room, has_counts, keeps_note_limits, keeps_looseness}
 use Rattle.pg_rules.specs.History.{next_column, next_run, place_of, placed_of, context}
 use Rattle.pg_rules.specs.Legal.{unless, first_at_fault, faults_with, first_breach, misfilled, is_chained, is_near, has_wide_counts, deals_floats, has_callouts, has_run}

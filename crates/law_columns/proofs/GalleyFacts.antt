@@ -6,7 +6,7 @@ use Rattle.pg_list.specs.declared.item.Item.{Item}
 use Rattle.pg_list.specs.declared.galley.Place.{Place}
 use Rattle.pg_list.specs.Shapes.{IsBlock}
 use Rattle.pg_plan.specs.declared.pages.PageMove.{PageMove}
-use Rattle.pg_flat.specs.Flat.{items_before, flat}
+use Rattle.pg_list.specs.Flat.{items_before, flat}
 use Rattle.pg_rules.specs.Floats.{sizes_of, entry, called, float_numbers}
 use Rattle.pg_rules.specs.History.{place_of, context}
 use Rattle.pg_rules.specs.Room.{Document}
@@ -18,7 +18,7 @@ use Rattle.law_columns.proofs.Beginnings.{Facts}
 use Rattle.law_columns.proofs.Push.{HasTables}
 use Rattle.pg_lemmas.proofs.Bools.{both_of}
 use Rattle.std.proofs.lemmas.Bool.{eqb-true}
-use Rattle.pg_flat.proofs.Places.{same_place}
+use Rattle.pg_list.proofs.Places.{same_place}
 
 -- the columns that stand end at a place of the galley
 pub stand_place : (doc : Document) → AllByRecursion IsBlock doc.blocks → (ms : List PageMove) → Stand doc ms →

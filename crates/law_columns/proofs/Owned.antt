@@ -15,7 +15,7 @@ use Rattle.pg_plan.specs.declared.states.State.{State}
 use Rattle.pg_style.specs.Ranges.{IsStyle}
 use Rattle.pg_style.specs.declared.style.First.{First}
 use Rattle.pg_style.specs.declared.style.First.TheVariants.{Left, Right, Single}
-use Rattle.pg_flat.specs.Flat.{items_before}
+use Rattle.pg_list.specs.Flat.{items_before}
 use Rattle.pg_rules.specs.ColumnRules.{text_fitness, text_total, text_goal, text_badness, fitness_by}
 use Rattle.pg_rules.specs.Floats.{entry, called, float_numbers, sizes_of, slots}
 use Rattle.pg_rules.specs.Follow.{Follow, age_in, context_in, keeps_run, other_side, turns, waiting_behind, wide_in}
@@ -35,7 +35,7 @@ use Rattle.law_columns.proofs.Areas.{IsUpTo, wide_range}
 use Rattle.pg_lemmas.proofs.Bools.{both_of, both, if_false}
 use Rattle.std.proofs.lemmas.Bool.{leb-true, le-leb}
 use Rattle.pg_lemmas.proofs.Numbers.{eq_not, more_than_one, few_if, not_less, less_true}
-use Rattle.pg_flat.proofs.Places.{same_place}
+use Rattle.pg_list.proofs.Places.{same_place}
 
 young_map : (doc : Document) (g : ℕ × ℕ → ℕ) (floats : List (ℕ × ℕ)) →
     list_all (λ (float : ℕ × ℕ). nat_lt (g float) (length (distance_table doc.style float.0))) floats ≡ true →

@@ -13,11 +13,11 @@ use Rattle.pg_list.specs.declared.item.Item.TheVariants.{BoxItem, Rule, Glue, Ke
 use Rattle.pg_list.specs.declared.variants.Variant.{Variant}
 use Rattle.pg_style.specs.Ranges.{IsStyle, IsRun, AreDemerits}
 use Rattle.pg_style.specs.declared.style.Run.{Run}
-use Rattle.pg_flat.specs.Badness.{badness, cubed, ratio, has_infinite, page_badness}
-use Rattle.pg_flat.specs.Break.{break_penalty, item_break, follows_solid, has_at, is_glue, is_spent}
-use Rattle.pg_flat.specs.Flat.{picked_variants}
-use Rattle.pg_flat.specs.Totals.{stretch, shrink}
-use Rattle.pg_flat.specs.Whole.{whole_sum_by, square}
+use Rattle.pg_list.specs.Badness.{badness, cubed, ratio, has_infinite, page_badness}
+use Rattle.pg_list.specs.Break.{break_penalty, item_break, follows_solid, has_at, is_glue, is_spent}
+use Rattle.pg_list.specs.Flat.{picked_variants}
+use Rattle.pg_list.specs.Totals.{stretch, shrink}
+use Rattle.pg_list.specs.Whole.{whole_sum_by, square}
 use Rattle.pg_list.specs.declared.item.Order.TheVariants.{Finite}
 use Rattle.pg_rules.specs.ColumnRules.{segment, text_total, text_goal, text_badness, column_variants}
 use Rattle.pg_rules.specs.Cost.{penalty_demerits, text_demerits, column_demerits, pick_demerits, run_demerits, float_demerits, differs, fitness_demerits, column_cost}

@@ -8,9 +8,9 @@ use Rattle.pg_plan.specs.declared.pages.PageMove.{PageMove}
 use Rattle.pg_plan.specs.declared.states.Side.{Side}
 use Rattle.pg_plan.specs.declared.states.Side.TheVariants.{L, R, S}
 use Rattle.pg_plan.specs.declared.states.State.{State}
-use Rattle.pg_flat.specs.Flat.{is_same_place}
+use Rattle.pg_list.specs.Flat.{is_same_place}
 use Rattle.pg_rules.specs.Room.{Document, ColumnContext}
-use Rattle.pg_flat.specs.Whole.{whole_sum_by}
+use Rattle.pg_list.specs.Whole.{whole_sum_by}
 use Rattle.pg_rules.specs.Floats.{called, float_numbers, floats_between}
 use Rattle.pg_rules.specs.History.{is_called, placed_after}
 use Rattle.pg_rules.specs.Legal.{added}
@@ -29,7 +29,7 @@ use Rattle.law_columns.proofs.Waiting.{IsBetween, between_at}
 use Rattle.pg_lemmas.proofs.Bools.{both_of, both}
 use Rattle.std.proofs.lemmas.Bool.{eqb-true, leb-true, le-leb}
 use Rattle.pg_lemmas.proofs.Numbers.{eq_refl, less_of, less_true}
-use Rattle.pg_flat.proofs.Places.{same_place}
+use Rattle.pg_list.proofs.Places.{same_place}
 
 -- ---- the tests on keys
 

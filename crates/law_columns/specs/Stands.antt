@@ -1,7 +1,7 @@
 -- Columns of which each may stand after those before it.
 use Rattle.std.specs.Prelude.{◌≡◌, true, List, [], ◌∷◌}
 use Rattle.pg_plan.specs.declared.pages.PageMove.{PageMove}
-use Rattle.pg_flat.specs.Flat.{is_same_place}
+use Rattle.pg_list.specs.Flat.{is_same_place}
 use Rattle.pg_rules.specs.Follow.{MayStand}
 use Rattle.pg_rules.specs.History.{next_column, next_run, place_of, placed_of, context}
 use Rattle.pg_rules.specs.Legal.{is_near}

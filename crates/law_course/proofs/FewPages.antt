@@ -16,7 +16,7 @@ use Rattle.pg_plan.specs.declared.pages.PageMove.{PageMove}
 use Rattle.pg_plan.specs.declared.pages.Pagination.{Pagination}
 use Rattle.pg_plan.specs.declared.states.State.{State}
 use Rattle.pg_style.specs.Values.{StyleValue}
-use Rattle.pg_flat.specs.Flat.{flat, items_before}
+use Rattle.pg_list.specs.Flat.{flat, items_before}
 use Rattle.pg_rules.specs.Cost.{cost}
 use Rattle.pg_rules.specs.Floats.{called, entry, float_numbers, sizes_of, slots, total_count}
 use Rattle.pg_rules.specs.History.{next_column}

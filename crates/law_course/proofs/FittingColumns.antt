@@ -7,7 +7,7 @@ use Rattle.pg_lemmas.proofs.Bools.{both_of}
 use Rattle.pg_lemmas.proofs.Lists.{all_append}
 use Rattle.pg_list.specs.GalleyValue.{GalleyValue}
 use Rattle.pg_list.specs.declared.blocks.Block.{Block}
-use Rattle.pg_flat.specs.Flat.{is_same_place}
+use Rattle.pg_list.specs.Flat.{is_same_place}
 use Rattle.pg_plan.specs.Order.{columns, columns_of, no_floats, page_moves}
 use Rattle.pg_plan.specs.declared.pages.Column.{Column}
 use Rattle.pg_plan.specs.declared.pages.Page.{Page}

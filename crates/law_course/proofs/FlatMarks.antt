@@ -21,8 +21,8 @@ use Rattle.pg_plan.specs.declared.pages.PageMove.{PageMove}
 use Rattle.pg_plan.specs.declared.pages.Pagination.{Pagination}
 use Rattle.pg_plan.specs.Order.{columns, columns_of, no_floats, page_moves}
 use Rattle.pg_style.specs.Values.{StyleValue}
-use Rattle.pg_flat.specs.Flat.{flat_items_at, steps_to}
-use Rattle.pg_flat.specs.Totals.{trimmed}
+use Rattle.pg_list.specs.Flat.{flat_items_at, steps_to}
+use Rattle.pg_list.specs.Totals.{trimmed}
 use Rattle.pg_breaks.specs.Read.{items_at}
 use Rattle.pg_rules.specs.Legal.{document}
 use Rattle.pg_rules.specs.Room.{Document}

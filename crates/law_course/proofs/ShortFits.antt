@@ -10,8 +10,8 @@ use Rattle.pg_list.specs.declared.blocks.Block.{Block}
 use Rattle.pg_list.specs.declared.blocks.Block.TheVariants.{One, Choice}
 use Rattle.pg_list.specs.declared.item.Item.{Item}
 use Rattle.pg_list.proofs.Sizes.{picked_le}
-use Rattle.pg_flat.specs.Break.{is_spent}
-use Rattle.pg_flat.specs.Flat.{FlatItem, flat, flat_items_from, variant_flat_items}
+use Rattle.pg_list.specs.Break.{is_spent}
+use Rattle.pg_list.specs.Flat.{FlatItem, flat, flat_items_from, variant_flat_items}
 use Rattle.pg_breaks.proofs.Walk.{variant_length}
 use Rattle.pg_plan.specs.Order.{columns_of}
 use Rattle.pg_plan.specs.declared.pages.Page.{Page}

@@ -3,7 +3,7 @@ use Rattle.std.proofs.Common.{◌≡◌, ◌∙◌, refl, ap, Bool, true, false,
 use Rattle.std.proofs.lemmas.Grind.{flat_map-append}
 use Rattle.std.specs.List.{flat_map}
 use Rattle.std.specs.Prelude.{if◌then◌else◌, take, ℤ, pos, ◌+ℤ◌}
-use Rattle.pg_flat.specs.Whole.{whole_sum_by}
+use Rattle.pg_list.specs.Whole.{whole_sum_by}
 use Rattle.pg_scan.specs.Parts.{after, first_part}
 use Rattle.pg_words.specs.InOrder.{words_of}
 use Rattle.pg_drawing.specs.Drawn.{area_name, area_of, areas_of, column_of, columns_of, drawn, ends_of, head_of, item_extent, items_of, mark_at, marks_from, numbers_of, page_head, page_of, pages_of}

@@ -6,9 +6,9 @@ use Rattle.std.proofs.lemmas.Int.{ints}
 use Rattle.pg_list.specs.GalleyValue.{GalleyValue}
 use Rattle.pg_list.specs.declared.item.Item.{Item}
 use Rattle.pg_style.specs.Values.{StyleValue}
-use Rattle.pg_flat.specs.Break.{is_spent}
-use Rattle.pg_flat.specs.Totals.{depth, full_size, shrink, top_glue, total}
-use Rattle.pg_flat.specs.Whole.{whole_sum, whole_sum_by}
+use Rattle.pg_list.specs.Break.{is_spent}
+use Rattle.pg_list.specs.Totals.{depth, full_size, shrink, top_glue, total}
+use Rattle.pg_list.specs.Whole.{whole_sum, whole_sum_by}
 use Rattle.pg_glue.specs.Widths.{amounts, changes, chosen, set_widths}
 use Rattle.pg_glue.specs.declared.Elastic.{Elastic}
 use Rattle.pg_glue.specs.declared.Sense.TheVariants.{Stretch, Shrink}

@@ -11,8 +11,8 @@ use Rattle.pg_lemmas.proofs.Lists.{reverse_cons}
 use Rattle.pg_list.specs.declared.item.Item.{Item}
 use Rattle.pg_list.specs.declared.item.Item.TheVariants as item
 use Rattle.pg_list.specs.Shapes.{is_box}
-use Rattle.pg_flat.specs.Totals.{depth, depth_of, full_size, has_size, top_glue, total}
-use Rattle.pg_flat.specs.Whole.{whole_sum_by}
+use Rattle.pg_list.specs.Totals.{depth, depth_of, full_size, has_size, top_glue, total}
+use Rattle.pg_list.specs.Whole.{whole_sum_by}
 use Rattle.pg_pages.specs.Printed.{box_on, front_of}
 use Rattle.pg_drawing.proofs.Limits.{total_adds_up}
 use Rattle.pg_drawing.specs.Totals.{adds_up, hanging, hanging_behind, natural_extent, with_items}

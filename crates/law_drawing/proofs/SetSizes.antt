@@ -6,8 +6,8 @@ use Rattle.pg_list.specs.declared.item.Item.{Item}
 use Rattle.pg_list.specs.declared.item.Item.TheVariants.{BoxItem, Rule, Glue, Kern, Penalty, Insert, Carry}
 use Rattle.pg_list.specs.declared.item.Order.{Order}
 use Rattle.pg_list.specs.declared.item.Order.TheVariants.{Finite}
-use Rattle.pg_flat.specs.Totals.{full_size}
-use Rattle.pg_flat.specs.Whole.{whole_sum, whole_sum_by}
+use Rattle.pg_list.specs.Totals.{full_size}
+use Rattle.pg_list.specs.Whole.{whole_sum, whole_sum_by}
 use Rattle.pg_glue.specs.Widths.{change, changes_from, widths_from}
 use Rattle.pg_glue.specs.declared.Elastic.{Elastic}
 use Rattle.pg_glue.specs.declared.Sense.TheVariants.{Stretch, Shrink}

@@ -9,7 +9,7 @@ use Rattle.pg_list.specs.declared.item.Item.{Item}
 use Rattle.pg_list.specs.declared.item.Item.TheVariants.{BoxItem, Rule, Glue, Kern, Penalty, Insert, Carry}
 use Rattle.pg_plan.specs.Order.{columns}
 use Rattle.pg_style.specs.Values.{StyleValue}
-use Rattle.pg_flat.specs.Flat.{flat}
+use Rattle.pg_list.specs.Flat.{flat}
 use Rattle.pg_rules.specs.Floats.{entry, float_numbers, floats, sizes_of}
 use Rattle.pg_rules.specs.History.{placed_of}
 use Rattle.pg_rules.specs.Legal.{document}

@@ -7,7 +7,7 @@ use Rattle.pg_list.specs.declared.item.Item.{Item}
 use Rattle.pg_list.specs.declared.item.Item.TheVariants.{BoxItem, Rule, Glue, Kern, Penalty, Insert, Carry}
 use Rattle.pg_list.specs.declared.item.Order.{Order}
 use Rattle.pg_list.specs.declared.item.Order.TheVariants.{Finite, Fil, Fill, Filll}
-use Rattle.pg_flat.specs.Totals.{is_same_order, shrink}
+use Rattle.pg_list.specs.Totals.{is_same_order, shrink}
 use Rattle.pg_glue.specs.Widths.{amounts, chosen}
 use Rattle.pg_pages.specs.SetGlue.{shrinking}
 

@@ -6,7 +6,7 @@ use Rattle.std.specs.Prelude.{codes, ℤ, pos, ◌≤ℤ◌, nat_abs}
 use Rattle.pg_scan.specs.Parts.{after}
 use Rattle.pg_lemmas.proofs.Lists.{all_drop, all_take}
 use Rattle.pg_list.specs.declared.item.Item.{Item}
-use Rattle.pg_flat.specs.Totals.{top_glue, total}
+use Rattle.pg_list.specs.Totals.{top_glue, total}
 use Rattle.pg_pages.specs.Bodies.{plain_text}
 use Rattle.pg_pages.specs.PageText.{items_text, set_items, top_line}
 use Rattle.pg_pages.specs.Printed.{box_on, front_of}

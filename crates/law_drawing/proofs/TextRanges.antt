@@ -8,10 +8,10 @@ use Rattle.std.specs.Option.{option_map_or}
 use Rattle.std.specs.Prelude.{◌==◌, ◌&&◌, not, if◌then◌else◌, Option, Some, None, ℤ, pos, negsuc, ◌+ℤ◌, ◌-ℤ◌, ◌*ℤ◌, int_lt, nat_abs}
 use Rattle.pg_column.proofs.Spans.{ahead_few}
 use Rattle.law_columns.proofs.StyleFacts.{find_all}
-use Rattle.pg_column_text.proofs.Steps.{map_length}
-use Rattle.pg_flat.specs.Break.{is_spent}
-use Rattle.pg_flat.specs.Totals.{height_of, is_same_order, top_glue}
-use Rattle.pg_flat.specs.Whole.{whole_sum_by}
+use Rattle.pg_column.proofs.Steps.{map_length}
+use Rattle.pg_list.specs.Break.{is_spent}
+use Rattle.pg_list.specs.Totals.{height_of, is_same_order, top_glue}
+use Rattle.pg_list.specs.Whole.{whole_sum_by}
 use Rattle.pg_glue.proofs.Small.{IsEntry}
 use Rattle.pg_glue.specs.Widths.{amount_of, amounts, chosen, floor_by, set_width, set_widths, share, widths_from}
 use Rattle.pg_glue.specs.declared.Elastic.{Elastic}

@@ -3,8 +3,8 @@ use Rattle.std.specs.Prelude.{◌≡◌, ℕ, false, List, [], ◌∷◌, ℤ, p
 use Rattle.std.specs.List.{flat_map}
 use Rattle.pg_list.specs.declared.item.Item.{Item}
 use Rattle.pg_list.specs.declared.item.Item.TheVariants.{Glue}
-use Rattle.pg_flat.specs.Break.{is_spent}
-use Rattle.pg_flat.specs.Totals.{depth, full_size, top_glue}
+use Rattle.pg_list.specs.Break.{is_spent}
+use Rattle.pg_list.specs.Totals.{depth, full_size, top_glue}
 use Rattle.pg_glue.specs.Widths.{amounts, chosen}
 use Rattle.pg_rules.specs.ColumnRules.{segment, text_goal, text_total}
 use Rattle.pg_rules.specs.Room.{ColumnContext, items_of}

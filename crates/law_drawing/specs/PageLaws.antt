@@ -5,7 +5,7 @@ use Rattle.pg_plan.specs.Order.{columns}
 use Rattle.pg_plan.specs.declared.pages.PageMove.{PageMove}
 use Rattle.pg_plan.specs.declared.pages.Pagination.{Pagination}
 use Rattle.pg_style.specs.Values.{StyleValue}
-use Rattle.pg_flat.specs.Flat.{flat}
+use Rattle.pg_list.specs.Flat.{flat}
 use Rattle.pg_rules.specs.Floats.{float_numbers}
 use Rattle.pg_rules.specs.History.{context}
 use Rattle.pg_rules.specs.Legal.{Legal, document}

@@ -11,8 +11,8 @@ use Rattle.pg_list.specs.declared.blocks.Block.TheVariants.{One, Choice}
 use Rattle.pg_list.specs.declared.item.Item.{Item}
 use Rattle.pg_list.specs.declared.item.Item.TheVariants.{BoxItem, Rule, Glue, Kern, Penalty, Insert, Carry}
 use Rattle.pg_list.specs.declared.variants.Variant.{Variant}
-use Rattle.pg_flat.specs.Break.{is_glue}
-use Rattle.pg_flat.specs.Flat.{FlatItem, flat_items_from, later_flat_items, variant_flat_items}
+use Rattle.pg_list.specs.Break.{is_glue}
+use Rattle.pg_list.specs.Flat.{FlatItem, flat_items_from, later_flat_items, variant_flat_items}
 use Rattle.law_places.proofs.Alike.{item_of}
 use Rattle.pg_lemmas.proofs.Bools.{or_left}
 use Rattle.pg_lemmas.proofs.Lists.{all_drop, all_take}

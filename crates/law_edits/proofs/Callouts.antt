@@ -11,7 +11,7 @@ use Rattle.pg_list.specs.declared.galley.Place.{Place}
 use Rattle.pg_list.specs.declared.item.Item.{Item}
 use Rattle.pg_plan.specs.declared.pages.PageMove.{PageMove}
 use Rattle.pg_style.specs.Values.{StyleValue}
-use Rattle.pg_flat.specs.Flat.{flat, items_before}
+use Rattle.pg_list.specs.Flat.{flat, items_before}
 use Rattle.pg_rules.specs.Floats.{called, entry, float_numbers, floats, has_all, has_all_from, plus_counts, sizes_of}
 use Rattle.pg_rules.specs.History.{is_called, placed_after, with_wide}
 use Rattle.pg_rules.specs.Legal.{added, has_callouts}

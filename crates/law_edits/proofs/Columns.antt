@@ -7,8 +7,8 @@ use Rattle.pg_list.specs.declared.blocks.Block.{Block}
 use Rattle.pg_list.specs.declared.item.Item.{Item}
 use Rattle.pg_plan.specs.declared.pages.Column.{Column}
 use Rattle.pg_style.specs.Values.{StyleValue}
-use Rattle.pg_flat.specs.Break.{break_penalty, is_forced, is_spent, passes_between}
-use Rattle.pg_flat.specs.Flat.{flat_items_at, fronts}
+use Rattle.pg_list.specs.Break.{break_penalty, is_forced, is_spent, passes_between}
+use Rattle.pg_list.specs.Flat.{flat_items_at, fronts}
 use Rattle.pg_rules.specs.ColumnRules.{column_variants, does_fit}
 use Rattle.pg_rules.specs.Floats.{floats, has_all, plus_counts}
 use Rattle.pg_rules.specs.Room.{ColumnContext, bottom_height, flat_items_of, full_height, is_bottom_allowed, is_top_allowed, items_of, size_of, top_height, wide_height}

@@ -6,7 +6,7 @@ use Rattle.std.proofs.lemmas.List.{drop-append-le, map-append, take-append-le}
 use Rattle.std.proofs.lemmas.List.Elements.{filter_map-append}
 use Rattle.pg_list.specs.declared.blocks.Block.{Block}
 use Rattle.pg_style.specs.Values.{StyleValue, AreaRuleValue}
-use Rattle.pg_flat.specs.Flat.{FlatItem, flat, flat_items_from}
+use Rattle.pg_list.specs.Flat.{FlatItem, flat, flat_items_from}
 use Rattle.pg_rules.specs.Floats.{area_height, dealt, dealt_from, entry, float_numbers, floats, has_all, has_all_from, insert_size, sizes_of}
 use Rattle.pg_rules.specs.Room.{checked_height}
 use Rattle.law_places.proofs.Alike.{item_of}

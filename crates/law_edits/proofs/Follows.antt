@@ -10,7 +10,7 @@ use Rattle.pg_plan.specs.declared.pages.Column.{Column}
 use Rattle.pg_plan.specs.declared.pages.PageMove.{PageMove}
 use Rattle.pg_plan.specs.declared.states.State.{State}
 use Rattle.pg_style.specs.Values.{StyleValue}
-use Rattle.pg_flat.proofs.Places.{same_place}
+use Rattle.pg_list.proofs.Places.{same_place}
 use Rattle.pg_rules.specs.BestPicks.{IsLeast, keeps_text, text_cost, with_picks}
 use Rattle.pg_rules.specs.ColumnRules.{does_fit}
 use Rattle.pg_rules.specs.Cost.{column_cost}

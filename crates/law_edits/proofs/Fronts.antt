@@ -10,8 +10,8 @@ use Rattle.pg_list.specs.declared.blocks.Block.TheVariants.{One, Choice}
 use Rattle.pg_list.specs.declared.galley.Place.{Place}
 use Rattle.pg_list.specs.declared.item.Item.{Item}
 use Rattle.pg_list.specs.declared.variants.Variant.{Variant}
-use Rattle.pg_flat.specs.Flat.{FlatItem, blocks_at, flat_items_at, flat_items_from, later_flat_items, picked_variants, variant_flat_items}
-use Rattle.pg_flat.proofs.Places.{picked_few}
+use Rattle.pg_list.specs.Flat.{FlatItem, blocks_at, flat_items_at, flat_items_from, later_flat_items, picked_variants, variant_flat_items}
+use Rattle.pg_list.proofs.Places.{picked_few}
 use Rattle.pg_lemmas.proofs.Lists.{all_append, all_drop, no_items}
 use Rattle.law_space.proofs.Picks.{named}
 use Rattle.pg_column.proofs.Picks.{none_picked}

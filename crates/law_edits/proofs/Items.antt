@@ -8,7 +8,7 @@ use Rattle.std.proofs.lemmas.List.Folds.{list_any-append}
 use Rattle.pg_list.specs.Shapes.{is_box, is_discardable}
 use Rattle.pg_list.specs.declared.item.Item.{Item}
 use Rattle.pg_list.specs.declared.item.Item.TheVariants.{BoxItem, Rule, Glue, Kern, Penalty, Insert, Carry}
-use Rattle.pg_flat.specs.Break.{break_penalty, follows_solid, has_at, is_forced, is_forcing, is_glue, is_spent, item_break, passes_between}
+use Rattle.pg_list.specs.Break.{break_penalty, follows_solid, has_at, is_forced, is_forcing, is_glue, is_spent, item_break, passes_between}
 use Rattle.pg_lemmas.proofs.Bools.{both_ways, if_false, or_right}
 use Rattle.pg_lemmas.proofs.Lists.{some_at}
 use Rattle.pg_lemmas.proofs.Numbers.{eq_no}

@@ -10,10 +10,10 @@ use Rattle.pg_list.specs.declared.blocks.Block.{Block}
 use Rattle.pg_list.specs.declared.galley.Place.{Place}
 use Rattle.pg_list.specs.declared.item.Item.{Item}
 use Rattle.pg_style.specs.Values.{StyleValue}
-use Rattle.pg_flat.specs.Badness.{is_over}
-use Rattle.pg_flat.specs.Break.{passes_between}
-use Rattle.pg_flat.specs.Flat.{FlatItem, blocks_at, flat_items_at, flat_items_from, fronts, picked_variants}
-use Rattle.pg_flat.specs.Totals.{trimmed, total, shrink}
+use Rattle.pg_list.specs.Badness.{is_over}
+use Rattle.pg_list.specs.Break.{passes_between}
+use Rattle.pg_list.specs.Flat.{FlatItem, blocks_at, flat_items_at, flat_items_from, fronts, picked_variants}
+use Rattle.pg_list.specs.Totals.{trimmed, total, shrink}
 use Rattle.pg_rules.specs.Reach.{IsReach, Reaches, greatest_extra, is_over_at_most}
 use Rattle.pg_rules.specs.Room.{Document}
 use Rattle.pg_table.specs.Below.{SameBelow}

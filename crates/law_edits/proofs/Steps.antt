@@ -9,9 +9,9 @@ use Rattle.pg_list.specs.Shapes.{IsBlock, is_box}
 use Rattle.pg_list.specs.declared.blocks.Block.{Block}
 use Rattle.pg_list.specs.declared.galley.Place.{Place}
 use Rattle.pg_list.specs.declared.item.Item.{Item}
-use Rattle.pg_flat.specs.Break.{is_glue}
-use Rattle.pg_flat.specs.Flat.{FlatItem, blocks_at, end_of, flat_items_at, flat_items_from, fronts, is_same_place, picked_variants, steps_to}
-use Rattle.pg_flat.proofs.Places.{same_place}
+use Rattle.pg_list.specs.Break.{is_glue}
+use Rattle.pg_list.specs.Flat.{FlatItem, blocks_at, end_of, flat_items_at, flat_items_from, fronts, is_same_place, picked_variants, steps_to}
+use Rattle.pg_list.proofs.Places.{same_place}
 use Rattle.law_places.proofs.Alike.{item_of}
 use Rattle.pg_lemmas.proofs.Bools.{by_bool, if_false, if_true}
 use Rattle.pg_lemmas.proofs.Lists.{all_drop}

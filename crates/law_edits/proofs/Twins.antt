@@ -9,10 +9,10 @@ use Rattle.pg_list.specs.declared.variants.Variant.{Variant}
 use Rattle.pg_list.specs.Shapes.{is_box}
 use Rattle.pg_plan.specs.declared.pages.Column.{Column}
 use Rattle.pg_style.specs.Values.{StyleValue}
-use Rattle.pg_flat.specs.Badness.{is_over, page_badness}
-use Rattle.pg_flat.specs.Break.{break_penalty, is_forced, is_spent, passes_between}
-use Rattle.pg_flat.specs.Totals.{trimmed, total, shrink}
-use Rattle.pg_flat.specs.Whole.{square, whole_sum_by}
+use Rattle.pg_list.specs.Badness.{is_over, page_badness}
+use Rattle.pg_list.specs.Break.{break_penalty, is_forced, is_spent, passes_between}
+use Rattle.pg_list.specs.Totals.{trimmed, total, shrink}
+use Rattle.pg_list.specs.Whole.{square, whole_sum_by}
 use Rattle.pg_rules.specs.ColumnRules.{column_variants, does_fit, fitness_by, has_room, is_idle, is_tolerable, is_well_formed, keeps_looseness, keeps_note_limits, passes_breaks, segment, text_badness, text_fitness, text_goal, text_is_over, text_total}
 use Rattle.pg_rules.specs.Cost.{column_cost, column_demerits, differs, fitness_demerits, float_demerits, penalty_demerits, pick_demerits, run_demerits, text_demerits}
 use Rattle.pg_rules.specs.Floats.{float_count}

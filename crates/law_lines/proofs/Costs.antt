@@ -7,10 +7,10 @@ use Rattle.std.proofs.lemmas.Int.{ints}
 use Rattle.pg_list.specs.declared.item.Item.{Item}
 use Rattle.pg_list.specs.declared.item.Item.TheVariants.{BoxItem, Rule, Glue, Kern, Penalty, Insert, Carry}
 use Rattle.pg_list.specs.declared.item.Order.TheVariants.{Finite}
-use Rattle.pg_flat.specs.Badness.{badness, cubed, ratio, has_infinite, page_badness}
-use Rattle.pg_flat.specs.Break.{break_penalty, item_break, follows_solid, has_at, is_glue}
-use Rattle.pg_flat.specs.Totals.{stretch, shrink}
-use Rattle.pg_flat.specs.Whole.{square}
+use Rattle.pg_list.specs.Badness.{badness, cubed, ratio, has_infinite, page_badness}
+use Rattle.pg_list.specs.Break.{break_penalty, item_break, follows_solid, has_at, is_glue}
+use Rattle.pg_list.specs.Totals.{stretch, shrink}
+use Rattle.pg_list.specs.Whole.{square}
 use Rattle.pg_hlist.specs.declared.item.HItem.{HItem}
 use Rattle.pg_hlist.specs.Items.{as_items}
 use Rattle.law_lines.specs.declared.rule.LineRule.{LineRule}

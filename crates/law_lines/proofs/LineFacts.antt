@@ -6,7 +6,7 @@ use Rattle.std.specs.Option.{option_map_or}
 use Rattle.std.proofs.lemmas.List.{length-drop, length-take, length-map}
 use Rattle.std.proofs.lemmas.Option.{slice_get_within}
 use Rattle.pg_list.specs.declared.item.Item.{Item}
-use Rattle.pg_flat.specs.Break.{break_penalty, item_break}
+use Rattle.pg_list.specs.Break.{break_penalty, item_break}
 use Rattle.pg_hlist.specs.declared.item.HItem.{HItem}
 use Rattle.pg_hlist.specs.Items.{as_item, as_items}
 use Rattle.law_lines.specs.declared.rule.LineRule.{LineRule}

@@ -3,10 +3,10 @@ use Rattle.std.specs.Prelude.{ℕ, ◌+◌, ◌-◌, Bool, ◌&&◌, ◌||◌, f
 use Rattle.std.specs.List.{list_all, list_any, range_with_len}
 use Rattle.std.specs.Option.{option_map_or}
 use Rattle.pg_list.specs.Shapes.{is_box}
-use Rattle.pg_flat.specs.Badness.{is_over, page_badness}
-use Rattle.pg_flat.specs.Break.{break_penalty, is_forced}
-use Rattle.pg_flat.specs.Totals.{shrink}
-use Rattle.pg_flat.specs.Whole.{square, whole_sum_by}
+use Rattle.pg_list.specs.Badness.{is_over, page_badness}
+use Rattle.pg_list.specs.Break.{break_penalty, is_forced}
+use Rattle.pg_list.specs.Totals.{shrink}
+use Rattle.pg_list.specs.Whole.{square, whole_sum_by}
 use Rattle.pg_hlist.specs.declared.item.HItem.{HItem}
 use Rattle.pg_hlist.specs.Items.{as_item, as_items, width_of}
 use Rattle.law_lines.specs.declared.rule.LineRule.{LineRule}

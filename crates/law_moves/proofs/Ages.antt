@@ -7,7 +7,7 @@ use Rattle.std.proofs.lemmas.List.{map-append}
 use Rattle.pg_list.specs.declared.galley.Place.{Place}
 use Rattle.pg_plan.specs.declared.pages.PageMove.{PageMove}
 use Rattle.pg_plan.specs.declared.states.State.{State}
-use Rattle.pg_flat.specs.Whole.{whole_sum_by}
+use Rattle.pg_list.specs.Whole.{whole_sum_by}
 use Rattle.pg_rules.specs.Cost.{float_demerits}
 use Rattle.pg_rules.specs.Floats.{called, distance_table, entry, float_numbers, floats_between, numbered, slots}
 use Rattle.pg_rules.specs.Follow.{age_among, age_in, is_same_float, may_turn, next_state, turns, waiting_in}
@@ -23,7 +23,7 @@ use Rattle.std.proofs.lemmas.Bool.{eqb-true, leb-true}
 use Rattle.law_columns.proofs.Waiting.{placed_more, slot_below, slotted}
 use Rattle.pg_floats.specs.History.{ages_of}
 use Rattle.law_moves.specs.Ages.{ages_left, float_cost, line_of, may_wait, waits_of}
-use Rattle.pg_areas.proofs.Ranges.{all_append_is}
+use Rattle.pg_floats.proofs.Ranges.{all_append_is}
 use Rattle.law_columns.proofs.BoundCounts.{entry_beyond}
 use Rattle.law_moves.proofs.Callouts.{callouts_bound}
 use Rattle.law_places.proofs.Members.{below_in}

@@ -10,7 +10,7 @@ use Rattle.pg_list.specs.declared.galley.Place.{Place}
 use Rattle.pg_plan.specs.declared.pages.PageMove.{PageMove}
 use Rattle.pg_plan.specs.declared.states.State.{State}
 use Rattle.pg_style.specs.Ranges.{IsStyle}
-use Rattle.pg_flat.specs.Flat.{end_of, flat, is_same_place, items_before}
+use Rattle.pg_list.specs.Flat.{end_of, flat, is_same_place, items_before}
 use Rattle.pg_rules.specs.Floats.{called, entry, float_numbers, sizes_of}
 use Rattle.pg_rules.specs.Follow.{Follow, context_in}
 use Rattle.pg_rules.specs.IsState.{IsPlace, IsState}
@@ -22,7 +22,7 @@ use Rattle.law_places.proofs.Measures.{called_grows, place_within}
 use Rattle.law_places.proofs.Places.{around_is, begins, none_around}
 use Rattle.law_places.proofs.Tests.{place_refl}
 use Rattle.pg_lemmas.proofs.Numbers.{less_true, not_less}
-use Rattle.pg_flat.proofs.Places.{same_place}
+use Rattle.pg_list.proofs.Places.{same_place}
 use Rattle.law_space.specs.ReachAt.{reach_at}
 use Rattle.law_space.proofs.Next.{next_low}
 use Rattle.law_moves.specs.Listed.{beyond}

@@ -4,7 +4,7 @@ use Rattle.std.specs.Prelude.{◌&&◌, nat_lt, slice_index, ℤ, pos, ◌+ℤ�
 use Rattle.std.specs.List.{flat_map, list_all, range_with_len}
 use Rattle.pg_list.specs.declared.galley.Place.{Place}
 use Rattle.pg_plan.specs.declared.states.State.{State}
-use Rattle.pg_flat.specs.Whole.{whole_sum_by}
+use Rattle.pg_list.specs.Whole.{whole_sum_by}
 use Rattle.pg_rules.specs.Floats.{distance_table, entry, float_numbers, slots}
 use Rattle.pg_rules.specs.Room.{Document}
 use Rattle.law_moves.specs.Ages.{ages_left, float_cost, line_of, may_wait}

@@ -7,7 +7,7 @@ use Rattle.pg_list.specs.Shapes.{IsBlock}
 use Rattle.pg_plan.specs.declared.pages.PageMove.{PageMove}
 use Rattle.pg_plan.specs.declared.states.Side.{Side}
 use Rattle.pg_plan.specs.declared.states.State.{State}
-use Rattle.pg_flat.specs.Flat.{is_same_place}
+use Rattle.pg_list.specs.Flat.{is_same_place}
 use Rattle.pg_rules.specs.ColumnRules.{does_fit, has_room}
 use Rattle.pg_rules.specs.Cost.{run_demerits}
 use Rattle.pg_rules.specs.Floats.{called, entry, float_count, float_numbers, floats, plus_counts, slots, total_count}
@@ -25,8 +25,8 @@ use Rattle.pg_lemmas.proofs.Numbers.{less_true, not_less}
 use Rattle.std.proofs.lemmas.Bool.{le-leb, leb-true}
 use Rattle.law_columns.proofs.Waiting.{slot_below}
 use Rattle.law_space.specs.PageSpace.{page_meaning}
-use Rattle.pg_ends.specs.declared.end.End.{End}
-use Rattle.pg_ends.specs.Ends.{AreEnds, IsEndOf}
+use Rattle.pg_column.specs.declared.end.End.{End}
+use Rattle.pg_column.specs.Ends.{AreEnds, IsEndOf}
 use Rattle.law_moves.specs.Ages.{ages_left, may_wait}
 use Rattle.pg_layouts.specs.declared.layout.Layout.{Layout}
 use Rattle.pg_layouts.specs.Layouts.{float_layouts, text_layouts}

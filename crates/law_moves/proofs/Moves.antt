@@ -15,8 +15,8 @@ use Rattle.pg_plan.specs.declared.states.State.{State}
 use Rattle.pg_plan.specs.Order.{place_cmp}
 use Rattle.pg_style.specs.Values.{AreaRuleValue}
 use Rattle.pg_style.specs.declared.style.Run.{Run}
-use Rattle.pg_flat.specs.Flat.{flat, fronts, is_same_place, items_before}
-use Rattle.pg_flat.specs.Whole.{whole_sum_by}
+use Rattle.pg_list.specs.Flat.{flat, fronts, is_same_place, items_before}
+use Rattle.pg_list.specs.Whole.{whole_sum_by}
 use Rattle.pg_rules.specs.BestPicks.{keeps_text}
 use Rattle.pg_rules.specs.ColumnRules.{column_variants, does_fit, has_counts, has_room, is_tolerable, is_well_formed, keeps_looseness, keeps_note_limits, passes_breaks, text_fitness}
 use Rattle.pg_rules.specs.Cost.{column_cost, column_demerits, differs, fitness_demerits, pick_demerits, text_demerits}
@@ -32,7 +32,7 @@ use Rattle.law_places.proofs.Among.{Among, among_left, among_right}
 use Rattle.pg_lemmas.proofs.Bools.{both, both_of, by_bool, if_false, if_true, not_false, not_true}
 use Rattle.law_places.proofs.Callouts.{called_total}
 use Rattle.law_places.proofs.Tests.{place_refl}
-use Rattle.pg_flat.proofs.Places.{same_place}
+use Rattle.pg_list.proofs.Places.{same_place}
 use Rattle.pg_lemmas.proofs.Lists.{no_items}
 use Rattle.pg_lemmas.proofs.Numbers.{eq_refl, less_of}
 use Rattle.std.proofs.lemmas.Bool.{eqb-true}
@@ -41,8 +41,8 @@ use Rattle.law_columns.proofs.BoundCounts.{float_total}
 use Rattle.law_columns.proofs.Order.{place_total}
 use Rattle.law_space.specs.PageSpace.{FollowBest, page_meaning}
 use Rattle.law_space.proofs.Least.{best_unique}
-use Rattle.pg_ends.specs.declared.end.End.{End}
-use Rattle.pg_ends.specs.Ends.{AreEnds, HasEnd, IsBefore, IsColumnIn, IsEndOf}
+use Rattle.pg_column.specs.declared.end.End.{End}
+use Rattle.pg_column.specs.Ends.{AreEnds, HasEnd, IsBefore, IsColumnIn, IsEndOf}
 use Rattle.pg_layouts.specs.declared.layout.Layout.{Layout}
 use Rattle.pg_layouts.specs.Layouts.{float_layouts, layout_of, move_of, takes_run, text_layouts, zeros}
 use Rattle.law_moves.specs.Steps.{IsCeiling, area_of, fitness_cost, float_counts, float_step, float_steps, kept_fitness, may_end, may_stay, move_to, page_cost, stay, steps_of, steps_with, text_room, text_step, text_steps, wide_of}

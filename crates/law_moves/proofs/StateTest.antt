@@ -9,7 +9,7 @@ use Rattle.pg_list.specs.declared.galley.Place.{Place}
 use Rattle.pg_list.specs.Places.{items_around}
 use Rattle.pg_plan.specs.declared.states.State.{State}
 use Rattle.pg_style.specs.declared.style.Run.{Run}
-use Rattle.pg_flat.specs.Flat.{end_of, is_same_place}
+use Rattle.pg_list.specs.Flat.{end_of, is_same_place}
 use Rattle.pg_rules.specs.Floats.{called, distance_table, entry, float_numbers, numbered, total_count}
 use Rattle.pg_rules.specs.Follow.{waiting_in}
 use Rattle.pg_rules.specs.IsState.{IsPlace, IsState, are_young, has_side, not_first}

@@ -3,7 +3,7 @@ use Rattle.std.specs.Prelude.{ℕ, ◌+◌, ◌-◌, Bool, nat_lt, List, ◌++�
 use Rattle.std.specs.List.{flat_map, list_all}
 use Rattle.pg_list.specs.declared.galley.Place.{Place}
 use Rattle.pg_plan.specs.declared.states.State.{State}
-use Rattle.pg_flat.specs.Whole.{whole_sum_by}
+use Rattle.pg_list.specs.Whole.{whole_sum_by}
 use Rattle.pg_rules.specs.Floats.{called, distance_table, entry, slots}
 use Rattle.pg_rules.specs.Room.{Document}
 use Rattle.pg_floats.specs.History.{ages_of}

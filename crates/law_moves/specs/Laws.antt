@@ -9,8 +9,8 @@ use Rattle.pg_rules.specs.Legal.{document}
 use Rattle.pg_rules.specs.Room.{Document}
 use Rattle.law_space.specs.PageSpace.{page_meaning}
 use Rattle.pg_table.specs.Space.{AreMoves}
-use Rattle.pg_ends.specs.declared.end.End.{End}
-use Rattle.pg_ends.specs.Ends.{AreEnds}
+use Rattle.pg_column.specs.declared.end.End.{End}
+use Rattle.pg_column.specs.Ends.{AreEnds}
 use Rattle.pg_layouts.specs.declared.layout.Layout.{Layout}
 use Rattle.pg_layouts.specs.Layouts.{text_layouts}
 use Rattle.law_moves.specs.Listed.{beyond, listed_steps}

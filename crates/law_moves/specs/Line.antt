@@ -4,7 +4,7 @@ use Rattle.std.specs.List.{flat_map, list_all}
 use Rattle.pg_list.specs.declared.galley.Place.{Place}
 use Rattle.pg_plan.specs.declared.states.State.{State}
 use Rattle.pg_style.specs.Values.{StyleValue}
-use Rattle.pg_flat.specs.Whole.{whole_sum_by}
+use Rattle.pg_list.specs.Whole.{whole_sum_by}
 use Rattle.pg_rules.specs.Floats.{entry, slots}
 use Rattle.pg_rules.specs.Room.{Document}
 use Rattle.law_moves.specs.Ages.{line_of}

@@ -6,13 +6,13 @@ use Rattle.pg_list.specs.Places.{place}
 use Rattle.pg_plan.specs.declared.pages.PageMove.{PageMove}
 use Rattle.pg_plan.specs.declared.states.State.{State}
 use Rattle.pg_style.specs.Values.{StyleValue}
-use Rattle.pg_flat.specs.Flat.{is_same_place}
+use Rattle.pg_list.specs.Flat.{is_same_place}
 use Rattle.pg_rules.specs.Cost.{run_demerits}
 use Rattle.pg_rules.specs.Floats.{called, entry, plus_counts, slots, total_count}
 use Rattle.pg_rules.specs.Follow.{fills_page, keeps_run, other_side, turns}
 use Rattle.pg_rules.specs.Room.{Document, extra}
 use Rattle.pg_table.specs.declared.step.Step.{Step}
-use Rattle.pg_ends.specs.declared.end.End.{End}
+use Rattle.pg_column.specs.declared.end.End.{End}
 use Rattle.law_space.specs.ReachAt.{reach_at}
 use Rattle.law_moves.specs.Ages.{ages_left, float_cost, may_wait}
 use Rattle.pg_layouts.specs.declared.layout.Layout.{Layout}

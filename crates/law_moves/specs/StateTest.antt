@@ -7,7 +7,7 @@ use Rattle.pg_list.specs.declared.galley.Place.{Place}
 use Rattle.pg_list.specs.Places.{items_around}
 use Rattle.pg_plan.specs.declared.states.Side.TheVariants.{R}
 use Rattle.pg_plan.specs.declared.states.State.{State}
-use Rattle.pg_flat.specs.Flat.{end_of, is_same_place}
+use Rattle.pg_list.specs.Flat.{end_of, is_same_place}
 use Rattle.pg_rules.specs.Floats.{called, distance_table, entry, float_numbers, slots, total_count}
 use Rattle.pg_rules.specs.IsState.{has_side, not_first, not_some}
 use Rattle.pg_rules.specs.NoWorse.{is_same_side}

@@ -5,7 +5,7 @@ use Rattle.std.specs.Option.{option_map_or}
 use Rattle.pg_plan.specs.declared.pages.PageMove.{PageMove}
 use Rattle.pg_plan.specs.declared.states.State.{State}
 use Rattle.pg_style.specs.Values.{AreaRuleValue, StyleValue}
-use Rattle.pg_flat.specs.Flat.{is_same_place}
+use Rattle.pg_list.specs.Flat.{is_same_place}
 use Rattle.pg_rules.specs.ColumnRules.{has_room}
 use Rattle.pg_rules.specs.Cost.{differs, float_demerits, run_demerits}
 use Rattle.pg_rules.specs.Floats.{area_height, called, dealt, entry, float_numbers, floats, plus_counts, total_count}
@@ -13,7 +13,7 @@ use Rattle.pg_rules.specs.Follow.{Follow, age_in, context_in, may_turn, next_sta
 use Rattle.pg_rules.specs.Legal.{added, has_callouts}
 use Rattle.pg_rules.specs.Room.{Document, extra}
 use Rattle.pg_table.specs.declared.step.Step.{Step}
-use Rattle.pg_ends.specs.declared.end.End.{End}
+use Rattle.pg_column.specs.declared.end.End.{End}
 use Rattle.pg_layouts.specs.declared.layout.Layout.{Layout}
 use Rattle.pg_layouts.specs.Layouts.{float_layouts, move_of, text_layouts}
 

@@ -11,8 +11,8 @@ use Rattle.pg_list.specs.declared.galley.Place.{Place}
 use Rattle.pg_list.specs.declared.item.Item.{Item}
 use Rattle.pg_list.specs.declared.item.Item.TheVariants.{BoxItem, Rule, Glue, Kern, Penalty, Insert, Carry}
 use Rattle.pg_list.specs.declared.variants.Variant.{Variant}
-use Rattle.pg_flat.specs.Break.{break_penalty, follows_solid, has_at, is_forced, is_forcing, is_glue, item_break}
-use Rattle.pg_flat.specs.Flat.{FlatItem, blocks_at, flat_items_at, flat_items_from, later_flat_items, picked_variants, variant_flat_items}
+use Rattle.pg_list.specs.Break.{break_penalty, follows_solid, has_at, is_forced, is_forcing, is_glue, item_break}
+use Rattle.pg_list.specs.Flat.{FlatItem, blocks_at, flat_items_at, flat_items_from, later_flat_items, picked_variants, variant_flat_items}
 use Rattle.law_places.proofs.Places.{drop_head, pick_named}
 use Rattle.pg_lemmas.proofs.Lists.{all_drop}
 use Rattle.pg_lemmas.proofs.Bools.{if_false, if_true}

@@ -3,7 +3,7 @@ use Rattle.std.proofs.lemmas.Int.{ints}
 use Rattle.std.proofs.Common.{◌≡◌, refl, subst, ◌⊎◌, inl, inr, List, [], ◌∷◌, ◌++◌, map, Bool, true, ap, ◌∙◌, arith}
 use Rattle.std.specs.Prelude.{◌&&◌, ℤ, pos, ◌+ℤ◌}
 use Rattle.std.specs.List.{list_all}
-use Rattle.pg_flat.specs.Whole.{whole_sum_by}
+use Rattle.pg_list.specs.Whole.{whole_sum_by}
 use Rattle.pg_lemmas.proofs.Bools.{both_of, both}
 
 abbrev pub Among : {X : Type 0} → X → List X → Type 0

@@ -9,7 +9,7 @@ use Rattle.pg_list.specs.declared.galley.Place.{Place}
 use Rattle.pg_list.specs.Places.{place, items_around}
 use Rattle.pg_list.specs.Shapes.{IsBlock}
 use Rattle.pg_rules.specs.ColumnRules.{does_fit, column_variants}
-use Rattle.pg_flat.specs.Flat.{items_before, flat, fronts}
+use Rattle.pg_list.specs.Flat.{items_before, flat, fronts}
 use Rattle.pg_rules.specs.Floats.{sizes_of, entry}
 use Rattle.pg_rules.specs.Room.{Document, ColumnContext, flat_items_of, size_of}
 use Rattle.std.specs.Option.{option_map_or}

@@ -12,7 +12,7 @@ use Rattle.pg_list.specs.declared.blocks.Block.TheVariants.{One, Choice}
 use Rattle.pg_list.specs.declared.galley.Place.{Place}
 use Rattle.pg_list.specs.declared.item.Item.{Item}
 use Rattle.pg_list.specs.declared.variants.Variant.{Variant}
-use Rattle.pg_flat.specs.Flat.{FlatItem, blocks_at, end_of, flat_items_at, flat_items_from, is_same_place, items_before, later_flat_items, picked_variants, steps_to, variant_flat_items}
+use Rattle.pg_list.specs.Flat.{FlatItem, blocks_at, end_of, flat_items_at, flat_items_from, is_same_place, items_before, later_flat_items, picked_variants, steps_to, variant_flat_items}
 use Rattle.pg_rules.specs.IsState.{IsPlace}
 use Rattle.law_places.proofs.Alike.{item_of}
 use Rattle.law_places.proofs.Measures.{block_inserts, count_before, inserted, inserted_append, inserted_inserts}
@@ -20,7 +20,7 @@ use Rattle.law_places.proofs.Places.{around_block, around_is, begins, begins_wit
 use Rattle.law_places.proofs.Splits.{StandsAt, first_stands, next_stands, stands_at}
 use Rattle.std.proofs.Math.Seq.{take-length}
 use Rattle.pg_lemmas.proofs.Numbers.{suc_not}
-use Rattle.pg_flat.proofs.Places.{same_place}
+use Rattle.pg_list.proofs.Places.{same_place}
 use Rattle.pg_lemmas.proofs.Lists.{all_drop}
 use Rattle.pg_lemmas.proofs.Bools.{if_false, if_true}
 

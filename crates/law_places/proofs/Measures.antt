@@ -11,13 +11,13 @@ use Rattle.pg_list.specs.declared.galley.Place.{Place}
 use Rattle.pg_list.specs.Counts.{block_size, item_count}
 use Rattle.pg_list.specs.Places.{place, picked_items, items_around}
 use Rattle.pg_list.specs.Shapes.{IsBlock, HaveInserts, inserts}
-use Rattle.pg_flat.specs.Flat.{FlatItem, is_same_place, end_of, items_before, flat, flat_items_from}
+use Rattle.pg_list.specs.Flat.{FlatItem, is_same_place, end_of, items_before, flat, flat_items_from}
 use Rattle.pg_rules.specs.Floats.{sizes_of, insert_size}
 use Rattle.pg_rules.specs.IsState.{IsPlace}
 use Rattle.law_places.specs.Past.{IsPast, LaterIn, Past, far}
 use Rattle.law_places.proofs.Places.{around_block, around_is}
 use Rattle.std.proofs.lemmas.Option.{slice_get_within}
-use Rattle.pg_flat.specs.Flat.{later_flat_items, variant_flat_items}
+use Rattle.pg_list.specs.Flat.{later_flat_items, variant_flat_items}
 use Rattle.std.proofs.lemmas.List.{take-append-drop, map-append}
 use Rattle.std.proofs.lemmas.List.Elements.{filter_map-append}
 use Rattle.std.specs.List.{cons_option}
@@ -25,7 +25,7 @@ use Rattle.pg_list.specs.declared.item.Item.TheVariants.{BoxItem, Rule, Glue, Ke
 use Rattle.std.proofs.lemmas.Bool.Decides.{nat_tests}
 use Rattle.pg_lemmas.proofs.Bools.{by_bool, if_false, if_true}
 use Rattle.pg_list.proofs.Sizes.{picked_le}
-use Rattle.pg_flat.proofs.Places.{same_place}
+use Rattle.pg_list.proofs.Places.{same_place}
 
 pub count_more : (blocks : List Block) (n m : ℕ) (b : Block) → n < m → slice_get blocks n ≡ Some b →
     item_count (take n blocks) + block_size b ≤ item_count (take m blocks)

@@ -9,7 +9,7 @@ use Rattle.pg_list.specs.declared.blocks.Block.TheVariants.{One, Choice}
 use Rattle.pg_list.specs.declared.galley.Place.{Place}
 use Rattle.pg_list.specs.Places.{place, picked_items, items_around}
 use Rattle.pg_list.specs.Shapes.{IsBlock, IsChoice, IsVariant, BeginsWithBox}
-use Rattle.pg_flat.specs.Flat.{FlatItem, later_flat_items, variant_flat_items, flat_items_from, flat_items_at, steps_to, is_same_place, end_of, picked_variants, blocks_at}
+use Rattle.pg_list.specs.Flat.{FlatItem, later_flat_items, variant_flat_items, flat_items_from, flat_items_at, steps_to, is_same_place, end_of, picked_variants, blocks_at}
 use Rattle.std.specs.Option.{option_map_or}
 use Rattle.std.proofs.Common.{length-drop}
 use Rattle.std.proofs.lemmas.Option.{slice_get_within}
@@ -17,7 +17,7 @@ use Rattle.pg_rules.specs.IsState.{IsPlace}
 use Rattle.law_places.specs.Past.{IsPast}
 use Rattle.pg_lemmas.proofs.Bools.{by_bool, if_false, if_true}
 use Rattle.pg_lemmas.proofs.Numbers.{suc_not, less_true}
-use Rattle.pg_flat.proofs.Places.{same_place, picked_few}
+use Rattle.pg_list.proofs.Places.{same_place, picked_few}
 use Rattle.pg_lemmas.proofs.Lists.{all_drop}
 
 -- ---- the first place that passes

@@ -10,14 +10,14 @@ use Rattle.pg_list.specs.declared.blocks.Block.TheVariants.{One, Choice}
 use Rattle.pg_list.specs.declared.galley.Place.{Place}
 use Rattle.pg_list.specs.Places.{place, picked_items, items_around}
 use Rattle.pg_list.specs.Shapes.{IsBlock}
-use Rattle.pg_flat.specs.Flat.{FlatItem, later_flat_items, variant_flat_items, flat_items_from, flat_items_at, fronts, picked_variants, steps_to, is_same_place, end_of, blocks_at}
+use Rattle.pg_list.specs.Flat.{FlatItem, later_flat_items, variant_flat_items, flat_items_from, flat_items_at, fronts, picked_variants, steps_to, is_same_place, end_of, blocks_at}
 use Rattle.pg_rules.specs.IsState.{IsPlace}
 use Rattle.law_places.proofs.Places.{Found, around_block, around_is, begins, begins_with, drop_head, drop_later, found, pick_named}
 use Rattle.pg_lemmas.proofs.Bools.{by_bool, if_false, if_true}
 use Rattle.std.proofs.lemmas.Option.{same_Some}
 use Rattle.std.proofs.Math.Seq.{drop-length}
 use Rattle.pg_lemmas.proofs.Numbers.{suc_not}
-use Rattle.pg_flat.proofs.Places.{same_place, fronts_cons}
+use Rattle.pg_list.proofs.Places.{same_place, fronts_cons}
 use Rattle.pg_lemmas.proofs.Lists.{all_drop}
 
 module _ (all : List Block) where

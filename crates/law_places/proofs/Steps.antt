@@ -10,7 +10,7 @@ use Rattle.pg_list.specs.declared.blocks.Block.{Block}
 use Rattle.pg_list.specs.declared.blocks.Block.TheVariants.{One, Choice}
 use Rattle.pg_list.specs.declared.galley.Place.{Place}
 use Rattle.pg_list.specs.declared.item.Item.{Item}
-use Rattle.pg_flat.specs.Flat.{FlatItem, later_flat_items, variant_flat_items, flat_items_from, flat_items_at, steps_to, is_same_place, end_of, fronts}
+use Rattle.pg_list.specs.Flat.{FlatItem, later_flat_items, variant_flat_items, flat_items_from, flat_items_at, steps_to, is_same_place, end_of, fronts}
 use Rattle.pg_rules.specs.IsState.{IsPlace}
 use Rattle.law_places.specs.Past.{far}
 use Rattle.law_places.proofs.Measures.{count_more}
@@ -19,7 +19,7 @@ use Rattle.pg_lemmas.proofs.Bools.{by_bool, if_false, if_true}
 use Rattle.std.proofs.Math.Seq.{take-length}
 use Rattle.pg_lemmas.proofs.Numbers.{suc_not}
 use Rattle.pg_list.proofs.Sizes.{picked_le}
-use Rattle.pg_flat.proofs.Places.{same_place}
+use Rattle.pg_list.proofs.Places.{same_place}
 
 pub fronts_few : (xs : List FlatItem) (n : ℕ) → fronts xs n ≤ n
 fronts_few xs n =

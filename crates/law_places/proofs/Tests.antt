@@ -4,7 +4,7 @@ use Rattle.std.proofs.Common.{◌≡◌, sym, subst, ℕ, ◌≤◌, ◌<◌, tr
 use Rattle.std.specs.Prelude.{◌&&◌, ◌==◌, if◌then◌else◌, ℤ, ◌<ℤ◌, ◌≤ℤ◌, int_lt, int_le, T}
 use lib.Signed.{lt_z_yes, le_z_yes}
 use Rattle.pg_list.specs.declared.galley.Place.{Place}
-use Rattle.pg_flat.specs.Flat.{is_same_place}
+use Rattle.pg_list.specs.Flat.{is_same_place}
 use Rattle.pg_lemmas.proofs.Bools.{both, true_of}
 use Rattle.pg_lemmas.proofs.Numbers.{eq_refl}
 

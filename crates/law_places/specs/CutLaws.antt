@@ -2,7 +2,7 @@
 use Rattle.std.specs.Prelude.{◌≡◌, ℕ, List, ◌++◌, take}
 use Rattle.pg_list.specs.declared.blocks.Block.{Block}
 use Rattle.pg_list.specs.declared.galley.Place.{Place}
-use Rattle.pg_flat.specs.Flat.{flat_items_at}
+use Rattle.pg_list.specs.Flat.{flat_items_at}
 use Rattle.law_places.specs.PlaceLaws.{Lead}
 
 -- whatever picks come behind, the items from the first place on are the n ones, and then those from the other on

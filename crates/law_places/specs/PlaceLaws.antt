@@ -2,7 +2,7 @@
 use Rattle.std.specs.Prelude.{◌≡◌, ◌⊎◌, ℕ, ◌+◌, ◌≤◌, ◌<◌, List, [], length, Some}
 use Rattle.pg_list.specs.declared.blocks.Block.{Block}
 use Rattle.pg_list.specs.declared.galley.Place.{Place}
-use Rattle.pg_flat.specs.Flat.{blocks_at, flat, flat_items_at, fronts, items_before, picked_variants, steps_to}
+use Rattle.pg_list.specs.Flat.{blocks_at, flat, flat_items_at, fronts, items_before, picked_variants, steps_to}
 use Rattle.pg_rules.specs.Floats.{sizes_of}
 use Rattle.pg_rules.specs.IsState.{IsPlace}
 use Rattle.law_places.specs.Past.{IsPast, far}

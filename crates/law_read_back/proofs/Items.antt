@@ -15,9 +15,9 @@ use Rattle.pg_list.specs.declared.variants.Variant.{Variant}
 use Rattle.pg_list.specs.Places.{picked_items, items_around}
 use Rattle.pg_list.specs.Ranges.{IsItemInRange}
 use Rattle.pg_list.specs.Shapes.{IsBlock, is_box}
-use Rattle.pg_flat.specs.Flat.{FlatItem, variant_flat_items, later_flat_items, flat_items_from, flat_items_at}
-use Rattle.pg_flat.specs.Totals.{full_size, height_of, depth_of, has_size, top_glue, depth, total}
-use Rattle.pg_flat.specs.Whole.{whole_sum_by}
+use Rattle.pg_list.specs.Flat.{FlatItem, variant_flat_items, later_flat_items, flat_items_from, flat_items_at}
+use Rattle.pg_list.specs.Totals.{full_size, height_of, depth_of, has_size, top_glue, depth, total}
+use Rattle.pg_list.specs.Whole.{whole_sum_by}
 use Rattle.law_columns.proofs.Prices.{add_few}
 use Rattle.law_columns.proofs.StyleFacts.{find_all}
 use Rattle.law_read_back.proofs.Ranges.{all_drop}

@@ -6,7 +6,7 @@ use Rattle.std.specs.List.{AllByRecursion}
 use Rattle.std.specs.Option.{option_map_or}
 use Rattle.pg_lemmas.proofs.Bools.{both}
 use Rattle.pg_lemmas.proofs.Bools.{both_of}
-use Rattle.pg_flat.proofs.Places.{same_place}
+use Rattle.pg_list.proofs.Places.{same_place}
 use Rattle.pg_list.specs.declared.item.Item.{Item}
 use Rattle.pg_list.specs.declared.item.Item.TheVariants.{BoxItem, Rule, Glue, Kern, Penalty, Insert, Carry}
 use Rattle.pg_list.specs.Counts.{item_count, item_limit}
@@ -14,7 +14,7 @@ use Rattle.pg_list.specs.Ranges.{IsItemInRange}
 use Rattle.pg_list.specs.Shapes.{IsBlock}
 use Rattle.pg_plan.specs.declared.pages.PageMove.{PageMove}
 use Rattle.pg_style.specs.Ranges.{IsStyle}
-use Rattle.pg_flat.specs.Break.{break_penalty, item_break, follows_solid, has_at, is_glue, is_spent}
+use Rattle.pg_list.specs.Break.{break_penalty, item_break, follows_solid, has_at, is_glue, is_spent}
 use Rattle.pg_rules.specs.ColumnRules.{text_goal, text_total, text_badness, segment}
 use Rattle.pg_rules.specs.Cost.{text_demerits}
 use Rattle.pg_rules.specs.History.{next_column, next_run, place_of, context}
@@ -31,7 +31,7 @@ use Rattle.law_read_back.proofs.Ranges.{wide_few, top_few, bottom_few, run_few, 
 use Rattle.law_read_back.proofs.Places.{all_at, place_printed}
 use Rattle.law_read_back.proofs.Items.{at_all, all_take, trimmed_all, blocks_items, total_few}
 use Rattle.law_read_back.proofs.Rooms.{goal_few, wide_height_few}
-use Rattle.pg_column_text.proofs.Steps.{map_length}
+use Rattle.pg_column.proofs.Steps.{map_length}
 
 pub few_is_wide : (z : ℤ) → nat_abs z ≤ 2 ^ 126 → is_wide z ≡ true
 few_is_wide (pos n) h = by n h

@@ -7,8 +7,8 @@ use Rattle.std.proofs.lemmas.List.Sums.{sum_by-cons}
 use Rattle.pg_list.specs.declared.item.Item.{Item}
 use Rattle.pg_list.specs.Shapes.{IsBlock}
 use Rattle.pg_plan.specs.declared.states.State.{State}
-use Rattle.pg_flat.specs.Flat.{flat}
-use Rattle.pg_flat.specs.Flat.{items_before}
+use Rattle.pg_list.specs.Flat.{flat}
+use Rattle.pg_list.specs.Flat.{items_before}
 use Rattle.pg_rules.specs.Floats.{called, entry, float_numbers, sizes_of, slots}
 use Rattle.pg_rules.specs.IsState.{IsState}
 use Rattle.pg_rules.specs.Room.{Document}

@@ -5,7 +5,7 @@ use Rattle.std.specs.List.{flat_map, prefix_len, take_while, range_with_len}
 use Rattle.pg_list.specs.declared.item.Item.{Item}
 use Rattle.pg_list.specs.declared.item.Item.TheVariants as item
 use Rattle.pg_list.specs.Shapes.{is_box}
-use Rattle.pg_flat.specs.Totals.{top_glue}
+use Rattle.pg_list.specs.Totals.{top_glue}
 use Rattle.pg_scaled.specs.Scaled.{scaled_text}
 use Rattle.pg_style.specs.Values.{StyleValue}
 use Rattle.pg_rules.specs.Room.{Document}

@@ -12,7 +12,7 @@ use Rattle.pg_list.specs.Shapes.{IsBlock}
 use Rattle.pg_plan.specs.declared.pages.PageMove.{PageMove}
 use Rattle.pg_style.specs.Ranges.{IsStyle}
 use Rattle.pg_style.specs.Values.{StyleValue}
-use Rattle.pg_flat.specs.Flat.{picked_variants, blocks_at}
+use Rattle.pg_list.specs.Flat.{picked_variants, blocks_at}
 use Rattle.pg_style.specs.declared.style.Area.{Area}
 use Rattle.pg_rules.specs.Floats.{total_count, is_area_allowed, float_numbers, takes_top, takes_bottom, takes_wide, takes_in_column}
 use Rattle.pg_rules.specs.ColumnRules.{does_fit, column_variants}
@@ -21,7 +21,7 @@ use Rattle.pg_rules.specs.Room.{Document, ColumnContext, is_text, size_of, at_si
 use Rattle.law_columns.proofs.ColumnCounts.{total_cons}
 use Rattle.law_words.specs.Ranges.{AllBelow}
 pub use Rattle.pg_lemmas.proofs.Lists.{all_drop}
-use Rattle.pg_flat.proofs.Places.{picked_few}
+use Rattle.pg_list.proofs.Places.{picked_few}
 use Rattle.std.proofs.lemmas.Bool.{leb-true}
 
 -- ---- counts and runs

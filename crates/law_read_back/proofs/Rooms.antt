@@ -9,8 +9,8 @@ use Rattle.pg_list.specs.declared.item.Item.{Item}
 use Rattle.pg_list.specs.declared.item.Item.TheVariants.{BoxItem, Rule, Glue, Kern, Penalty, Insert, Carry}
 use Rattle.pg_style.specs.Ranges.{IsAreaRule}
 use Rattle.pg_style.specs.Values.{AreaRuleValue}
-use Rattle.pg_flat.specs.Flat.{flat, flat_items_from}
-use Rattle.pg_flat.specs.Whole.{whole_sum_by}
+use Rattle.pg_list.specs.Flat.{flat, flat_items_from}
+use Rattle.pg_list.specs.Whole.{whole_sum_by}
 use Rattle.pg_rules.specs.Floats.{entry, sizes_of, floats, float_numbers, float_count, total_count, dealt, has_all, area_height, is_area_allowed}
 use Rattle.pg_rules.specs.History.{made_wide}
 use Rattle.pg_rules.specs.Room.{Document, checked_height}
@@ -27,7 +27,7 @@ use Rattle.pg_style.specs.declared.style.Area.{Area}
 use Rattle.pg_style.specs.declared.style.Class.{Class}
 use Rattle.pg_style.specs.declared.style.Kind.{Kind}
 use Rattle.pg_style.specs.declared.style.Kind.TheVariants.{Note, Float}
-use Rattle.pg_flat.specs.Whole.{whole_sum}
+use Rattle.pg_list.specs.Whole.{whole_sum}
 use Rattle.pg_plan.specs.declared.pages.PageMove.{PageMove}
 use Rattle.pg_rules.specs.Floats.{takes_top, takes_bottom, takes_in_column}
 use Rattle.pg_rules.specs.ColumnRules.{segment, text_goal}

@@ -17,7 +17,7 @@ use Rattle.pg_plan.specs.declared.states.Side.TheVariants.{R}
 use Rattle.pg_plan.specs.declared.states.State.{State}
 use Rattle.pg_style.specs.declared.style.Run.{Run}
 use Rattle.pg_style.specs.Values.{StyleValue}
-use Rattle.pg_flat.specs.Flat.{blocks_at, end_of, flat, fronts, is_same_place, items_before}
+use Rattle.pg_list.specs.Flat.{blocks_at, end_of, flat, fronts, is_same_place, items_before}
 use Rattle.pg_rules.specs.ColumnRules.{column_variants}
 use Rattle.pg_style.specs.declared.style.Area.{Area}
 use Rattle.pg_rules.specs.Floats.{float_class, entry, called, sizes_of, float_numbers, slots, total_count}
@@ -49,7 +49,7 @@ use Rattle.std.proofs.lemmas.Bool.{eqb-true, leb-true}
 use Rattle.std.proofs.lemmas.Option.{slice_get_within}
 use Rattle.pg_lemmas.proofs.Numbers.{suc_not}
 use Rattle.pg_list.proofs.Sizes.{picked_le}
-use Rattle.pg_flat.proofs.Places.{same_place}
+use Rattle.pg_list.proofs.Places.{same_place}
 use Rattle.law_places.proofs.Sizes.{sizes_few}
 
 -- ---- how many floats there are

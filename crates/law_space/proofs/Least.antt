@@ -17,7 +17,7 @@ use Rattle.pg_list.specs.declared.variants.Variant.{Variant}
 use Rattle.pg_plan.specs.declared.pages.PageMove.{PageMove}
 use Rattle.pg_plan.specs.Order.{column_cmp, picks_cmp, place_cmp, counts_cmp}
 use Rattle.pg_plan.specs.declared.states.State.{State}
-use Rattle.pg_flat.specs.Flat.{picked_variants, blocks_at, fronts}
+use Rattle.pg_list.specs.Flat.{picked_variants, blocks_at, fronts}
 use Rattle.pg_rules.specs.ColumnRules.{does_fit, is_well_formed, is_tolerable, passes_breaks, has_room, keeps_note_limits, keeps_looseness, column_variants}
 use Rattle.pg_rules.specs.Cost.{column_cost, fitness_demerits, float_demerits, run_demerits, differs}
 use Rattle.pg_rules.specs.Follow.{Follow, KeepsColumnRules, context_in, next_state, age_in}
@@ -38,7 +38,7 @@ use Rattle.pg_lemmas.proofs.Bools.{both_of, both, by_bool}
 use Rattle.std.proofs.lemmas.Bool.{eqb-true}
 use Rattle.pg_lemmas.proofs.Numbers.{eq_refl}
 use Rattle.pg_lemmas.proofs.Orders.{not_gt_back}
-use Rattle.pg_flat.proofs.Places.{picked_few}
+use Rattle.pg_list.proofs.Places.{picked_few}
 use Rattle.pg_plan.proofs.OrderLaws.{picks_equal}
 
 -- ---- every list of picks that names variants

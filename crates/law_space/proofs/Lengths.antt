@@ -12,9 +12,9 @@ use Rattle.pg_style.specs.Values.{AreaRuleValue, StyleValue}
 use Rattle.pg_style.specs.declared.style.Class.{Class}
 use Rattle.pg_style.specs.declared.style.Kind.{Kind}
 use Rattle.pg_style.specs.declared.style.Kind.TheVariants.{Note, Float}
-use Rattle.pg_flat.specs.Flat.{FlatItem}
-use Rattle.pg_flat.specs.Totals.{trimmed}
-use Rattle.pg_flat.specs.Whole.{whole_sum, whole_sum_by}
+use Rattle.pg_list.specs.Flat.{FlatItem}
+use Rattle.pg_list.specs.Totals.{trimmed}
+use Rattle.pg_list.specs.Whole.{whole_sum, whole_sum_by}
 use Rattle.pg_rules.specs.Floats.{area_height, dealt, float_numbers, floats, has_all, sizes_of}
 use Rattle.pg_rules.specs.Room.{checked_height, class_notes}
 use Rattle.law_columns.proofs.Areas.{IsSize, dealt_range, floats_range, sizes_range}

@@ -7,13 +7,13 @@ use Rattle.pg_list.specs.declared.galley.Place.{Place}
 use Rattle.pg_plan.specs.declared.pages.PageMove.{PageMove}
 use Rattle.pg_plan.specs.declared.states.State.{State}
 use Rattle.pg_style.specs.Ranges.{IsStyle}
-use Rattle.pg_flat.specs.Flat.{is_same_place}
+use Rattle.pg_list.specs.Flat.{is_same_place}
 use Rattle.pg_rules.specs.Follow.{Follow, context_in}
 use Rattle.pg_rules.specs.IsState.{IsState}
 use Rattle.pg_rules.specs.Reach.{IsReach, Reaches}
 use Rattle.pg_rules.specs.Room.{Document, is_text}
 use Rattle.pg_lemmas.proofs.Bools.{by_bool}
-use Rattle.pg_flat.proofs.Places.{same_place}
+use Rattle.pg_list.proofs.Places.{same_place}
 use Rattle.law_space.specs.ReachAt.{reach_at}
 use Rattle.law_space.proofs.Onward.{reaches_next}
 use Rattle.law_space.proofs.ReachAt.{reach_is, reaches_itself}

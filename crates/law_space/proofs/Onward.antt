@@ -12,10 +12,10 @@ use Rattle.pg_plan.specs.declared.pages.PageMove.{PageMove}
 use Rattle.pg_plan.specs.declared.states.State.{State}
 use Rattle.pg_style.specs.Ranges.{IsStyle}
 use Rattle.pg_style.specs.declared.style.Run.{Run}
-use Rattle.pg_flat.specs.Badness.{is_over}
-use Rattle.pg_flat.specs.Break.{break_penalty, is_forced, passes_between}
-use Rattle.pg_flat.specs.Flat.{fronts}
-use Rattle.pg_flat.specs.Totals.{shrink, total}
+use Rattle.pg_list.specs.Badness.{is_over}
+use Rattle.pg_list.specs.Break.{break_penalty, is_forced, passes_between}
+use Rattle.pg_list.specs.Flat.{fronts}
+use Rattle.pg_list.specs.Totals.{shrink, total}
 use Rattle.pg_rules.specs.ColumnRules.{column_variants, passes_breaks, segment, text_goal, text_is_over, text_total}
 use Rattle.pg_rules.specs.Floats.{float_count, is_area_allowed, takes_wide}
 use Rattle.pg_rules.specs.Follow.{Follow, context_in}

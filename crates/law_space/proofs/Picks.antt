@@ -4,7 +4,7 @@ use Rattle.std.specs.Option.{option_map_or}
 use Rattle.pg_list.specs.declared.blocks.Block.{Block}
 use Rattle.pg_list.specs.declared.blocks.Block.TheVariants.{Choice}
 use Rattle.pg_list.specs.declared.variants.Variant.{Variant}
-use Rattle.pg_flat.specs.Flat.{picked_variants}
+use Rattle.pg_list.specs.Flat.{picked_variants}
 use Rattle.law_places.proofs.Places.{pick_named}
 
 -- how many of the picks name a variant

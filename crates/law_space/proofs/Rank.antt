@@ -7,7 +7,7 @@ use Rattle.pg_list.specs.Shapes.{IsBlock}
 use Rattle.pg_plan.specs.declared.pages.PageMove.{PageMove}
 use Rattle.pg_plan.specs.declared.states.State.{State}
 use Rattle.pg_rules.specs.ColumnRules.{is_idle}
-use Rattle.pg_flat.specs.Flat.{is_same_place}
+use Rattle.pg_list.specs.Flat.{is_same_place}
 use Rattle.pg_rules.specs.Floats.{total_count, float_count, float_numbers}
 use Rattle.pg_rules.specs.Follow.{Follow, context_in, wide_in, next_state}
 use Rattle.pg_rules.specs.History.{placed_after, made_wide}
@@ -22,7 +22,7 @@ use Rattle.law_space.specs.PageSpace.{place_rank, rank, side_run}
 use Rattle.pg_lemmas.proofs.Bools.{both_of, or_cases, by_bool, if_false, if_true}
 use Rattle.std.proofs.lemmas.Bool.{eqb-true}
 use Rattle.pg_lemmas.proofs.Numbers.{eq_refl, less_true}
-use Rattle.pg_flat.proofs.Places.{same_place}
+use Rattle.pg_list.proofs.Places.{same_place}
 
 rank_step : (b b' : Bool) (x y : ℕ) → x < y → 2 * x + (if b then 1 else 0) < 2 * y + (if b' then 1 else 0)
 rank_step true true x y h = omega arith

@@ -9,7 +9,7 @@ use Rattle.pg_list.specs.Shapes.{IsBlock}
 use Rattle.pg_list.specs.declared.blocks.Block.{Block}
 use Rattle.pg_list.specs.declared.blocks.Block.TheVariants.{One, Choice}
 use Rattle.pg_list.specs.declared.galley.Place.{Place}
-use Rattle.pg_flat.specs.Flat.{FlatItem, blocks_at, end_of, flat_items_at, fronts, is_same_place, picked_variants, steps_to}
+use Rattle.pg_list.specs.Flat.{FlatItem, blocks_at, end_of, flat_items_at, fronts, is_same_place, picked_variants, steps_to}
 use Rattle.pg_rules.specs.IsState.{IsPlace}
 use Rattle.pg_rules.specs.Reach.{IsReach, Reaches}
 use Rattle.pg_rules.specs.Room.{Document}
@@ -18,7 +18,7 @@ use Rattle.law_places.proofs.Among.{Among}
 use Rattle.pg_lemmas.proofs.Bools.{both, both_of, by_bool, if_false, if_true}
 use Rattle.law_places.proofs.Places.{Leads, leads, pick_named}
 use Rattle.law_places.proofs.Tests.{place_refl}
-use Rattle.pg_flat.proofs.Places.{picked_few, same_place}
+use Rattle.pg_list.proofs.Places.{picked_few, same_place}
 use Rattle.pg_lemmas.proofs.Numbers.{eq_refl, less_of, le_true}
 use Rattle.std.proofs.lemmas.Bool.{eqb-true}
 use Rattle.law_space.specs.ReachAt.{all_picks, does_reach, is_size, most, place_after, reach_at, reach_by, reaches_by}

@@ -10,7 +10,7 @@ use Rattle.pg_list.specs.declared.galley.Place.{Place}
 use Rattle.pg_list.specs.declared.item.Item.{Item}
 use Rattle.pg_plan.specs.declared.pages.PageMove.{PageMove}
 use Rattle.pg_style.specs.Values.{StyleValue}
-use Rattle.pg_flat.specs.Flat.{flat, flat_items_at, is_same_place, items_before}
+use Rattle.pg_list.specs.Flat.{flat, flat_items_at, is_same_place, items_before}
 use Rattle.pg_rules.specs.Floats.{sizes_of}
 use Rattle.pg_rules.specs.History.{context, place_of}
 use Rattle.pg_rules.specs.IsState.{IsPlace}
@@ -24,7 +24,7 @@ use Rattle.law_texts.specs.Texts.{CalloutsReadFlat, Chained, picks_of, texts}
 use Rattle.law_texts.proofs.Once.{Fits, chain_fits, chain_place, column_items, fits_of, passed, passed_texts, whole_splits}
 use Rattle.law_texts.proofs.Reading.{chained_tail, picks_split}
 use Rattle.pg_lemmas.proofs.Bools.{both_of}
-use Rattle.pg_flat.proofs.Places.{same_place}
+use Rattle.pg_list.proofs.Places.{same_place}
 
 module _ (doc : Document) (blocks : AllByRecursion IsBlock doc.blocks) (number : ℕ) where
   passed_callouts : (ms : List PageMove) → Chained doc ms →

@@ -9,7 +9,7 @@ use Rattle.pg_list.specs.GalleyValue.{GalleyValue}
 use Rattle.pg_list.specs.declared.item.Item.{Item}
 use Rattle.pg_plan.specs.Order.{columns}
 use Rattle.pg_style.specs.Values.{StyleValue}
-use Rattle.pg_flat.specs.Flat.{flat, flat_items_at}
+use Rattle.pg_list.specs.Flat.{flat, flat_items_at}
 use Rattle.pg_rules.specs.Floats.{entry, float_numbers, floats, sizes_of}
 use Rattle.pg_rules.specs.History.{place_of, placed_of}
 use Rattle.pg_rules.specs.Legal.{document, has_dealt_all}

@@ -13,8 +13,8 @@ use Rattle.pg_list.specs.declared.item.Item.{Item}
 use Rattle.pg_list.specs.declared.item.Item.TheVariants.{BoxItem, Rule, Glue, Kern, Penalty, Insert, Carry}
 use Rattle.pg_plan.specs.declared.pages.PageMove.{PageMove}
 use Rattle.pg_style.specs.Values.{StyleValue}
-use Rattle.pg_flat.specs.Flat.{FlatItem, flat, flat_items, flat_items_at, fronts, is_same_place}
-use Rattle.pg_flat.specs.Totals.{trimmed}
+use Rattle.pg_list.specs.Flat.{FlatItem, flat, flat_items, flat_items_at, fronts, is_same_place}
+use Rattle.pg_list.specs.Totals.{trimmed}
 use Rattle.pg_rules.specs.ColumnRules.{column_variants, does_fit}
 use Rattle.pg_rules.specs.Floats.{entry, float_numbers, insert_size, plus_counts, sizes_of}
 use Rattle.pg_rules.specs.History.{context, place_of, placed_of, with_wide}
@@ -29,7 +29,7 @@ use Rattle.law_columns.proofs.Waiting.{entry_plus, entry_slots}
 use Rattle.law_texts.specs.Texts.{Chained, column_floats, dealt_floats, inserts_of, is_kept, picks_of, segment_of, segments, text_of, texts}
 use Rattle.pg_lemmas.proofs.Bools.{both_of, both}
 use Rattle.std.proofs.lemmas.Bool.{eqb-true}
-use Rattle.pg_flat.proofs.Places.{same_place}
+use Rattle.pg_list.proofs.Places.{same_place}
 
 -- ---- texts
 

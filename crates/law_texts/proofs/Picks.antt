@@ -14,7 +14,7 @@ use Rattle.pg_list.specs.declared.item.Item.{Item}
 use Rattle.pg_list.specs.declared.item.Item.TheVariants.{BoxItem, Rule, Glue, Kern, Penalty, Insert, Carry}
 use Rattle.pg_list.specs.declared.variants.Variant.{Variant}
 use Rattle.pg_plan.specs.declared.pages.PageMove.{PageMove}
-use Rattle.pg_flat.specs.Flat.{FlatItem, blocks_at, flat_items_at, flat_items_from, later_flat_items, picked_variants, variant_flat_items}
+use Rattle.pg_list.specs.Flat.{FlatItem, blocks_at, flat_items_at, flat_items_from, later_flat_items, picked_variants, variant_flat_items}
 use Rattle.pg_rules.specs.History.{context, place_of}
 use Rattle.pg_rules.specs.Room.{ColumnContext, Document, flat_items_of}
 use Rattle.law_places.proofs.Alike.{item_of}

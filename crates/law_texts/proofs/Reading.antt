@@ -12,9 +12,9 @@ use Rattle.pg_list.specs.declared.galley.Place.{Place}
 use Rattle.pg_list.specs.declared.item.Item.{Item}
 use Rattle.pg_plan.specs.declared.pages.PageMove.{PageMove}
 use Rattle.pg_style.specs.Values.{StyleValue}
-use Rattle.pg_flat.specs.Break.{break_penalty, follows_solid, has_at, is_forced, is_spent}
-use Rattle.pg_flat.specs.Flat.{FlatItem, blocks_at, flat, flat_items, flat_items_at, is_same_place, picked_variants}
-use Rattle.pg_flat.specs.Totals.{trimmed}
+use Rattle.pg_list.specs.Break.{break_penalty, follows_solid, has_at, is_forced, is_spent}
+use Rattle.pg_list.specs.Flat.{FlatItem, blocks_at, flat, flat_items, flat_items_at, is_same_place, picked_variants}
+use Rattle.pg_list.specs.Totals.{trimmed}
 use Rattle.pg_rules.specs.History.{context, place_of}
 use Rattle.pg_rules.specs.Legal.{document}
 use Rattle.pg_rules.specs.ColumnRules.{does_fit}
@@ -27,7 +27,7 @@ use Rattle.law_columns.proofs.Waiting.{slot_below}
 use Rattle.law_texts.specs.Texts.{Chained, ColumnsReadFlat, ReadsFlat, StandsInFlat, picks_of}
 use Rattle.law_texts.proofs.Once.{Fits, chain_fits, column_items, column_splits, fits_of, passed, whole_splits}
 use Rattle.pg_lemmas.proofs.Bools.{both_of}
-use Rattle.pg_flat.proofs.Places.{same_place}
+use Rattle.pg_list.proofs.Places.{same_place}
 
 -- ---- two lists with a common part
 

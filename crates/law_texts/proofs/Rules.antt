@@ -10,11 +10,11 @@ use Rattle.pg_list.specs.declared.galley.Place.{Place}
 use Rattle.pg_list.specs.declared.item.Item.{Item}
 use Rattle.pg_plan.specs.Order.{columns}
 use Rattle.pg_style.specs.Values.{StyleValue}
-use Rattle.pg_flat.specs.Badness.{is_over, page_badness}
-use Rattle.pg_flat.specs.Break.{break_penalty, is_forced, is_spent, passes_between}
-use Rattle.pg_flat.specs.Flat.{FlatItem, is_same_place}
-use Rattle.pg_flat.specs.Totals.{shrink, total}
-use Rattle.pg_flat.specs.Whole.{square}
+use Rattle.pg_list.specs.Badness.{is_over, page_badness}
+use Rattle.pg_list.specs.Break.{break_penalty, is_forced, is_spent, passes_between}
+use Rattle.pg_list.specs.Flat.{FlatItem, is_same_place}
+use Rattle.pg_list.specs.Totals.{shrink, total}
+use Rattle.pg_list.specs.Whole.{square}
 use Rattle.pg_rules.specs.ColumnRules.{fitness_by, is_tolerable, is_well_formed, keeps_note_limits, passes_breaks, segment, text_badness, text_is_over, text_total, text_goal, text_fitness}
 use Rattle.pg_rules.specs.Cost.{column_demerits, penalty_demerits, text_demerits}
 use Rattle.pg_rules.specs.History.{column_fitness, context, place_of}
@@ -31,7 +31,7 @@ use Rattle.law_texts.specs.Texts.{Chained, ReadsFlat, RulesReadFlat, RulesReadTh
 use Rattle.law_texts.proofs.Once.{Fits, chain_fits, chain_place, fits_of}
 use Rattle.law_texts.proofs.Reading.{chained_tail, columns_read_flat}
 use Rattle.pg_lemmas.proofs.Bools.{both_of, where_true, if_true}
-use Rattle.pg_flat.proofs.Places.{same_place}
+use Rattle.pg_list.proofs.Places.{same_place}
 
 -- ---- by size
 

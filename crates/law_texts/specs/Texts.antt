@@ -11,11 +11,11 @@ use Rattle.pg_plan.specs.Order.{columns}
 use Rattle.pg_plan.specs.declared.pages.PageMove.{PageMove}
 use Rattle.pg_plan.specs.declared.pages.Pagination.{Pagination}
 use Rattle.pg_style.specs.Values.{StyleValue}
-use Rattle.pg_flat.specs.Break.{break_penalty, is_forced, is_spent, passes_between}
-use Rattle.pg_flat.specs.Flat.{flat, flat_items, flat_items_at, items_before, picked_variants}
-use Rattle.pg_flat.specs.Badness.{is_over, page_badness}
-use Rattle.pg_flat.specs.Totals.{shrink, total, trimmed}
-use Rattle.pg_flat.specs.Whole.{square}
+use Rattle.pg_list.specs.Break.{break_penalty, is_forced, is_spent, passes_between}
+use Rattle.pg_list.specs.Flat.{flat, flat_items, flat_items_at, items_before, picked_variants}
+use Rattle.pg_list.specs.Badness.{is_over, page_badness}
+use Rattle.pg_list.specs.Totals.{shrink, total, trimmed}
+use Rattle.pg_list.specs.Whole.{square}
 use Rattle.pg_rules.specs.ColumnRules.{fitness_by, is_tolerable, is_well_formed, keeps_note_limits, passes_breaks, segment}
 use Rattle.pg_rules.specs.Cost.{column_demerits, penalty_demerits}
 use Rattle.pg_rules.specs.Floats.{entry, float_numbers, insert_size, plus_counts, sizes_of}

@@ -13,8 +13,8 @@ use Rattle.pg_plan.proofs.OrderLaws.{place_total, place_equal}
 use Rattle.pg_lemmas.proofs.Bools.{by_bool, if_true, if_false, not_true}
 use Rattle.law_places.proofs.Tests.{less_int, le_int, not_less_int, not_le_int}
 use Rattle.pg_table.proofs.Runs.{undercuts_chain}
-use Rattle.pg_ends.specs.declared.end.End.{End}
-use Rattle.pg_ends.specs.Ends.{IsBefore}
+use Rattle.pg_column.specs.declared.end.End.{End}
+use Rattle.pg_column.specs.Ends.{IsBefore}
 use Rattle.law_walk.specs.Best.{AreBest, Ascend, IsAmong, IsCheaper, IsFirst, IsUnder, best_of, better_of, end_cmp, end_cost, insert_end, is_better, placed_by}
 use Rattle.pg_lemmas.proofs.Orders.{nat_equal, nat_less, not_gt_back, then_equal}
 

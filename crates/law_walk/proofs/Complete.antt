@@ -10,7 +10,7 @@ use Rattle.pg_list.specs.declared.blocks.Block.{Block}
 use Rattle.pg_list.specs.declared.variants.Variant.{Variant}
 use Rattle.pg_list.specs.declared.galley.Place.{Place}
 use Rattle.pg_list.specs.Places.{place}
-use Rattle.pg_flat.specs.Flat.{FlatItem}
+use Rattle.pg_list.specs.Flat.{FlatItem}
 use Rattle.pg_lemmas.proofs.Bools.{both, if_true}
 use Rattle.pg_rules.specs.Room.{Document}
 use Rattle.law_walk.specs.Best.{IsAmong}

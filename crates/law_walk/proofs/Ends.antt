@@ -16,8 +16,8 @@ use Rattle.pg_rules.specs.ColumnRules.{text_fitness}
 use Rattle.pg_rules.specs.Cost.{column_demerits, pick_demerits, text_demerits}
 use Rattle.pg_rules.specs.History.{column_fitness}
 use Rattle.pg_rules.specs.Room.{ColumnContext, Document, is_text, room, size_of}
-use Rattle.pg_ends.specs.declared.end.End.{End}
-use Rattle.pg_ends.specs.Ends.{AreEnds, HasEnd, IsColumnIn, IsEndOf}
+use Rattle.pg_column.specs.declared.end.End.{End}
+use Rattle.pg_column.specs.Ends.{AreEnds, HasEnd, IsColumnIn, IsEndOf}
 use Rattle.law_walk.specs.Best.{AreBest, IsAmong, IsCheaper, IsUnder, end_cmp, end_cost}
 use Rattle.law_walk.specs.Candidates.{AreCandidates, Candidate, Covers, CoversIn, IsCandidate, cost_in, end_in, ends_in, is_over_in, is_usable, keeps_in, kept_ends}
 use Rattle.pg_column.specs.Passed.{Passed, fits, least_room}

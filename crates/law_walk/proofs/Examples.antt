@@ -7,7 +7,7 @@ use Rattle.pg_rules.specs.Room.{Document}
 use Rattle.pg_list.specs.declared.blocks.Block.TheVariants.{One, Choice}
 use Rattle.pg_column.proofs.Examples.{behind}
 use Rattle.pg_rules.proofs.Examples.{at, choice_style, eject, gap, line, one_choice, plain, points, ten_lines}
-use Rattle.pg_ends.specs.declared.end.End.{End}
+use Rattle.pg_column.specs.declared.end.End.{End}
 use Rattle.law_walk.specs.Candidates.{ends_in, ends_in_each}
 use Rattle.law_walk.specs.Reached.{reach_of}
 use Rattle.law_walk.specs.Walk.{candidates_from}

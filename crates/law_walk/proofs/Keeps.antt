@@ -5,8 +5,8 @@ use Rattle.std.specs.List.{AllByRecursion}
 use Rattle.std.specs.Option.{option_map_or}
 use Rattle.std.proofs.lemmas.Bool.{eqb-true}
 use Rattle.pg_list.specs.Shapes.{IsBlock}
-use Rattle.pg_flat.specs.Break.{passes_between}
-use Rattle.pg_flat.specs.Flat.{fronts}
+use Rattle.pg_list.specs.Break.{passes_between}
+use Rattle.pg_list.specs.Flat.{fronts}
 use Rattle.pg_style.specs.Ranges.{IsStyle}
 use Rattle.pg_breaks.specs.Near.{place_penalty, place_forced}
 use Rattle.pg_lemmas.proofs.Bools.{both, both_of, where_true}

@@ -14,11 +14,11 @@ use Rattle.pg_list.specs.declared.variants.Variant.{Variant}
 use Rattle.pg_list.specs.declared.galley.Place.{Place}
 use Rattle.pg_list.specs.Places.{items_around, picked_items, place}
 use Rattle.pg_list.specs.Shapes.{IsBlock, IsWithinLimits}
-use Rattle.pg_flat.specs.Badness.{is_over}
-use Rattle.pg_flat.specs.Break.{passes_between}
-use Rattle.pg_flat.specs.Flat.{FlatItem, blocks_at, end_of, flat_items_at, flat_items_from, fronts, is_same_place, picked_variants, steps_to, variant_flat_items}
-use Rattle.pg_flat.specs.Totals.{shrink, total, trimmed}
-use Rattle.pg_flat.specs.Whole.{whole_sum_by}
+use Rattle.pg_list.specs.Badness.{is_over}
+use Rattle.pg_list.specs.Break.{passes_between}
+use Rattle.pg_list.specs.Flat.{FlatItem, blocks_at, end_of, flat_items_at, flat_items_from, fronts, is_same_place, picked_variants, steps_to, variant_flat_items}
+use Rattle.pg_list.specs.Totals.{shrink, total, trimmed}
+use Rattle.pg_list.specs.Whole.{whole_sum_by}
 use Rattle.pg_breaks.specs.Read.{items_at}
 use Rattle.pg_breaks.proofs.Lists.{get_left, get_right, get_lt}
 use Rattle.law_places.proofs.Splits.{stands_at}

@@ -8,7 +8,7 @@ use Rattle.pg_list.specs.declared.variants.Variant.{Variant}
 use Rattle.pg_list.specs.declared.galley.Place.{Place}
 use Rattle.pg_list.specs.Places.{items_around, place}
 use Rattle.pg_list.specs.Shapes.{IsBlock}
-use Rattle.pg_flat.specs.Flat.{FlatItem, fronts, variant_flat_items}
+use Rattle.pg_list.specs.Flat.{FlatItem, fronts, variant_flat_items}
 use Rattle.std.proofs.Math.Nat.{le_refl}
 use Rattle.std.proofs.lemmas.List.{take_all}
 use Rattle.pg_rules.specs.IsState.{IsPlace}

@@ -16,8 +16,8 @@ use Rattle.pg_list.specs.declared.galley.Place.{Place}
 use Rattle.pg_list.specs.Places.{item_at, items_around, picked_items, place}
 use Rattle.pg_list.specs.Counts.{item_count}
 use Rattle.pg_list.specs.Shapes.{IsBlock, IsVariant, BeginsWithBox, is_box}
-use Rattle.pg_flat.specs.Flat.{FlatItem, blocks_at, end_of, flat_items_at, flat_items_from, fronts, is_same_place, picked_variants, steps_to, variant_flat_items}
-use Rattle.pg_flat.specs.Whole.{whole_sum_by}
+use Rattle.pg_list.specs.Flat.{FlatItem, blocks_at, end_of, flat_items_at, flat_items_from, fronts, is_same_place, picked_variants, steps_to, variant_flat_items}
+use Rattle.pg_list.specs.Whole.{whole_sum_by}
 use Rattle.pg_breaks.specs.Near.{glue_after, near_penalty, place_penalty, solid_before}
 use Rattle.pg_breaks.proofs.Lists.{get_left, get_right, get_lt}
 use Rattle.law_places.specs.Past.{far}
@@ -27,7 +27,7 @@ use Rattle.std.proofs.lemmas.List.{take_all}
 use Rattle.law_places.proofs.Places.{around_is, begins_with, drop_head}
 use Rattle.law_places.proofs.Steps.{Climbs, at_climb, steps_far}
 use Rattle.law_places.proofs.Tests.{place_refl}
-use Rattle.pg_flat.proofs.Places.{same_place}
+use Rattle.pg_list.proofs.Places.{same_place}
 use Rattle.pg_rules.specs.IsState.{IsPlace}
 use Rattle.pg_rules.specs.Room.{Document}
 use Rattle.law_walk.specs.Best.{IsAmong}

@@ -12,7 +12,7 @@ use Rattle.pg_list.specs.declared.blocks.Block.{Block}
 use Rattle.pg_list.specs.declared.blocks.Block.TheVariants.{One, Choice}
 use Rattle.pg_list.specs.declared.variants.Variant.{Variant}
 use Rattle.pg_list.specs.Shapes.{IsBlock, IsWithinLimits}
-use Rattle.pg_flat.specs.Flat.{FlatItem}
+use Rattle.pg_list.specs.Flat.{FlatItem}
 use Rattle.pg_lemmas.proofs.Bools.{both, both_of, if_true}
 use Rattle.law_places.proofs.Tests.{int_le_of, le_int}
 use Rattle.std.proofs.lemmas.Bool.{eqb-true}

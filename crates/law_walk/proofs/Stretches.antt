@@ -9,8 +9,8 @@ use Rattle.pg_list.specs.declared.blocks.Block.TheVariants.{One, Choice}
 use Rattle.pg_list.specs.declared.variants.Variant.{Variant}
 use Rattle.pg_list.specs.declared.galley.Place.{Place}
 use Rattle.pg_list.specs.Places.{items_around, picked_items, place}
-use Rattle.pg_flat.specs.Flat.{FlatItem, blocks_at, flat_items_at, flat_items_from, fronts, later_flat_items, picked_variants, variant_flat_items}
-use Rattle.pg_flat.proofs.Places.{fronts_cons}
+use Rattle.pg_list.specs.Flat.{FlatItem, blocks_at, flat_items_at, flat_items_from, fronts, later_flat_items, picked_variants, variant_flat_items}
+use Rattle.pg_list.proofs.Places.{fronts_cons}
 use Rattle.pg_lemmas.proofs.Bools.{both_of, if_false}
 use Rattle.law_places.proofs.Places.{around_is, drop_head}
 use Rattle.pg_lemmas.proofs.Numbers.{suc_not}

@@ -10,10 +10,10 @@ use Rattle.pg_list.specs.declared.variants.Variant.{Variant}
 use Rattle.pg_list.specs.declared.galley.Place.{Place}
 use Rattle.pg_list.specs.Places.{items_around, picked_items, place}
 use Rattle.pg_list.specs.Shapes.{IsBlock}
-use Rattle.pg_flat.specs.Flat.{FlatItem, end_of, flat_items_from, fronts, later_flat_items, picked_variants, variant_flat_items}
-use Rattle.pg_flat.specs.Whole.{whole_sum_by}
+use Rattle.pg_list.specs.Flat.{FlatItem, end_of, flat_items_from, fronts, later_flat_items, picked_variants, variant_flat_items}
+use Rattle.pg_list.specs.Whole.{whole_sum_by}
 use Rattle.pg_breaks.proofs.Lists.{get_left, get_right, get_lt}
-use Rattle.pg_flat.proofs.Places.{fronts_cons}
+use Rattle.pg_list.proofs.Places.{fronts_cons}
 use Rattle.pg_lemmas.proofs.Bools.{both_of, by_bool, if_true}
 use Rattle.law_places.proofs.Places.{around_is, begins, begins_with, drop_head, pick_named}
 use Rattle.pg_lemmas.proofs.Numbers.{less_true, not_less}

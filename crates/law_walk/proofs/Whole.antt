@@ -10,13 +10,13 @@ use Rattle.pg_list.specs.declared.variants.Variant.{Variant}
 use Rattle.pg_list.specs.declared.galley.Place.{Place}
 use Rattle.pg_list.specs.Places.{items_around, place}
 use Rattle.pg_list.specs.Shapes.{IsBlock}
-use Rattle.pg_flat.specs.Flat.{FlatItem, end_of, flat_items_at, fronts, is_same_place}
-use Rattle.pg_flat.specs.Whole.{whole_sum_by}
+use Rattle.pg_list.specs.Flat.{FlatItem, end_of, flat_items_at, fronts, is_same_place}
+use Rattle.pg_list.specs.Whole.{whole_sum_by}
 use Rattle.law_places.proofs.Splits.{stands_at}
 use Rattle.pg_lemmas.proofs.Bools.{both_of}
 use Rattle.law_places.proofs.Measures.{place_within}
 use Rattle.law_places.proofs.Places.{around_block}
-use Rattle.pg_flat.proofs.Places.{same_place}
+use Rattle.pg_list.proofs.Places.{same_place}
 use Rattle.pg_rules.specs.IsState.{IsPlace}
 use Rattle.pg_rules.specs.Room.{Document}
 use Rattle.law_walk.specs.Best.{IsAmong}

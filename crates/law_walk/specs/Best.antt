@@ -4,7 +4,7 @@ use Rattle.std.specs.Ordering.{is_gt, nat_cmp, ordering_then}
 use Rattle.std.specs.declared.cmp.Ordering.{Ordering}
 use Rattle.std.specs.declared.cmp.Ordering.TheVariants.{Less, Equal, Greater}
 use Rattle.pg_plan.specs.Order.{picks_cmp, place_cmp}
-use Rattle.pg_ends.specs.declared.end.End.{End}
+use Rattle.pg_column.specs.declared.end.End.{End}
 
 -- an element of a list
 abbrev pub IsAmong : {X : Type 0} → X → List X → Type 0

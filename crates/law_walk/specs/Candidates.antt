@@ -2,8 +2,8 @@
 use Rattle.std.specs.Prelude.{◌≡◌, ℕ, Bool, true, false, ◌&&◌, ◌||◌, not, nat_le, List, length, map, take, filter, Option, Some, None, unwrap_or, ℤ, pos, int_le}
 use Rattle.pg_list.specs.declared.galley.Place.{Place}
 use Rattle.pg_list.specs.declared.variants.Variant.{Variant}
-use Rattle.pg_flat.specs.Flat.{blocks_at, flat_items_at, fronts, is_same_place, picked_variants, steps_to}
-use Rattle.pg_flat.specs.Whole.{whole_sum_by}
+use Rattle.pg_list.specs.Flat.{blocks_at, flat_items_at, fronts, is_same_place, picked_variants, steps_to}
+use Rattle.pg_list.specs.Whole.{whole_sum_by}
 use Rattle.pg_style.specs.Values.{StyleValue}
 use Rattle.pg_breaks.specs.Near.{place_penalty, place_forced, place_spent}
 use Rattle.pg_rules.specs.Room.{Document}
@@ -11,7 +11,7 @@ use Rattle.pg_column.specs.Judged.{are_loose_enough}
 use Rattle.pg_column.specs.Numbers.{cost_by, is_over_by}
 use Rattle.pg_column.specs.Passed.{Passed, are_within, fits, is_end_here, least_room, nothing, pass_items}
 use Rattle.pg_column.specs.declared.cost.TextCost.{TextCost}
-use Rattle.pg_ends.specs.declared.end.End.{End}
+use Rattle.pg_column.specs.declared.end.End.{End}
 use Rattle.law_walk.specs.Best.{IsAmong, IsCheaper, best_of}
 
 -- where columns from a place may end: the picks that lead there, what they pass on the way, and the demerits of the

@@ -6,8 +6,8 @@ use Rattle.pg_rules.specs.Reach.{IsReach}
 use Rattle.pg_rules.specs.Room.{Document}
 use Rattle.pg_table.specs.Space.{Lawful}
 use Rattle.pg_table.specs.declared.table.Entry.{Entry}
-use Rattle.pg_ends.specs.Ends.{AreEnds}
-use Rattle.pg_ends.specs.declared.end.End.{End}
+use Rattle.pg_column.specs.Ends.{AreEnds}
+use Rattle.pg_column.specs.declared.end.End.{End}
 use Rattle.law_walk.specs.Best.{AreBest, IsAmong}
 use Rattle.law_walk.specs.Candidates.{AreCandidates, Candidate, CoversIn, ends_in_each, kept_ends}
 use Rattle.pg_column.specs.Passed.{nothing}

@@ -7,7 +7,7 @@ use Rattle.pg_list.specs.declared.blocks.Block.TheVariants.{One, Choice}
 use Rattle.pg_list.specs.declared.galley.Place.{Place}
 use Rattle.pg_list.specs.declared.variants.Variant.{Variant}
 use Rattle.pg_list.specs.Places.{items_around, place}
-use Rattle.pg_flat.specs.Flat.{FlatItem, variant_flat_items}
+use Rattle.pg_list.specs.Flat.{FlatItem, variant_flat_items}
 use Rattle.pg_rules.specs.Room.{Document}
 use Rattle.law_walk.specs.Candidates.{Candidate}
 use Rattle.pg_column.specs.Passed.{Passed, are_within, fits, is_end_here, nothing, pass_item, pass_items}

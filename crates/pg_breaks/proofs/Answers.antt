@@ -15,8 +15,8 @@ use Rattle.pg_list.specs.declared.blocks.Block.TheVariants.{One, Choice}
 use Rattle.pg_list.specs.declared.galley.Place.{Place}
 use Rattle.pg_list.specs.Places.{place, picked_items, item_at, has_box, is_solid_block, solid}
 use Rattle.pg_list.specs.Shapes.{is_box, is_discardable, BeginsWithBox, EndsSolid, IsBlock, IsChoice}
-use Rattle.pg_flat.specs.Break.{has_at, break_penalty, item_break, is_glue, is_forcing, follows_solid, is_forced, is_spent}
-use Rattle.pg_flat.specs.Flat.{FlatItem, flat, flat_items, flat_items_at, blocks_at, steps_to, is_same_place, end_of}
+use Rattle.pg_list.specs.Break.{has_at, break_penalty, item_break, is_glue, is_forcing, follows_solid, is_forced, is_spent}
+use Rattle.pg_list.specs.Flat.{FlatItem, flat, flat_items, flat_items_at, blocks_at, steps_to, is_same_place, end_of}
 use Rattle.pg_breaks.specs.Near.{begins_with_glue, glue_first, near_penalty, place_penalty, place_forced, place_spent, solid_before, glue_after, text_after, items_after, blocks_after}
 use Rattle.pg_breaks.specs.Read.{AreNamed, items_at}
 use Rattle.pg_breaks.proofs.Listed.{listed, ArePicks, are_picks, shown, blocks_shown}
@@ -26,7 +26,7 @@ use Rattle.pg_breaks.proofs.Column.{SeenAt, column_seen}
 use Rattle.pg_breaks.proofs.Kept.{any_from, le_not}
 use Rattle.std.proofs.Math.Seq.{drop-length}
 use Rattle.pg_lemmas.proofs.Numbers.{eq_refl}
-use Rattle.pg_flat.proofs.Places.{same_place}
+use Rattle.pg_list.proofs.Places.{same_place}
 
 box_plain : (items : List Item) (list : List Item) → BeginsWithBox items →
     (has_at is_glue (items ++ list) 0 ≡ false) × (list_any is_box (items ++ list) ≡ true)

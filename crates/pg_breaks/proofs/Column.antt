@@ -12,8 +12,8 @@ use Rattle.pg_list.specs.declared.blocks.Block.TheVariants.{One, Choice}
 use Rattle.pg_list.specs.declared.galley.Place.{Place}
 use Rattle.pg_list.specs.Places.{place, picked_items, is_solid_block}
 use Rattle.pg_list.specs.Shapes.{is_discardable, EndsSolid, IsBlock}
-use Rattle.pg_flat.specs.Break.{has_at}
-use Rattle.pg_flat.specs.Flat.{FlatItem, flat_items_from, variant_flat_items, flat_items_at, blocks_at}
+use Rattle.pg_list.specs.Break.{has_at}
+use Rattle.pg_list.specs.Flat.{FlatItem, flat_items_from, variant_flat_items, flat_items_at, blocks_at}
 use Rattle.pg_breaks.specs.Near.{front_follows}
 use Rattle.pg_breaks.specs.Read.{items_at}
 use Rattle.pg_breaks.proofs.Listed.{listed, ArePicks, shown, variant_shown, blocks_shown}

@@ -9,8 +9,8 @@ use Rattle.pg_list.specs.declared.variants.Variant.{Variant}
 use Rattle.pg_list.specs.declared.blocks.Block.{Block}
 use Rattle.pg_list.specs.declared.blocks.Block.TheVariants.{One, Choice}
 use Rattle.pg_list.specs.Places.{picked_items}
-use Rattle.pg_flat.specs.Flat.{FlatItem, flat_items_from, later_flat_items, variant_flat_items, picked_variants}
-use Rattle.pg_flat.proofs.Places.{picked_few}
+use Rattle.pg_list.specs.Flat.{FlatItem, flat_items_from, later_flat_items, variant_flat_items, picked_variants}
+use Rattle.pg_list.proofs.Places.{picked_few}
 
 abbrev pub listed : List Block → List ℕ → List Item
 listed [] picks = []

@@ -3,7 +3,7 @@ use Rattle.std.proofs.Common.{◌≡◌, refl, ap, ℕ, zero, suc, ◌+◌, ◌<
 use Rattle.std.specs.Prelude.{slice_get, not, ◌&&◌}
 use Rattle.pg_list.specs.declared.item.Item.{Item}
 use Rattle.pg_list.specs.Shapes.{is_discardable}
-use Rattle.pg_flat.specs.Break.{has_at, follows_solid}
+use Rattle.pg_list.specs.Break.{has_at, follows_solid}
 
 abbrev pub is_solid : Item → Bool
 is_solid item = not (is_discardable item)

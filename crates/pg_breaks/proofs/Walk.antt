@@ -10,7 +10,7 @@ use Rattle.pg_list.specs.declared.blocks.Block.TheVariants.{One, Choice}
 use Rattle.pg_list.specs.declared.galley.Place.{Place}
 use Rattle.pg_list.specs.Places.{place, picked_items, items_around}
 use Rattle.pg_list.specs.Shapes.{is_box, is_discardable, BeginsWithBox, EndsSolid, IsBlock, IsVariant, IsChoice}
-use Rattle.pg_flat.specs.Flat.{FlatItem, flat_items_from, later_flat_items, variant_flat_items}
+use Rattle.pg_list.specs.Flat.{FlatItem, flat_items_from, later_flat_items, variant_flat_items}
 use Rattle.pg_breaks.proofs.Listed.{listed, ArePicks}
 use Rattle.pg_list.specs.Places.{is_solid_block}
 use Rattle.pg_breaks.specs.Near.{index_follows}

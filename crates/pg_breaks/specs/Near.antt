@@ -9,7 +9,7 @@ use Rattle.pg_list.specs.declared.blocks.Block.TheVariants.{One, Choice}
 use Rattle.pg_list.specs.declared.galley.Place.{Place}
 use Rattle.pg_list.specs.Places.{items_around, item_at, is_solid_block, solid, tail}
 use Rattle.pg_list.specs.Shapes.{is_box, is_discardable}
-use Rattle.pg_flat.specs.Break.{is_glue, is_forcing, has_at}
+use Rattle.pg_list.specs.Break.{is_glue, is_forcing, has_at}
 
 -- a choice begins with a box or a rule
 abbrev pub begins_with_glue : List Block → Bool

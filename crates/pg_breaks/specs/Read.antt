@@ -3,7 +3,7 @@ use Rattle.std.specs.Prelude.{◌≡◌, ℕ, List, length, map}
 use Rattle.pg_list.specs.declared.item.Item.{Item}
 use Rattle.pg_list.specs.declared.blocks.Block.{Block}
 use Rattle.pg_list.specs.declared.galley.Place.{Place}
-use Rattle.pg_flat.specs.Flat.{FlatItem, flat_items_at, picked_variants}
+use Rattle.pg_list.specs.Flat.{FlatItem, flat_items_at, picked_variants}
 
 -- each pick names a variant of its choice
 abbrev pub AreNamed : List Block → List ℕ → Type 0

@@ -3,7 +3,7 @@ ghost use Rattle.std.specs.Prelude.{◌≡◌, ◌||◌, ◌&&◌, drop, length}
 ghost use Rattle.std.specs.List.{list_any};
 ghost use Rattle.pg_list.specs.Places.{is_solid_block as is_solid_block_of};
 ghost use Rattle.pg_list.specs.Shapes.{is_box};
-ghost use Rattle.pg_flat.specs.Break.{is_glue as is_glue_of, is_forcing as is_forcing_of};
+ghost use Rattle.pg_list.specs.Break.{is_glue as is_glue_of, is_forcing as is_forcing_of};
 ghost use Rattle.pg_breaks.specs.Near.{begins_with_glue as begins_with_glue_of, glue_first as glue_first_of};
 
 use pg_list::{Block, Item, item_is_box, item_is_discardable};

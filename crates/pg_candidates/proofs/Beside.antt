@@ -6,7 +6,7 @@ use Rattle.pg_list.specs.declared.galley.Place.{Place}
 use Rattle.pg_breaks.specs.Near.{place_forced, place_spent}
 use Rattle.pg_column.specs.Numbers.{goal_by}
 use Rattle.pg_column.specs.Passed.{fits}
-use Rattle.pg_flat.specs.Whole.{square}
+use Rattle.pg_list.specs.Whole.{square}
 use Rattle.pg_lemmas.proofs.Bools.{both, both_of, not_both, not_false}
 use Rattle.pg_rules.specs.ColumnRules.{fitness_by}
 use Rattle.pg_rules.specs.Cost.{penalty_demerits}

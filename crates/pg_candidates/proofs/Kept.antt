@@ -4,7 +4,7 @@ use Rattle.std.specs.Prelude.{if◌then◌else◌, cond, filter}
 use Rattle.pg_list.specs.declared.galley.Place.{Place}
 use Rattle.pg_column.specs.declared.cost.TextCost.{TextCost}
 use Rattle.pg_rules.specs.Room.{Document}
-use Rattle.pg_ends.specs.declared.end.End.{End}
+use Rattle.pg_column.specs.declared.end.End.{End}
 use Rattle.law_walk.specs.Best.{AreBest, insert_end}
 use Rattle.law_walk.specs.Candidates.{Candidate, end_in, keeps_in, kept_ends}
 use Rattle.law_walk.proofs.BestLaws.{best_push}

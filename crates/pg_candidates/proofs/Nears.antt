@@ -8,7 +8,7 @@ use Rattle.pg_breaks.specs.Near.{place_forced}
 use Rattle.pg_column.specs.Numbers.{cost_for, goal_by}
 use Rattle.pg_column.specs.Passed.{fits}
 use Rattle.pg_column.specs.declared.cost.TextCost.{TextCost}
-use Rattle.pg_ends.specs.declared.end.End.{End}
+use Rattle.pg_column.specs.declared.end.End.{End}
 use Rattle.pg_lemmas.proofs.Bools.{if_false, if_true}
 use Rattle.pg_list.proofs.BodyLemmas.{all_front}
 use Rattle.pg_rules.specs.Room.{Document}

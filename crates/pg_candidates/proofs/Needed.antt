@@ -8,7 +8,7 @@ use Rattle.std.proofs.lemmas.Grind.{flat_map-append}
 use Rattle.std.proofs.lemmas.Int.{ints}
 use Rattle.std.proofs.lemmas.List.{length-map}
 use Rattle.std.proofs.lemmas.Option.{get_or_from_slice_get, same_Some, slice_get-get_or, slice_get-map, slice_get_past, slice_get_read, slice_get_within}
-use Rattle.pg_ends.specs.declared.end.End.{End}
+use Rattle.pg_column.specs.declared.end.End.{End}
 use Rattle.pg_lemmas.proofs.Bools.{by_bool, either_way, if_false, if_true, not_both}
 use Rattle.pg_lemmas.proofs.Lists.{one_more}
 use Rattle.pg_list.proofs.BodyLemmas.{all_push}

@@ -7,7 +7,7 @@ use Rattle.std.specs.Ordering.{ordering_reverse}
 use Rattle.std.specs.declared.cmp.Ordering.{Ordering}
 use Rattle.std.specs.declared.cmp.Ordering.TheVariants.{Less, Equal, Greater}
 use Rattle.std.proofs.lemmas.List.{get_or_default}
-use Rattle.pg_ends.specs.declared.end.End.{End}
+use Rattle.pg_column.specs.declared.end.End.{End}
 use Rattle.law_walk.specs.Best.{Ascend, IsFirst, end_cmp, insert_end, is_better, placed_by}
 use Rattle.law_walk.specs.Candidates.{Candidate}
 use Rattle.law_walk.proofs.BestLaws.{end_total}

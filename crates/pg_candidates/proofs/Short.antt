@@ -7,7 +7,7 @@ use Rattle.std.proofs.Math.Nat.{div-mul-le_self}
 use Rattle.pg_breaks.specs.Near.{place_forced, place_spent}
 use Rattle.pg_column.specs.Numbers.{goal_by}
 use Rattle.pg_column.specs.Passed.{fits}
-use Rattle.pg_flat.specs.Badness.{badness, cubed, is_over, ratio}
+use Rattle.pg_list.specs.Badness.{badness, cubed, is_over, ratio}
 use Rattle.pg_lemmas.proofs.Bools.{if_false, if_true}
 use Rattle.pg_rules.specs.Room.{Document}
 use Rattle.pg_sums.specs.Step.{badness_by, has_infinite}

@@ -8,10 +8,10 @@ use Rattle.pg_rules.specs.Room.{Document}
 use Rattle.pg_column.specs.Passed.{Passed, fits}
 use Rattle.law_walk.specs.Candidates.{Candidate}
 use Rattle.law_walk.specs.Walk.{end_here, ends_along}
-use Rattle.pg_stretch.specs.declared.cursor.Cursor.{Cursor}
-use Rattle.pg_stretch.specs.Ahead.{IsSettled, front_ahead, item_ahead, items_ahead, place_ahead}
-use Rattle.pg_stretch.specs.Quiet.{is_quiet, passed_along}
-use Rattle.pg_stretch.proofs.Along.{last}
+use Rattle.pg_hops.specs.declared.cursor.Cursor.{Cursor}
+use Rattle.pg_hops.specs.Ahead.{IsSettled, front_ahead, item_ahead, items_ahead, place_ahead}
+use Rattle.pg_hops.specs.Quiet.{is_quiet, passed_along}
+use Rattle.pg_hops.proofs.Along.{last}
 use Rattle.pg_hops.specs.Goes.{Goes, Stops}
 
 module _ (doc : Document) (top : ℤ) (at : Cursor) (here : Place) (here-is : here ≡ place_ahead at) (p : Passed)

@@ -5,8 +5,8 @@ use Rattle.std.proofs.lemmas.Int.{ints}
 use Rattle.pg_breaks.specs.Near.{place_forced}
 use Rattle.pg_column.specs.Passed.{fits, least_room, note_height}
 use Rattle.pg_column.proofs.Passing.{over_least}
-use Rattle.pg_ends.specs.declared.end.End.{End}
-use Rattle.pg_flat.specs.Badness.{is_over}
+use Rattle.pg_column.specs.declared.end.End.{End}
+use Rattle.pg_list.specs.Badness.{is_over}
 use Rattle.pg_lemmas.proofs.Bools.{if_false}
 use Rattle.pg_rules.specs.Room.{Document}
 use Rattle.pg_sums.specs.declared.totals.Totals.{Totals}

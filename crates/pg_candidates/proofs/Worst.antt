@@ -5,7 +5,7 @@ use Rattle.std.proofs.lemmas.Int.{ints}
 use Rattle.std.proofs.lemmas.Option.{same_Some}
 use Rattle.pg_column.specs.Numbers.{cost_for}
 use Rattle.pg_column.specs.declared.cost.TextCost.{TextCost}
-use Rattle.pg_flat.specs.Whole.{square}
+use Rattle.pg_list.specs.Whole.{square}
 use Rattle.pg_rules.specs.Cost.{penalty_demerits}
 use Rattle.pg_style.specs.Values.{StyleValue}
 use Rattle.pg_sums.specs.Step.{badness_by}

@@ -9,7 +9,7 @@ use Rattle.pg_breaks.specs.Near.{place_forced, place_penalty, place_spent}
 use Rattle.pg_column.specs.Numbers.{cost_for, goal_by}
 use Rattle.pg_column.specs.Passed.{fits, note_height}
 use Rattle.pg_column.specs.declared.cost.TextCost.{TextCost}
-use Rattle.pg_ends.specs.declared.end.End.{End}
+use Rattle.pg_column.specs.declared.end.End.{End}
 use Rattle.pg_rules.specs.Room.{Document}
 use Rattle.pg_style.specs.Values.{StyleValue}
 use Rattle.pg_sums.specs.Step.{badness_by}

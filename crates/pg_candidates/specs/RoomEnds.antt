@@ -2,7 +2,7 @@
 use Rattle.std.specs.Prelude.{ℕ, List, [], map, slice_get}
 use Rattle.std.specs.Option.{option_map_or}
 use Rattle.pg_column.specs.declared.cost.TextCost.{TextCost}
-use Rattle.pg_ends.specs.declared.end.End.{End}
+use Rattle.pg_column.specs.declared.end.End.{End}
 use Rattle.law_walk.specs.Candidates.{Candidate}
 use Rattle.pg_candidates.specs.Nears.{NearValue}
 use Rattle.pg_candidates.specs.declared.room_end.RoomEnd.{RoomEnd}

@@ -2,8 +2,8 @@
 use Rattle.std.specs.Prelude.{Option, Some, None}
 use Rattle.pg_column.specs.Passed.{Passed}
 use Rattle.law_walk.specs.Candidates.{Candidate}
-use Rattle.pg_stretch.specs.View.{view}
-use Rattle.pg_stretch.specs.declared.passing.State.{State}
+use Rattle.pg_hops.specs.View.{view}
+use Rattle.pg_hops.specs.declared.state.State.{State}
 use Rattle.pg_candidates.specs.declared.candidate.Candidate.{Candidate as CandidateParts}
 
 -- a candidate with what was passed

@@ -6,17 +6,16 @@ ghost use Rattle.pg_rules.specs.Legal.{document};
 ghost use Rattle.pg_column.specs.Passed.{fits, is_end_here};
 ghost use Rattle.law_walk.specs.Reached.{reach_along};
 ghost use Rattle.law_walk.specs.Walk.{end_here, ends_along, past_stretch};
-ghost use Rattle.pg_stretch.specs.Ahead.{IsSettled, front_ahead, items_ahead};
-ghost use Rattle.pg_stretch.specs.Quiet.{is_quiet, passed_along};
-ghost use Rattle.pg_stretch.specs.View.{IsFor, view};
+ghost use Rattle.pg_hops.specs.Ahead.{IsSettled, front_ahead, items_ahead};
+ghost use Rattle.pg_hops.specs.Quiet.{is_quiet, passed_along};
+ghost use Rattle.pg_hops.specs.View.{IsFor, view};
 ghost use Rattle.pg_hops.specs.Index.{AreHops};
 ghost use Rattle.pg_candidates.specs.View.{passed_of};
 
 use crate::candidate::{Candidate, CandidateList};
-use pg_hops::{BreakIndex, go, hop_ahead, is_end_ahead};
+use pg_hops::{BreakIndex, Cursor, Passed, State, go, hop_ahead, is_end_ahead};
 use pg_list::{Galley, Place};
 use pg_plan::Picks;
-use pg_stretch::{Cursor, Passed, State};
 use pg_style::Style;
 use std::alloc::AllocError;
 use std::rc::Rc;
@@ -47,7 +46,7 @@ fn end_at(
 
 /// What a walk along a stretch tells: what was passed with the front behind it, where some room up to the greatest one
 /// lets pass, the greatest block on the way, and whether the notes passed take no room.
-#[derive(Clone, Copy, Debug)]
+#[derive(Clone, Copy)]
 pub struct Walked {
     pub state: Option<State>,
     pub greatest: u32,

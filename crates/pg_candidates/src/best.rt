@@ -21,7 +21,7 @@ use std::alloc::AllocError;
 use std::cmp::Ordering;
 
 // Where an end goes among others: in front of the next, in its place, or nowhere, since it is no better.
-#[derive(Clone, Copy, Debug)]
+#[derive(Clone, Copy)]
 enum Spot {
     Before,
     Instead,

@@ -2,9 +2,9 @@
 ghost use Rattle.std.specs.Prelude.{◌≡◌, ◌++◌, ◌∷◌, [], IfOk, OnOk, map};
 ghost use Rattle.pg_candidates.specs.View.{candidate_of};
 
+use pg_hops::Passed;
 use pg_list::Place;
 use pg_plan::Picks;
-use pg_stretch::Passed;
 use std::alloc::{AllocError, Global};
 use std::marker::Model;
 use std::rc::Rc;

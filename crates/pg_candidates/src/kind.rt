@@ -8,7 +8,7 @@ use pg_list::{Galley, Place};
 
 /// What the galley says of an end at a place: the penalty of the break there, or 0 where there is none, whether that is
 /// forced, and whether only discardable items stand behind it.
-#[derive(Clone, Copy, Debug)]
+#[derive(Clone, Copy)]
 pub struct EndKind {
     pub penalty: i32,
     pub is_forced: bool,

@@ -3,7 +3,7 @@ ghost use Rattle.std.specs.Prelude.{◌≤ℤ◌};
 ghost use Rattle.pg_list.specs.GalleyValue.{GalleyValue};
 ghost use Rattle.pg_column.specs.Passed.{least_room};
 ghost use Rattle.pg_rules.specs.Legal.{document};
-ghost use Rattle.pg_stretch.specs.View.{view};
+ghost use Rattle.pg_hops.specs.View.{view};
 ghost use Rattle.pg_candidates.specs.Nears.{IsLeastRoom};
 ghost use Rattle.pg_candidates.specs.View.{candidate_of};
 

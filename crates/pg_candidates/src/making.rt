@@ -22,7 +22,7 @@ use std::alloc::{AllocError, Global};
 
 // The first candidate of a place, the kind of its end, which all ends there share, and a room in which its badness is the
 // worst, if one was found.
-#[derive(Clone, Copy, Debug)]
+#[derive(Clone, Copy)]
 struct First {
     at: usize,
     kind: EndKind,

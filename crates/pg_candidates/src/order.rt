@@ -14,7 +14,7 @@ use std::cmp::Ordering;
 const PLACES: usize = 256;
 
 /// Which candidate of a list, with a number that rises with its place, and with the demerits of its picks.
-#[derive(Clone, Copy, Debug)]
+#[derive(Clone, Copy)]
 pub struct Ranked {
     rank: u64,
     pick_demerits: i64,

@@ -4,7 +4,7 @@ ghost use Rattle.std.specs.List.{AllByRecursion};
 ghost use Rattle.pg_list.specs.GalleyValue.{GalleyValue};
 ghost use Rattle.pg_list.specs.declared.galley.Place.{Place as APlace};
 ghost use Rattle.pg_column.specs.Numbers.{cost_for as cost_for_goal};
-ghost use Rattle.pg_ends.specs.Ends.{AreEnds};
+ghost use Rattle.pg_column.specs.Ends.{AreEnds};
 ghost use Rattle.pg_rules.specs.Legal.{document};
 ghost use Rattle.law_walk.specs.Best.{AreBest};
 ghost use Rattle.law_walk.specs.Candidates.{AreCandidates, Candidate as ACandidate, kept_ends};
@@ -19,11 +19,10 @@ use crate::near::{Near, NearList};
 use crate::order::in_order;
 use crate::room_end::{RoomEnd, all_with_picks};
 use law_walk::laws::candidates_give_ends;
-use pg_column::{TextCost, cost_for};
-use pg_ends::EndList;
+use pg_column::{EndList, TextCost, cost_for};
 use pg_list::Galley;
+use pg_scaled::minus;
 use pg_style::Style;
-use pg_whole::minus;
 use std::alloc::{AllocError, Global};
 
 // For how many ends there is room at once: few rooms have more.

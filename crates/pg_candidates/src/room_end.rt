@@ -4,15 +4,14 @@ ghost use Rattle.pg_candidates.specs.RoomEnds.{end_of, ends_of, picks_at};
 ghost use Rattle.pg_candidates.specs.View.{candidate_of};
 
 use crate::candidate::Candidate;
-use pg_column::TextCost;
-use pg_ends::{End, EndList};
+use pg_column::{End, EndList, TextCost};
 use pg_list::Place;
 use pg_plan::Picks;
 use std::alloc::{AllocError, Global};
 
 /// An end of a column in a room: its place, the number of the candidate that it is of, its numbers, and the demerits of
 /// the variants picked. The picks are those of the candidate: few ends are ever asked for them.
-#[derive(Clone, Copy, Debug)]
+#[derive(Clone, Copy)]
 pub struct RoomEnd {
     pub to: Place,
     pub at: usize,

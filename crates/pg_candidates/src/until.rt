@@ -13,9 +13,9 @@ ghost use Rattle.pg_candidates.specs.View.{candidate_of};
 use crate::candidate::Candidate;
 use crate::kind::EndKind;
 use pg_plan::compare_picks;
+use pg_scaled::plus;
 use pg_style::Style;
 use pg_sums::Sums;
-use pg_whole::plus;
 use std::cmp::Ordering;
 
 // Whether a number is below 2^40 in size.

@@ -10,11 +10,11 @@ use Rattle.pg_list.specs.declared.blocks.Block.TheVariants.{One, Choice}
 use Rattle.pg_list.specs.declared.galley.Place.{Place}
 use Rattle.pg_list.specs.Places.{item_at, items_around, picked_items, place}
 use Rattle.pg_list.specs.Shapes.{IsBlock}
-use Rattle.pg_flat.specs.Flat.{FlatItem, blocks_at, flat_items_at, flat_items_from, later_flat_items, picked_variants, variant_flat_items}
+use Rattle.pg_list.specs.Flat.{FlatItem, blocks_at, flat_items_at, flat_items_from, later_flat_items, picked_variants, variant_flat_items}
 use Rattle.law_places.proofs.Places.{around_is, begins, begins_with, drop_later, pick_named}
 use Rattle.pg_column.specs.Ahead.{first_pick, item_place, is_choice, is_front, next_index, picks_behind, settled}
 use Rattle.pg_lemmas.proofs.Bools.{by_bool, if_false, if_true}
-use Rattle.pg_flat.proofs.Places.{picked_few}
+use Rattle.pg_list.proofs.Places.{picked_few}
 use Rattle.pg_lemmas.proofs.Numbers.{suc_not, not_less}
 use Rattle.pg_lemmas.proofs.Lists.{drop_past}
 

@@ -6,9 +6,9 @@ use Rattle.std.specs.Option.{option_map_or, option_or}
 use Rattle.pg_list.specs.declared.blocks.Block.{Block}
 use Rattle.pg_list.specs.declared.galley.Place.{Place}
 use Rattle.pg_list.specs.Shapes.{IsBlock, is_box}
-use Rattle.pg_flat.specs.Break.{break_penalty, is_forced, is_spent, passes_between}
-use Rattle.pg_flat.specs.Flat.{FlatItem, blocks_at, end_of, fronts, is_same_place, steps_to}
-use Rattle.pg_flat.specs.Totals.{trimmed}
+use Rattle.pg_list.specs.Break.{break_penalty, is_forced, is_spent, passes_between}
+use Rattle.pg_list.specs.Flat.{FlatItem, blocks_at, end_of, fronts, is_same_place, steps_to}
+use Rattle.pg_list.specs.Totals.{trimmed}
 use Rattle.pg_style.specs.Ranges.{IsStyle}
 use Rattle.pg_breaks.specs.Near.{place_penalty, place_forced, place_spent}
 use Rattle.pg_breaks.proofs.Answers.{forced-column, penalty-column, spent-column}

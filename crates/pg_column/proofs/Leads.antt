@@ -6,11 +6,11 @@ use Rattle.std.specs.Option.{option_map_or}
 use Rattle.std.proofs.lemmas.Bool.Decides.{nat_tests}
 use Rattle.pg_list.specs.declared.galley.Place.{Place}
 use Rattle.pg_list.specs.declared.blocks.Block.{Block}
-use Rattle.pg_flat.specs.Flat.{FlatItem, end_of, fronts, is_same_place, steps_to}
+use Rattle.pg_list.specs.Flat.{FlatItem, end_of, fronts, is_same_place, steps_to}
 use Rattle.pg_column.specs.Ahead.{leads_to}
 use Rattle.pg_lemmas.proofs.Bools.{both_of, by_bool, if_false, if_true}
 use Rattle.pg_lemmas.proofs.Numbers.{less_of, not_less, less_true}
-use Rattle.pg_flat.proofs.Places.{fronts_cons}
+use Rattle.pg_list.proofs.Places.{fronts_cons}
 
 module _ {X : Type 0} (p : X → Bool) where
   first : (x : X) (xs : List X) → p x ≡ true → position_or_len p (x ∷ xs) ≡ 0

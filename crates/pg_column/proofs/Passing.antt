@@ -14,11 +14,11 @@ use Rattle.pg_list.specs.declared.galley.Place.{Place}
 use Rattle.pg_list.specs.Places.{picked_items, items_around}
 use Rattle.pg_list.specs.Ranges.{IsItemInRange}
 use Rattle.pg_list.specs.Shapes.{IsBlock, HasItemsInRange, is_box}
-use Rattle.pg_flat.specs.Badness.{is_over}
-use Rattle.pg_flat.specs.Break.{break_penalty, follows_solid, is_forced, passes_between}
-use Rattle.pg_flat.specs.Flat.{FlatItem, blocks_at, flat_items_at, flat_items_from, later_flat_items, picked_variants, variant_flat_items}
-use Rattle.pg_flat.specs.Totals.{shrink, total, trimmed}
-use Rattle.pg_flat.proofs.SumsLaws.{trimmed_any}
+use Rattle.pg_list.specs.Badness.{is_over}
+use Rattle.pg_list.specs.Break.{break_penalty, follows_solid, is_forced, passes_between}
+use Rattle.pg_list.specs.Flat.{FlatItem, blocks_at, flat_items_at, flat_items_from, later_flat_items, picked_variants, variant_flat_items}
+use Rattle.pg_list.specs.Totals.{shrink, total, trimmed}
+use Rattle.pg_list.proofs.SumsLaws.{trimmed_any}
 use Rattle.pg_style.specs.Ranges.{IsStyle}
 use Rattle.pg_breaks.specs.Near.{place_penalty, place_forced}
 use Rattle.pg_breaks.specs.Read.{items_at}

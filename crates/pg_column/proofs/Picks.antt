@@ -8,10 +8,10 @@ use Rattle.std.proofs.lemmas.Bool.Decides.{nat_tests}
 use Rattle.pg_list.specs.declared.variants.Variant.{Variant}
 use Rattle.pg_list.specs.declared.blocks.Block.{Block}
 use Rattle.pg_list.specs.declared.blocks.Block.TheVariants.{One, Choice}
-use Rattle.pg_flat.specs.Flat.{picked_variants}
+use Rattle.pg_list.specs.Flat.{picked_variants}
 use Rattle.pg_column.specs.Ahead.{first_variant, picks_after, picks_past}
 use Rattle.pg_lemmas.proofs.Bools.{by_bool, if_false, if_true}
-use Rattle.pg_flat.proofs.Places.{picked_few}
+use Rattle.pg_list.proofs.Places.{picked_few}
 use Rattle.pg_lemmas.proofs.Numbers.{not_less, less_true}
 use Rattle.pg_lemmas.proofs.Lists.{some_at}
 

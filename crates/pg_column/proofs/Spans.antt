@@ -17,7 +17,7 @@ use Rattle.pg_list.specs.Places.{item_at, items_around, picked_items, place}
 use Rattle.pg_list.specs.Shapes.{IsBlock}
 use Rattle.pg_list.proofs.Sizes.{item_count_cons, items_around_le, picked_le}
 use Rattle.pg_breaks.proofs.Lists.{get_lt}
-use Rattle.pg_flat.specs.Flat.{FlatItem, end_of, flat_items_at, flat_items_from, is_same_place, variant_flat_items}
+use Rattle.pg_list.specs.Flat.{FlatItem, end_of, flat_items_at, flat_items_from, is_same_place, variant_flat_items}
 use Rattle.pg_column.specs.Ahead.{item_place, is_front, leads_to, next_index, picks_behind, settled}
 use Rattle.pg_column.proofs.Ahead.{IsSettled, Named, is_settled, named_on, named_settled, settle, step, stop}
 use Rattle.pg_lemmas.proofs.Bools.{by_bool, if_false, if_true}

@@ -9,8 +9,8 @@ use Rattle.pg_list.specs.declared.item.Item.{Item}
 use Rattle.pg_list.specs.declared.item.Item.TheVariants.{BoxItem, Rule, Glue, Kern, Penalty, Insert, Carry}
 use Rattle.pg_list.specs.Ranges.{IsItemInRange}
 use Rattle.pg_list.specs.Shapes.{is_box, is_discardable}
-use Rattle.pg_flat.specs.Totals.{trimmed}
-use Rattle.pg_flat.proofs.SumsLaws.{trimmed_any, trimmed_skip, trimmed_push}
+use Rattle.pg_list.specs.Totals.{trimmed}
+use Rattle.pg_list.proofs.SumsLaws.{trimmed_any, trimmed_skip, trimmed_push}
 use Rattle.pg_style.specs.Ranges.{IsStyle}
 use Rattle.pg_style.specs.Values.{StyleValue}
 use Rattle.pg_style.specs.declared.style.Class.{Class}

@@ -6,8 +6,8 @@ use Rattle.pg_list.specs.declared.item.Item.{Item}
 use Rattle.pg_list.specs.declared.blocks.Block.{Block}
 use Rattle.pg_list.specs.declared.galley.Place.{Place}
 use Rattle.pg_list.specs.Shapes.{IsBlock}
-use Rattle.pg_flat.specs.Break.{passes_between}
-use Rattle.pg_flat.specs.Flat.{FlatItem, blocks_at, end_of, flat_items_at, is_same_place, picked_variants, steps_to}
+use Rattle.pg_list.specs.Break.{passes_between}
+use Rattle.pg_list.specs.Flat.{FlatItem, blocks_at, end_of, flat_items_at, is_same_place, picked_variants, steps_to}
 use Rattle.pg_style.specs.Ranges.{IsStyle}
 use Rattle.pg_breaks.specs.Near.{place_forced}
 use Rattle.pg_breaks.specs.Read.{items_at}

@@ -5,7 +5,7 @@ use Rattle.pg_list.specs.declared.blocks.Block.TheVariants.{One, Choice}
 use Rattle.pg_list.specs.declared.variants.Variant.{Variant}
 use Rattle.pg_list.specs.declared.galley.Place.{Place}
 use Rattle.pg_list.specs.Places.{item_at, place}
-use Rattle.pg_flat.specs.Flat.{FlatItem, is_same_place}
+use Rattle.pg_list.specs.Flat.{FlatItem, is_same_place}
 
 -- the block is there and is a choice
 abbrev pub is_choice : Option Block → Bool

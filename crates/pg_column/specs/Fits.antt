@@ -3,7 +3,7 @@ use Rattle.std.specs.Prelude.{◌≡◌, ℕ, Bool, false, ◌==◌, ◌&&◌, L
 use Rattle.std.specs.Option.{option_map_or}
 use Rattle.pg_list.specs.declared.blocks.Block.{Block}
 use Rattle.pg_list.specs.declared.galley.Place.{Place}
-use Rattle.pg_flat.specs.Flat.{blocks_at, flat_items_at, fronts, picked_variants, steps_to}
+use Rattle.pg_list.specs.Flat.{blocks_at, flat_items_at, fronts, picked_variants, steps_to}
 use Rattle.pg_rules.specs.Room.{ColumnContext}
 use Rattle.pg_column.specs.declared.span.Span.{Span}
 

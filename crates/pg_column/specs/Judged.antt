@@ -5,7 +5,7 @@ use Rattle.std.specs.Option.{option_map_or, option_or}
 use Rattle.pg_list.specs.declared.blocks.Block.{Block}
 use Rattle.pg_list.specs.declared.galley.Place.{Place}
 use Rattle.pg_list.specs.declared.variants.Variant.{Variant}
-use Rattle.pg_flat.specs.Flat.{FlatItem, blocks_at, end_of, flat_items_at, is_same_place, picked_variants}
+use Rattle.pg_list.specs.Flat.{FlatItem, blocks_at, end_of, flat_items_at, is_same_place, picked_variants}
 use Rattle.pg_style.specs.Values.{StyleValue}
 use Rattle.pg_breaks.specs.Near.{place_penalty, place_forced, place_spent}
 use Rattle.pg_sums.specs.Step.{badness_by, counted, no_totals}

@@ -5,3 +5,5 @@ pub mod Numbers
 pub mod Passed
 pub mod Rules
 pub mod View
+pub mod Between
+pub mod Ends

@@ -1,8 +1,8 @@
 -- The numbers of a column of text.
 use Rattle.std.specs.Prelude.{◌≡◌, ℕ, ◌+◌, ◌==◌, Bool, if◌then◌else◌, List, Some, ℤ, pos, ◌+ℤ◌, ◌-ℤ◌}
-use Rattle.pg_flat.specs.Badness.{is_over}
-use Rattle.pg_flat.specs.Break.{break_penalty}
-use Rattle.pg_flat.specs.Whole.{square}
+use Rattle.pg_list.specs.Badness.{is_over}
+use Rattle.pg_list.specs.Break.{break_penalty}
+use Rattle.pg_list.specs.Whole.{square}
 use Rattle.pg_style.specs.Values.{StyleValue}
 use Rattle.pg_sums.specs.Step.{badness_by}
 use Rattle.pg_sums.specs.declared.totals.Totals.{Totals}

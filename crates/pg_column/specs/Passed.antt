@@ -6,8 +6,8 @@ use Rattle.std.specs.Option.{option_map_or}
 use Rattle.pg_list.specs.declared.item.Item.{Item}
 use Rattle.pg_list.specs.declared.blocks.Block.{Block}
 use Rattle.pg_list.specs.declared.galley.Place.{Place}
-use Rattle.pg_flat.specs.Flat.{FlatItem}
-use Rattle.pg_flat.specs.Totals.{trimmed}
+use Rattle.pg_list.specs.Flat.{FlatItem}
+use Rattle.pg_list.specs.Totals.{trimmed}
 use Rattle.pg_style.specs.Values.{StyleValue}
 use Rattle.pg_breaks.specs.Near.{place_penalty, place_forced}
 use Rattle.pg_sums.specs.declared.totals.Totals.{Totals}

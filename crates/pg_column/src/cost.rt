@@ -1,8 +1,8 @@
 //! The numbers of a column of text, from its sums and its notes.
 ghost use Rattle.std.specs.Prelude.{◌≡◌, ◌<◌, ◌+◌, ◌^◌, ◌==◌, if◌then◌else◌, Some, take, ℕ, ℤ, pos, false, nat_abs, ◌+ℤ◌};
-ghost use Rattle.pg_flat.specs.Badness.{is_over};
-ghost use Rattle.pg_flat.specs.Break.{break_penalty, is_spent as is_spent_of};
-ghost use Rattle.pg_flat.specs.Whole.{square as square_of};
+ghost use Rattle.pg_list.specs.Badness.{is_over};
+ghost use Rattle.pg_list.specs.Break.{break_penalty, is_spent as is_spent_of};
+ghost use Rattle.pg_list.specs.Whole.{square as square_of};
 ghost use Rattle.pg_notes.specs.AreNotes.{AreNotes};
 ghost use Rattle.pg_notes.specs.NotesValue.{heights};
 ghost use Rattle.pg_style.specs.Ranges.{IsStyle};
@@ -13,12 +13,12 @@ ghost use Rattle.pg_rules.specs.Room.{ColumnContext, items_of, room as room_of};
 ghost use Rattle.pg_column.specs.Numbers.{AreNumbers, cost_by, cost_for as cost_for_goal, goal_by, is_over_by};
 
 use pg_notes::NoteSums;
+use pg_scaled::{minus, plus, square, wide};
 use pg_style::Style;
 use pg_sums::Sums;
-use pg_whole::{minus, plus, square, wide};
 
 /// The numbers of a column of text. Lengths are in scaled points, 65536 to the point.
-#[derive(Clone, Copy, Debug, PartialEq, Eq)]
+#[derive(Clone, Copy, PartialEq, Eq)]
 pub struct TextCost {
     /// What the notes leave of the column's room.
     pub goal: i64,

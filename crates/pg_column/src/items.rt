@@ -5,7 +5,7 @@ ghost use Rattle.std.specs.Option.{option_copied};
 ghost use Rattle.pg_list.specs.Counts.{item_count};
 ghost use Rattle.pg_list.specs.Places.{item_at as item_at_of};
 ghost use Rattle.pg_list.specs.Shapes.{IsBlock};
-ghost use Rattle.pg_flat.specs.Flat.{blocks_at as blocks_at_of, end_of, is_same_place as is_same_place_of};
+ghost use Rattle.pg_list.specs.Flat.{blocks_at as blocks_at_of, end_of, is_same_place as is_same_place_of};
 ghost use Rattle.pg_column.specs.Ahead.{first_pick as first_pick_of, item_place as item_place_of, is_choice as is_choice_of, is_front as is_front_of, next_index, picks_behind as picks_behind_of, settled as settled_of};
 
 use pg_list::{Block, Galley, Item, Place, items_around};

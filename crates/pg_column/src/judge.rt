@@ -3,7 +3,7 @@ ghost use Rattle.std.specs.Prelude.{◌≡◌, ◌<◌, ◌≤◌, ◌+◌, ◌^
 ghost use Rattle.std.specs.List.{AllByRecursion};
 ghost use Rattle.std.specs.Option.{option_map_or};
 ghost use Rattle.pg_list.specs.Shapes.{IsBlock};
-ghost use Rattle.pg_flat.specs.Flat.{blocks_at, end_of, flat_items_at, is_same_place as is_same_place_of};
+ghost use Rattle.pg_list.specs.Flat.{blocks_at, end_of, flat_items_at, is_same_place as is_same_place_of};
 ghost use Rattle.pg_style.specs.Ranges.{IsStyle};
 ghost use Rattle.pg_rules.specs.Legal.{document};
 ghost use Rattle.pg_rules.specs.Room.{ColumnContext, room as room_of};

@@ -6,7 +6,7 @@ ghost use Rattle.pg_column.specs.Rules.{rule_number};
 use crate::cost::TextCost;
 
 /// A rule of a legal pagination that speaks of the text of one column.
-#[derive(Clone, Copy, Debug, PartialEq, Eq)]
+#[derive(Clone, Copy, PartialEq, Eq)]
 pub enum TextRule {
     /// Rule 3: the text has a box or rule, and ends at a break.
     Shape,
@@ -39,7 +39,7 @@ impl TextRule {
 }
 
 /// Which of the rules behind the third a text that is not over keeps.
-#[derive(Clone, Copy, Debug)]
+#[derive(Clone, Copy)]
 pub struct KeptRules {
     pub tolerance: bool,
     pub breaks: bool,

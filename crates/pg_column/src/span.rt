@@ -5,7 +5,7 @@ ghost use Rattle.std.specs.Option.{option_copied};
 ghost use Rattle.pg_list.specs.Counts.{item_count};
 ghost use Rattle.pg_list.specs.Places.{item_at as item_at_of};
 ghost use Rattle.pg_list.specs.Shapes.{IsBlock};
-ghost use Rattle.pg_flat.specs.Flat.{blocks_at as blocks_at_of, end_of, flat_items_at, is_same_place as is_same_place_of, picked_variants};
+ghost use Rattle.pg_list.specs.Flat.{blocks_at as blocks_at_of, end_of, flat_items_at, is_same_place as is_same_place_of, picked_variants};
 ghost use Rattle.pg_rules.specs.ColumnRules.{does_fit};
 ghost use Rattle.pg_rules.specs.Room.{ColumnContext};
 ghost use Rattle.pg_column.specs.Ahead.{item_place as item_place_of, is_front as is_front_of, leads_to, picks_past as picks_past_of};

@@ -1,7 +1,7 @@
 //! What is kept along a span.
 ghost use Rattle.std.specs.Prelude.{◌≡◌, ◌<◌, ◌≤◌, ◌+◌, ◌^◌, ◌&&◌, Bool, nat_abs, is_none, int_le, nat_le, ◌||◌};
 ghost use Rattle.pg_list.specs.Ranges.{IsItemInRange};
-ghost use Rattle.pg_flat.specs.Flat.{FlatItem};
+ghost use Rattle.pg_list.specs.Flat.{FlatItem};
 ghost use Rattle.pg_notes.specs.NotesValue.{first_over_limit};
 ghost use Rattle.pg_breaks.specs.Near.{place_forced};
 ghost use Rattle.pg_rules.specs.Legal.{document};
@@ -18,7 +18,7 @@ use pg_style::Style;
 use pg_sums::Sums;
 
 /// The sums and notes of the items so far, and whether no break among them behind a box is forced or over in the room.
-#[derive(Clone, Copy, Debug)]
+#[derive(Clone, Copy)]
 pub struct Walked {
     pub sums: Sums,
     pub notes: NoteSums,

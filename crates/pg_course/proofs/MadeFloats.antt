@@ -14,7 +14,7 @@ use Rattle.pg_list.specs.Places.{picked_items}
 use Rattle.pg_list.specs.Shapes.{is_insert}
 use Rattle.pg_style.specs.Classes.{class_in}
 use Rattle.pg_style.specs.Values.{StyleValue}
-use Rattle.pg_flat.specs.Flat.{flat}
+use Rattle.pg_list.specs.Flat.{flat}
 use Rattle.pg_rules.specs.Floats.{float_numbers, sizes_of}
 use Rattle.pg_floats.specs.AreFloats.{MakesList, float_total, unknown_class}
 use Rattle.pg_floats.specs.declared.fault.FloatFault.{FloatFault}

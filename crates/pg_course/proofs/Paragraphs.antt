@@ -10,7 +10,7 @@ use Rattle.law_lines.specs.declared.rule.LineRule.{LineRule}
 use Rattle.law_lines.specs.declared.rule.LineFault.{LineFault}
 use Rattle.law_lines.specs.declared.rule.LineFault.TheVariants as fault
 use Rattle.law_lines.specs.Galleys.{Broken}
-use Rattle.pg_variants.specs.Answers.{AnswersLines}
+use Rattle.pg_lines.specs.Answers.{AnswersLines}
 use Rattle.pg_command.specs.declared.ending.Ending.{Ending}
 use Rattle.pg_command.specs.declared.status.Status.TheVariants.{Refused}
 use Rattle.pg_command.specs.Lines.{paragraph_line}

@@ -29,8 +29,8 @@ use pg_pages::print_none;
 use pg_plan::Pagination;
 use pg_session::Session;
 use pg_space::Outcome;
-use pg_steps::Steps;
 use pg_style::Style;
+use pg_table::Steps;
 use std::alloc::{AllocError, Global};
 use std::sync::ledger::Ledger;
 

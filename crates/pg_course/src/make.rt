@@ -22,7 +22,7 @@ use pg_list::Galley;
 use pg_make::{MakeFault, make_galley, make_style};
 use pg_outside::Sink;
 use pg_session::Session;
-use pg_steps::Steps;
+use pg_table::Steps;
 use std::alloc::{AllocError, Global};
 use std::sync::ledger::Ledger;
 

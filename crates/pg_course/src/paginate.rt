@@ -16,8 +16,8 @@ use pg_pages::{print_none, print_pages};
 use pg_plan::LabelList;
 use pg_session::Session;
 use pg_space::Outcome;
-use pg_steps::Steps;
 use pg_style::Style;
+use pg_table::Steps;
 use std::alloc::{AllocError, Global};
 use std::sync::ledger::Ledger;
 

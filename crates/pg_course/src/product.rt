@@ -16,7 +16,7 @@ use pg_command::Ending;
 use pg_outside::Sink;
 use pg_plan::Pagination;
 use pg_session::Session;
-use pg_steps::Steps;
+use pg_table::Steps;
 use std::alloc::Global;
 use std::sync::ledger::Ledger;
 

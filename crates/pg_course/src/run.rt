@@ -18,8 +18,8 @@ use pg_floats::FloatFault;
 use pg_list::Galley;
 use pg_outside::{Shelf, Sink};
 use pg_session::Session;
-use pg_steps::Steps;
 use pg_style::Style;
+use pg_table::Steps;
 use std::alloc::Global;
 use std::sync::ledger::Ledger;
 

@@ -14,8 +14,7 @@ use crate::hints::{Hints, hints_of};
 use pg_list::Place;
 use pg_plan::compare_places;
 use pg_small::{SmallLabel, SmallMove, SmallState};
-use pg_steps::Steps;
-use pg_table::{Offering, Space, Step, StepList};
+use pg_table::{Offering, Space, Step, StepList, Steps};
 use std::alloc::{AllocError, Global};
 use std::sync::ledger::Ledger;
 
@@ -186,7 +185,7 @@ fn open_of<S: Offering<State = SmallState, Move = SmallMove>, L: Ledger>(
 
 /// A label, by its index from 0, behind which stands a column that leads to what no label covers, and the least place
 /// where such a column ends.
-#[derive(Clone, Copy, Debug, PartialEq, Eq)]
+#[derive(Clone, Copy, PartialEq, Eq)]
 pub struct Open {
     pub index: usize,
     pub to: Place,

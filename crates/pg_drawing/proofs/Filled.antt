@@ -3,7 +3,7 @@ use Rattle.std.proofs.Common.{◌≡◌, ◌∙◌, refl, ap, sym, ℕ, Bool, tr
 use Rattle.std.proofs.Math.IntN.{+ℤ_assoc, +ℤ_idl, +ℤ_idr}
 use Rattle.std.specs.List.{filter}
 use Rattle.std.specs.Prelude.{◌+ℤ◌, if◌then◌else◌}
-use Rattle.pg_flat.specs.Whole.{whole_sum_by}
+use Rattle.pg_list.specs.Whole.{whole_sum_by}
 use Rattle.pg_drawing.specs.Drawn.{area_of, item_extent, items_of, marks_from}
 use Rattle.pg_drawing.specs.Laws.{Adjoin, AreItsItems, IsFilled, line_extent}
 use Rattle.pg_drawing.specs.Pieces.{Lines, begins, cut, until}

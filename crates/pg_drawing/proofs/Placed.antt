@@ -4,7 +4,7 @@ use Rattle.std.proofs.Math.IntN.{+ℤ_assoc}
 use Rattle.std.specs.Prelude.{◌+ℤ◌, Option, Some, None, IfSome}
 use Rattle.std.specs.Borrow.{Bor}
 use Rattle.std.specs.Option.{option_map_or}
-use Rattle.pg_flat.specs.Whole.{whole_sum_by}
+use Rattle.pg_list.specs.Whole.{whole_sum_by}
 use Rattle.pg_drawing.specs.Drawn.{item_extent, mark_at, marks_from}
 use Rattle.pg_drawing.specs.Pieces.{Lines, begins, cut, texts, told}
 use Rattle.pg_drawing.specs.declared.pieces.Kind.TheVariants as at

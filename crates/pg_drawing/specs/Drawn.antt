@@ -2,7 +2,7 @@
 use Rattle.std.specs.Prelude.{ℕ, ◌^◌, if◌then◌else◌, List, [], ◌∷◌, map, Option, Some, None, ℤ, pos, ◌+ℤ◌, codes}
 use Rattle.std.specs.Option.{option_map}
 use Rattle.std.specs.Str.{bytes_eq}
-use Rattle.pg_flat.specs.Whole.{whole_sum_by}
+use Rattle.pg_list.specs.Whole.{whole_sum_by}
 use Rattle.pg_scan.specs.Parts.{first_part, parts_of}
 use Rattle.pg_words.specs.InOrder.{any_word, due, ended, next, place_at, words_of}
 use Rattle.pg_words.specs.Read.{◌>>=◌, number_below, scaled_word, side_word, whole_word}

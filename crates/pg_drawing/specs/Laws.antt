@@ -2,7 +2,7 @@
 use Rattle.std.specs.Prelude.{◌≡◌, ◌≤ℤ◌, ◌-ℤ◌, true, ℕ, List, [], ◌∷◌, map, ℤ, pos, ◌+ℤ◌}
 use Rattle.std.specs.Int.{int_min}
 use Rattle.std.specs.List.{filter}
-use Rattle.pg_flat.specs.Whole.{whole_sum_by}
+use Rattle.pg_list.specs.Whole.{whole_sum_by}
 use Rattle.pg_drawing.specs.Drawn.{area_of}
 use Rattle.pg_drawing.specs.Pieces.{Lines, begins}
 use Rattle.pg_drawing.specs.Shapes.{extent, shape_of}

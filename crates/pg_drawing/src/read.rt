@@ -1,6 +1,6 @@
 //! A page text, read into a drawing.
 ghost use Rattle.std.specs.Prelude.{◌≡◌, ◌++◌, ◌∷◌, ◌<◌, ◌≤◌, ◌+◌, ◌^◌, ◌+ℤ◌, [], map, nat_abs, pos, IfOk, OnOk};
-ghost use Rattle.pg_flat.specs.Whole.{whole_sum_by};
+ghost use Rattle.pg_list.specs.Whole.{whole_sum_by};
 ghost use Rattle.pg_scan.specs.Parts.{first_part, parts_of};
 ghost use Rattle.pg_drawing.specs.Drawn.{area_of, areas_of, column_of, columns_of, drawing_of, drawn, item_extent, items_of, mark_at, marks_from, page_of, pages_of};
 ghost use Rattle.pg_drawing.specs.Pieces.{texts, told};

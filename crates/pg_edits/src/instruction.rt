@@ -10,7 +10,7 @@ use pg_words::Words;
 
 /// What a line says: nothing; to show the galley; to take `gone` blocks out from `at`; or to put the blocks of the item
 /// lines behind it there in their place.
-#[derive(Clone, Copy, Debug, PartialEq, Eq)]
+#[derive(Clone, Copy, PartialEq, Eq)]
 pub enum Instruction {
     Nothing,
     Show,

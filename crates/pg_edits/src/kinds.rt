@@ -5,7 +5,7 @@ ghost use Rattle.pg_edits.specs.Kinds.{script_number};
 use pg_showbox::ListKind;
 
 /// Why a text is no script. The numbers of the kinds are 1 to 5 in this order.
-#[derive(Clone, Copy, Debug, PartialEq, Eq)]
+#[derive(Clone, Copy, PartialEq, Eq)]
 pub enum ScriptKind {
     /// A line whose first word is none of the four, or an item line that follows no `insert` or `replace`.
     UnknownWord,
@@ -36,7 +36,7 @@ impl ScriptKind {
 
 /// A fault, and the line that has it. Lines count from 1; a choice that the item lines leave open has its fault at the
 /// line after them.
-#[derive(Clone, Copy, Debug, PartialEq, Eq)]
+#[derive(Clone, Copy, PartialEq, Eq)]
 pub struct ScriptFault {
     pub line: u32,
     pub kind: ScriptKind,

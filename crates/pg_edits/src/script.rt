@@ -6,14 +6,14 @@ use std::alloc::{AllocError, Global};
 use std::marker::Model;
 
 /// A step of a script: an edit of the galley, or to show the galley as it stands.
-#[derive(Debug, Drop)]
+#[derive(Drop)]
 pub enum ScriptStep {
     Change(Edit),
     Show,
 }
 
 /// Steps in their order.
-#[derive(Debug, Drop)]
+#[derive(Drop)]
 pub struct Script {
     steps: Vec<ScriptStep>,
 }

@@ -12,7 +12,7 @@ use Rattle.pg_list.specs.declared.blocks.Block.{Block}
 use Rattle.pg_list.specs.declared.galley.Place.{Place}
 use Rattle.pg_list.specs.Places.{picked_items, items_around}
 use Rattle.pg_list.specs.Shapes.{IsBlock}
-use Rattle.pg_flat.specs.Flat.{flat, items_before}
+use Rattle.pg_list.specs.Flat.{flat, items_before}
 use Rattle.pg_style.specs.Values.{StyleValue}
 use Rattle.pg_rules.specs.Floats.{sizes_of, insert_size, float_numbers, called, entry}
 use Rattle.law_places.proofs.Measures.{inserted_append}

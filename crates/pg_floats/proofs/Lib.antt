@@ -1,4 +1,4 @@
-pub mod Areas
+pub mod AreaSums
 pub mod Called
 pub mod Lists
 pub mod Numbers
@@ -6,3 +6,9 @@ pub mod Parts
 pub mod Places
 pub mod Queues
 pub mod History
+pub mod Ranges
+pub mod Takes
+pub mod Capped
+pub mod Heights
+pub mod Dealt
+pub mod Spents

@@ -16,7 +16,7 @@ use Rattle.pg_list.specs.Counts.{item_count, block_size}
 use Rattle.pg_list.specs.Places.{picked_items}
 use Rattle.pg_list.specs.Ranges.{IsItemInRange}
 use Rattle.pg_list.specs.Shapes.{IsBlock}
-use Rattle.pg_flat.specs.Flat.{FlatItem, flat, flat_items_from, variant_flat_items}
+use Rattle.pg_list.specs.Flat.{FlatItem, flat, flat_items_from, variant_flat_items}
 use Rattle.pg_style.specs.Classes.{class_in, is_float_class}
 use Rattle.pg_style.specs.Ranges.{AreClasses}
 use Rattle.pg_style.specs.Values.{StyleValue}

@@ -5,7 +5,7 @@ use Rattle.std.specs.List.{sum_by, AllByRecursion}
 use Rattle.pg_list.specs.Shapes.{IsBlock}
 use Rattle.std.specs.Option.{option_map_or}
 use Rattle.pg_list.specs.declared.blocks.Block.{Block}
-use Rattle.pg_flat.specs.Flat.{flat}
+use Rattle.pg_list.specs.Flat.{flat}
 use Rattle.pg_style.specs.Values.{StyleValue, AreaRuleValue}
 use Rattle.pg_rules.specs.Floats.{float_numbers, floats, dealt, has_all, area_height}
 use Rattle.pg_floats.specs.FloatsValue.{ClassFloatsValue, total_of}

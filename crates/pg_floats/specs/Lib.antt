@@ -5,3 +5,6 @@ pub mod FloatsValue
 pub mod Places
 pub mod QueueValue
 pub mod History
+pub mod Spots
+pub mod Counts
+pub mod Given

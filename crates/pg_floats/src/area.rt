@@ -13,7 +13,7 @@ use pg_plan::Counts;
 use pg_style::AreaRule;
 
 /// Floats dealt out: how many, and their sizes together in scaled points.
-#[derive(Clone, Copy, Debug, PartialEq, Eq)]
+#[derive(Clone, Copy, PartialEq, Eq)]
 pub struct Dealt {
     pub count: u64,
     pub sizes: u64,

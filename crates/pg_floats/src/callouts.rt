@@ -15,14 +15,14 @@ use std::marker::Model;
 use std::slice;
 
 /// Where a float is called, and its size in scaled points.
-#[derive(Clone, Copy, Debug, PartialEq, Eq)]
+#[derive(Clone, Copy, PartialEq, Eq)]
 pub struct Callout {
     pub block: u32,
     pub size: u32,
 }
 
 /// Callouts in order.
-#[derive(Debug, Drop)]
+#[derive(Drop)]
 pub struct Callouts {
     items: Vec<Callout>,
 }

@@ -9,7 +9,7 @@ ghost use Rattle.pg_list.specs.Shapes.{IsBlock};
 ghost use Rattle.pg_list.specs.declared.blocks.Block.{Block as ABlock};
 ghost use Rattle.pg_style.specs.Values.{StyleValue};
 ghost use Rattle.pg_style.specs.Ranges.{AreClasses};
-ghost use Rattle.pg_flat.specs.Flat.{items_before};
+ghost use Rattle.pg_list.specs.Flat.{items_before};
 ghost use Rattle.pg_rules.specs.Floats.{called, entry, floats, sizes_of};
 ghost use Rattle.pg_floats.specs.declared.callouts.Callout.{Callout as ACallout};
 ghost use Rattle.pg_floats.specs.Areas.{has_dealt, IsDealt};
@@ -29,7 +29,7 @@ use std::alloc::{AllocError, Global};
 use std::marker::Model;
 
 /// The floats of a class, in order, and the places of their inserts in every variant.
-#[derive(Debug, Drop)]
+#[derive(Drop)]
 pub struct ClassFloats {
     pub number: u8,
     pub callouts: Callouts,
@@ -47,7 +47,7 @@ impl Model for ClassFloats {
 }
 
 /// The floats of a galley by class, the float classes of the style in increasing number.
-#[derive(Debug, Drop)]
+#[derive(Drop)]
 pub struct FloatList {
     classes: Vec<ClassFloats>,
 }

@@ -37,7 +37,7 @@ impl Model for Queue {
 }
 
 /// A float has waited for as many pages as its class's table has entries.
-#[derive(Clone, Copy, Debug, PartialEq, Eq)]
+#[derive(Clone, Copy, PartialEq, Eq)]
 pub struct Late {
     pub slot: usize,
     pub age: u8,

@@ -5,7 +5,7 @@ use Rattle.std.specs.List.{AllByRecursion}
 use Rattle.std.proofs.Math.Nat.{div-le_self, mul-le-mul}
 use Rattle.std.proofs.lemmas.Int.{ints, unsigned_abs-mul}
 use Rattle.pg_list.specs.declared.item.Order.{Order}
-use Rattle.pg_flat.specs.Totals.{is_same_order}
+use Rattle.pg_list.specs.Totals.{is_same_order}
 use Rattle.pg_lemmas.proofs.Lists.{all_append}
 use Rattle.pg_glue.specs.declared.Elastic.{Elastic}
 use Rattle.pg_glue.specs.declared.Sense.{Sense}

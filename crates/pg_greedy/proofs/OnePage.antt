@@ -1,7 +1,7 @@
 -- One page more.
 use Rattle.std.proofs.Common.{◌≡◌, ◌∙◌, refl, sym, ap, subst, arith, ℕ, zero, suc, ◌+◌, ◌≤◌, false, List, [], ◌∷◌, ◌++◌, append_assoc, drop, length, inl, inr}
 use Rattle.pg_list.specs.declared.item.Item.{Item}
-use Rattle.pg_flat.specs.Break.{is_spent}
+use Rattle.pg_list.specs.Break.{is_spent}
 use Rattle.pg_plan.specs.declared.pages.Page.{Page}
 use Rattle.pg_style.specs.Values.{StyleValue}
 use Rattle.pg_greedy.specs.FirstFit.{AreFirstFit, Takes, fit_page}

@@ -12,9 +12,9 @@ use Rattle.pg_list.specs.Shapes.{IsBlock, is_box}
 use Rattle.pg_list.specs.declared.blocks.Block.{Block}
 use Rattle.pg_list.specs.declared.galley.Place.{Place}
 use Rattle.pg_list.specs.declared.item.Item.{Item}
-use Rattle.pg_flat.specs.Break.{break_penalty, is_spent}
-use Rattle.pg_flat.specs.Flat.{blocks_at, flat_items_at, steps_to}
-use Rattle.pg_flat.specs.Totals.{trimmed}
+use Rattle.pg_list.specs.Break.{break_penalty, is_spent}
+use Rattle.pg_list.specs.Flat.{blocks_at, flat_items_at, steps_to}
+use Rattle.pg_list.specs.Totals.{trimmed}
 use Rattle.pg_breaks.specs.Read.{AreNamed, items_at}
 use Rattle.pg_column.proofs.Spans.{item_range}
 use Rattle.pg_rules.specs.Room.{extra, notes}

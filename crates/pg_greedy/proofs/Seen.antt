@@ -6,9 +6,9 @@ use Rattle.pg_lemmas.proofs.Bools.{both, if_false, if_true}
 use Rattle.pg_lemmas.proofs.Numbers.{eq_yes}
 use Rattle.pg_list.specs.Shapes.{is_box}
 use Rattle.pg_list.specs.declared.item.Item.{Item}
-use Rattle.pg_flat.specs.Badness.{is_over, page_badness}
-use Rattle.pg_flat.specs.Break.{break_penalty, is_spent}
-use Rattle.pg_flat.specs.Totals.{shrink}
+use Rattle.pg_list.specs.Badness.{is_over, page_badness}
+use Rattle.pg_list.specs.Break.{break_penalty, is_spent}
+use Rattle.pg_list.specs.Totals.{shrink}
 use Rattle.pg_style.specs.Values.{StyleValue}
 use Rattle.pg_greedy.specs.Ahead.{better, look}
 use Rattle.pg_greedy.specs.Breaks.{badness_at, break_cost, cost_by, front, front_goal, front_total, is_over_at, is_seen, penalty_at, stops_at}

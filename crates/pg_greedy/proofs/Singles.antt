@@ -10,7 +10,7 @@ use Rattle.pg_list.specs.Places.{item_at, place}
 use Rattle.pg_list.specs.declared.blocks.Block.{Block}
 use Rattle.pg_list.specs.declared.blocks.Block.TheVariants.{One, Choice}
 use Rattle.pg_list.specs.declared.item.Item.{Item}
-use Rattle.pg_flat.specs.Flat.{FlatItem, end_of, flat, flat_items_at, flat_items_from, is_same_place, steps_to}
+use Rattle.pg_list.specs.Flat.{FlatItem, end_of, flat, flat_items_at, flat_items_from, is_same_place, steps_to}
 use Rattle.pg_breaks.specs.Read.{AreNamed, items_at}
 use Rattle.pg_column.proofs.Leads.{is_at, position_here, position_later}
 use Rattle.pg_style.specs.Values.{StyleValue}

@@ -1,7 +1,7 @@
 -- How the builder looks ahead. It is proved to find first fit; nobody need believe what stands here.
 use Rattle.std.specs.Prelude.{◌≡◌, ℕ, suc, ◌+◌, ◌≤◌, ◌<◌, ◌^◌, if◌then◌else◌, List, length, take, drop, is_some, nat_abs, Option, Some, None, IfSome, option_map, ℤ, ◌+ℤ◌}
 use Rattle.pg_list.specs.declared.item.Item.{Item}
-use Rattle.pg_flat.specs.Break.{break_penalty}
+use Rattle.pg_list.specs.Break.{break_penalty}
 use Rattle.pg_style.specs.Values.{StyleValue}
 use Rattle.pg_rules.specs.Room.{extra}
 use Rattle.pg_notes.specs.AreNotes.{AreNotes}

@@ -1,7 +1,7 @@
 //! Faults of first fit.
 
 /// Why a galley has no first fit.
-#[derive(Debug, Drop)]
+#[derive(Drop)]
 pub enum GreedyFault {
     /// The style has two columns.
     Columns,

@@ -15,8 +15,8 @@ use pg_breaks::{break_cost, is_spent};
 use pg_column::blocks_of;
 use pg_list::{Galley, Item, Place};
 use pg_notes::front_has_no_notes;
+use pg_scaled::minus;
 use pg_style::Style;
-use pg_whole::minus;
 
 /// A galley without choices, a style, and the room of its run 0.
 #[derive(Clone, Copy)]

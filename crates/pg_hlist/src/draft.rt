@@ -13,7 +13,7 @@ use pg_showbox::ListKind;
 use std::alloc::{AllocError, Global};
 
 /// What was read so far: the paragraphs that have ended, and the items of the one that has not.
-#[derive(Debug, Drop)]
+#[derive(Drop)]
 pub struct Draft {
     pub paras: Paras,
     pub current: Option<Para>,

@@ -49,7 +49,7 @@ impl HItem {
 }
 
 /// The items of a paragraph, at most 2^11, each within the ranges of a list.
-#[derive(Debug, Drop)]
+#[derive(Drop)]
 pub struct Para {
     items: Vec<HItem>,
 }
@@ -118,7 +118,7 @@ impl Para {
 }
 
 /// Paragraphs in order.
-#[derive(Debug, Drop)]
+#[derive(Drop)]
 pub struct Paras {
     items: Vec<Para>,
 }

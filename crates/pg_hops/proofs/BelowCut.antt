@@ -8,10 +8,10 @@ use Rattle.pg_list.specs.declared.item.Item.{Item}
 use Rattle.pg_list.specs.declared.blocks.Block.{Block}
 use Rattle.pg_list.specs.declared.blocks.Block.TheVariants.{One, Choice}
 use Rattle.pg_list.specs.declared.galley.Place.{Place}
-use Rattle.pg_flat.specs.Break.{is_glue}
+use Rattle.pg_list.specs.Break.{is_glue}
 use Rattle.pg_breaks.specs.Near.{begins_with_glue, front_follows, glue_after, glue_first, index_follows, near_penalty, place_penalty, solid_before}
-use Rattle.pg_stretch.specs.Ahead.{before, is_behind, item_ahead, place_ahead, settled, single_in, stepped}
-use Rattle.pg_stretch.specs.declared.cursor.Cursor.{Cursor}
+use Rattle.pg_hops.specs.Ahead.{before, is_behind, item_ahead, place_ahead, settled, single_in, stepped}
+use Rattle.pg_hops.specs.declared.cursor.Cursor.{Cursor}
 use Rattle.pg_hops.specs.Hop.{HopValue, IsHop, IsHopAt, ends_hop, past_one, past_plain, standing}
 
 -- the blocks below one are the same

@@ -11,15 +11,15 @@ use Rattle.pg_list.specs.declared.blocks.Block.{Block}
 use Rattle.pg_list.specs.declared.blocks.Block.TheVariants.{One, Choice}
 use Rattle.pg_list.specs.Places.{item_at, picked_items, place}
 use Rattle.pg_list.specs.Shapes.{BeginsWithBox, IsBlock, IsVariant, is_box, is_insert}
-use Rattle.pg_flat.specs.Break.{is_forcing}
+use Rattle.pg_list.specs.Break.{is_forcing}
 use Rattle.pg_breaks.specs.Near.{glue_after, near_penalty, place_forced, place_penalty, solid_before, text_after}
 use Rattle.pg_lemmas.proofs.Bools.{by_bool}
 use Rattle.pg_lemmas.proofs.Numbers.{suc_not}
-use Rattle.pg_stretch.specs.declared.cursor.Cursor.{Cursor}
-use Rattle.pg_stretch.specs.Ahead.{item_ahead, place_ahead}
-use Rattle.pg_stretch.specs.Told.{told}
-use Rattle.pg_stretch.proofs.Cursors.{single_got, single_item}
-use Rattle.pg_stretch.proofs.Telling.{told_break}
+use Rattle.pg_hops.specs.declared.cursor.Cursor.{Cursor}
+use Rattle.pg_hops.specs.Ahead.{item_ahead, place_ahead}
+use Rattle.pg_hops.specs.Told.{told}
+use Rattle.pg_hops.proofs.Cursors.{single_got, single_item}
+use Rattle.pg_hops.proofs.Telling.{told_break}
 
 -- ---- a choice begins with a box in each variant
 

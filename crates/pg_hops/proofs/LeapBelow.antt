@@ -6,8 +6,8 @@ use Rattle.pg_list.specs.Shapes.{is_insert}
 use Rattle.pg_list.specs.declared.item.Item.{Item}
 use Rattle.pg_list.specs.declared.blocks.Block.{Block}
 use Rattle.pg_column.specs.Passed.{raised}
-use Rattle.pg_stretch.specs.Ahead.{item_ahead}
-use Rattle.pg_stretch.specs.declared.cursor.Cursor.{Cursor}
+use Rattle.pg_hops.specs.Ahead.{item_ahead}
+use Rattle.pg_hops.specs.declared.cursor.Cursor.{Cursor}
 use Rattle.pg_hops.specs.Hop.{HopValue, past_one, standing}
 use Rattle.pg_hops.specs.Leap.{IsLeap, IsLeapAt, LeapValue, Leaping, asked, leap_begun, leap_on, leap_one, may_cross, may_leap}
 use Rattle.pg_hops.proofs.BelowCut.{SameBlocks, ahead_same, break_same, near_next, one_same}

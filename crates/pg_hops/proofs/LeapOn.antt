@@ -9,18 +9,18 @@ use Rattle.std.proofs.lemmas.Int.{clamps, ints}
 use Rattle.pg_list.specs.declared.item.Item.{Item}
 use Rattle.pg_list.specs.declared.blocks.Block.{Block}
 use Rattle.pg_list.specs.Shapes.{IsBlock, is_insert}
-use Rattle.pg_flat.specs.Break.{is_forcing}
-use Rattle.pg_flat.specs.Flat.{FlatItem}
+use Rattle.pg_list.specs.Break.{is_forcing}
+use Rattle.pg_list.specs.Flat.{FlatItem}
 use Rattle.pg_lemmas.proofs.Bools.{both_of, by_bool, if_true, not_true}
 use Rattle.pg_rules.specs.Room.{Document}
 use Rattle.pg_column.specs.Passed.{Passed, crossed, fits, least_room, note_height, pass_item, pass_items, raised, with_next}
 use Rattle.law_walk.specs.Reached.{reach_along}
 use Rattle.law_walk.specs.Walk.{past_stretch}
 use Rattle.law_walk.proofs.Stretches.{items_fit}
-use Rattle.pg_shift.specs.declared.shift.Shift.{Shift}
-use Rattle.pg_shift.specs.Shift.{with_shift}
-use Rattle.pg_stretch.specs.declared.cursor.Cursor.{Cursor}
-use Rattle.pg_stretch.specs.Ahead.{front_ahead, item_ahead, items_ahead, settled, stepped}
+use Rattle.pg_hops.specs.declared.shift.Shift.{Shift}
+use Rattle.pg_hops.specs.Shift.{with_shift}
+use Rattle.pg_hops.specs.declared.cursor.Cursor.{Cursor}
+use Rattle.pg_hops.specs.Ahead.{front_ahead, item_ahead, items_ahead, settled, stepped}
 use Rattle.pg_hops.specs.Goes.{Goes}
 use Rattle.pg_hops.specs.Hop.{moved}
 use Rattle.pg_hops.specs.Leap.{GoesFar, IsLeap, IsLeapAt, IsLeapOver, LeapValue, Leaping, Serves, asked, asked_before, is_break_ahead, leap_begun, leap_one, leapt, may_cross, may_leap}

@@ -7,12 +7,12 @@ use Rattle.pg_list.specs.declared.item.Item.{Item}
 use Rattle.pg_list.specs.declared.blocks.Block.{Block}
 use Rattle.pg_lemmas.proofs.Bools.{if_true}
 use Rattle.pg_column.specs.Passed.{raised}
-use Rattle.pg_flat.specs.Break.{is_forcing}
-use Rattle.pg_stretch.specs.Ahead.{item_ahead, settled, stepped}
-use Rattle.pg_stretch.specs.declared.cursor.Cursor.{Cursor}
-use Rattle.pg_shift.specs.Bounds.{AddedValue}
-use Rattle.pg_shift.specs.Shift.{with_shift}
-use Rattle.pg_shift.specs.declared.shift.Shift.{Shift}
+use Rattle.pg_list.specs.Break.{is_forcing}
+use Rattle.pg_hops.specs.Ahead.{item_ahead, settled, stepped}
+use Rattle.pg_hops.specs.declared.cursor.Cursor.{Cursor}
+use Rattle.pg_hops.specs.Bounds.{AddedValue}
+use Rattle.pg_hops.specs.Shift.{with_shift}
+use Rattle.pg_hops.specs.declared.shift.Shift.{Shift}
 use Rattle.pg_hops.specs.Leap.{IsLeap, IsLeapAt, Leaping, asked, is_break_ahead, leap_begun, leap_on, leap_one, may_leap}
 
 module _ (blocks : List Block) (maxdepth : ℤ) where

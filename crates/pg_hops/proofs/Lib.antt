@@ -1,3 +1,10 @@
+pub mod Cursors
+pub mod Telling
+pub mod Along
+pub mod Left
+pub mod Quiet
+pub mod Light
+pub mod Shifting
 pub mod FreeBreak
 pub mod OneStep
 pub mod PlainOn

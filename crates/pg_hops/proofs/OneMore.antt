@@ -7,12 +7,12 @@ use Rattle.pg_list.specs.declared.item.Item.{Item}
 use Rattle.pg_list.specs.declared.blocks.Block.{Block}
 use Rattle.pg_lemmas.proofs.Bools.{if_false}
 use Rattle.pg_breaks.specs.Near.{place_penalty}
-use Rattle.pg_flat.specs.Break.{is_forcing}
-use Rattle.pg_stretch.specs.Ahead.{item_ahead, place_ahead, settled, stepped}
-use Rattle.pg_stretch.specs.declared.cursor.Cursor.{Cursor}
-use Rattle.pg_shift.specs.Bounds.{AddedValue}
-use Rattle.pg_shift.specs.Shift.{with_shift}
-use Rattle.pg_shift.specs.declared.shift.Shift.{Shift}
+use Rattle.pg_list.specs.Break.{is_forcing}
+use Rattle.pg_hops.specs.Ahead.{item_ahead, place_ahead, settled, stepped}
+use Rattle.pg_hops.specs.declared.cursor.Cursor.{Cursor}
+use Rattle.pg_hops.specs.Bounds.{AddedValue}
+use Rattle.pg_hops.specs.Shift.{with_shift}
+use Rattle.pg_hops.specs.declared.shift.Shift.{Shift}
 use Rattle.pg_hops.specs.Hop.{HopValue, IsHop, IsHopAt, IsHopOver, ends_hop, past_one, past_plain, standing}
 
 module _ (blocks : List Block) (maxdepth : ℤ) where

@@ -6,7 +6,7 @@ use Rattle.std.specs.Ordering.{int_eq}
 use Rattle.pg_list.specs.declared.item.Item.{Item}
 use Rattle.pg_list.specs.declared.galley.Place.{Place}
 use Rattle.pg_list.specs.Places.{place}
-use Rattle.pg_flat.specs.Flat.{FlatItem}
+use Rattle.pg_list.specs.Flat.{FlatItem}
 use Rattle.pg_lemmas.proofs.Bools.{if_false, if_true}
 use Rattle.pg_notes.specs.declared.sums.NoteSum.{NoteSum}
 use Rattle.pg_notes.specs.NotesValue.{heights}
@@ -15,11 +15,11 @@ use Rattle.pg_column.specs.Passed.{Passed, are_within, fits, is_end_here, pass_i
 use Rattle.law_walk.specs.Candidates.{Candidate}
 use Rattle.law_walk.specs.Reached.{reach_along}
 use Rattle.law_walk.specs.Walk.{end_here, ends_along, past_stretch}
-use Rattle.pg_stretch.specs.declared.cursor.Cursor.{Cursor}
-use Rattle.pg_stretch.specs.Ahead.{IsSettled, front_ahead, item_ahead, items_ahead, place_ahead, settled, stepped}
-use Rattle.pg_stretch.specs.Quiet.{is_quiet, passed_along}
-use Rattle.pg_stretch.proofs.Along.{go_past, over_past, stop_past}
-use Rattle.pg_stretch.proofs.Cursors.{IsDone, ahead_is, done, front_is, is_settled}
+use Rattle.pg_hops.specs.declared.cursor.Cursor.{Cursor}
+use Rattle.pg_hops.specs.Ahead.{IsSettled, front_ahead, item_ahead, items_ahead, place_ahead, settled, stepped}
+use Rattle.pg_hops.specs.Quiet.{is_quiet, passed_along}
+use Rattle.pg_hops.proofs.Along.{go_past, over_past, stop_past}
+use Rattle.pg_hops.proofs.Cursors.{IsDone, ahead_is, done, front_is, is_settled}
 use Rattle.pg_hops.specs.Goes.{Goes, Stops}
 
 -- a cursor and its place have one block

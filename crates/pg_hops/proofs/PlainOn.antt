@@ -10,7 +10,7 @@ use Rattle.pg_list.specs.declared.item.Item.TheVariants.{BoxItem, Rule, Glue, Ke
 use Rattle.pg_list.specs.declared.blocks.Block.{Block}
 use Rattle.pg_list.specs.Shapes.{IsBlock, is_insert}
 use Rattle.pg_style.specs.declared.style.Class.{Class}
-use Rattle.pg_flat.specs.Break.{is_forcing}
+use Rattle.pg_list.specs.Break.{is_forcing}
 use Rattle.pg_breaks.specs.Near.{place_forced, place_penalty}
 use Rattle.pg_lemmas.proofs.Bools.{if_false, if_true}
 use Rattle.pg_notes.specs.declared.sums.NoteSum.{NoteSum}
@@ -18,12 +18,12 @@ use Rattle.pg_notes.specs.Step.{with_note}
 use Rattle.pg_rules.specs.Room.{Document}
 use Rattle.pg_sums.specs.declared.totals.Totals.{Totals}
 use Rattle.pg_column.specs.Passed.{Passed, crossed, is_end_here, pass_item, with_next}
-use Rattle.pg_shift.specs.declared.shift.Shift.{Shift}
-use Rattle.pg_shift.specs.Shift.{no_shift, with_shift}
-use Rattle.pg_shift.proofs.Shifting.{shift_none, shift_step}
-use Rattle.pg_stretch.specs.declared.cursor.Cursor.{Cursor}
-use Rattle.pg_stretch.specs.Ahead.{before, item_ahead, items_ahead, place_ahead, settled, stepped, is_behind}
-use Rattle.pg_stretch.proofs.Cursors.{ahead_is}
+use Rattle.pg_hops.specs.declared.shift.Shift.{Shift}
+use Rattle.pg_hops.specs.Shift.{no_shift, with_shift}
+use Rattle.pg_hops.proofs.Shifting.{shift_none, shift_step}
+use Rattle.pg_hops.specs.declared.cursor.Cursor.{Cursor}
+use Rattle.pg_hops.specs.Ahead.{before, item_ahead, items_ahead, place_ahead, settled, stepped, is_behind}
+use Rattle.pg_hops.proofs.Cursors.{ahead_is}
 use Rattle.pg_hops.specs.Goes.{Goes}
 use Rattle.pg_hops.specs.Hop.{HopValue, IsHop, IsHopOver, ends_hop, moved, past_one, past_plain, standing}
 use Rattle.pg_hops.proofs.FreeBreak.{break_free, break_insert}

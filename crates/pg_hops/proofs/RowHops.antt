@@ -2,7 +2,7 @@
 use Rattle.std.proofs.Common.{◌≡◌, ◌⊎◌, inl, inr, refl, sym, ap, subst, ◌∙◌, ℕ, zero, suc, ◌+◌, ◌-◌, ◌<◌, List, [], ◌∷◌, ◌++◌, length, length-append, take, Option, Some, None, arith}
 use Rattle.std.specs.Prelude.{IfSome, slice_get, ℤ}
 use Rattle.pg_list.specs.declared.blocks.Block.{Block}
-use Rattle.pg_stretch.specs.declared.cursor.Cursor.{Cursor}
+use Rattle.pg_hops.specs.declared.cursor.Cursor.{Cursor}
 use Rattle.pg_hops.specs.Hop.{HopValue, IsHop}
 use Rattle.pg_hops.specs.Leap.{IsLeap, LeapValue}
 use Rattle.pg_hops.specs.Index.{AreHops, AreHopsInside, AreRowHops, AreVariantHops, LeadOn, hop_in, hop_of, leap_in, within}

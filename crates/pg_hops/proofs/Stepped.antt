@@ -7,8 +7,8 @@ use Rattle.pg_rules.specs.Room.{Document}
 use Rattle.pg_column.specs.Passed.{Passed, fits}
 use Rattle.law_walk.specs.Reached.{reach_along}
 use Rattle.law_walk.specs.Walk.{past_stretch}
-use Rattle.pg_stretch.specs.declared.cursor.Cursor.{Cursor}
-use Rattle.pg_stretch.specs.Ahead.{front_ahead, items_ahead, place_ahead}
+use Rattle.pg_hops.specs.declared.cursor.Cursor.{Cursor}
+use Rattle.pg_hops.specs.Ahead.{front_ahead, items_ahead, place_ahead}
 use Rattle.pg_hops.proofs.OneStep.{place_block}
 use Rattle.pg_hops.specs.Goes.{Goes, Stops}
 

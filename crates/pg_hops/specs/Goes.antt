@@ -6,9 +6,9 @@ use Rattle.pg_column.specs.Passed.{Passed, fits}
 use Rattle.law_walk.specs.Reached.{reach_along}
 use Rattle.law_walk.specs.Walk.{end_here, ends_along, past_stretch}
 use Rattle.pg_list.specs.declared.galley.Place.{Place}
-use Rattle.pg_stretch.specs.declared.cursor.Cursor.{Cursor}
-use Rattle.pg_stretch.specs.Ahead.{IsSettled, front_ahead, items_ahead, place_ahead}
-use Rattle.pg_stretch.specs.Quiet.{is_quiet, passed_along}
+use Rattle.pg_hops.specs.declared.cursor.Cursor.{Cursor}
+use Rattle.pg_hops.specs.Ahead.{IsSettled, front_ahead, items_ahead, place_ahead}
+use Rattle.pg_hops.specs.Quiet.{is_quiet, passed_along}
 
 -- the items from one cursor on, with p passed, are those from another on with q passed, if some room up to the greatest one
 -- lets pass

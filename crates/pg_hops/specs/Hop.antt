@@ -4,14 +4,14 @@ use Rattle.std.specs.Option.{option_map_or}
 use Rattle.pg_list.specs.declared.item.Item.{Item}
 use Rattle.pg_list.specs.declared.blocks.Block.{Block}
 use Rattle.pg_list.specs.Shapes.{is_insert}
-use Rattle.pg_flat.specs.Break.{is_forcing}
+use Rattle.pg_list.specs.Break.{is_forcing}
 use Rattle.pg_breaks.specs.Near.{place_penalty}
 use Rattle.pg_column.specs.Passed.{Passed}
-use Rattle.pg_shift.specs.Bounds.{AddedValue}
-use Rattle.pg_shift.specs.declared.shift.Shift.{Shift}
-use Rattle.pg_shift.specs.Shift.{no_shift, shifted, with_shift}
-use Rattle.pg_stretch.specs.declared.cursor.Cursor.{Cursor}
-use Rattle.pg_stretch.specs.Ahead.{item_ahead, place_ahead, settled, stepped}
+use Rattle.pg_hops.specs.Bounds.{AddedValue}
+use Rattle.pg_hops.specs.declared.shift.Shift.{Shift}
+use Rattle.pg_hops.specs.Shift.{no_shift, shifted, with_shift}
+use Rattle.pg_hops.specs.declared.cursor.Cursor.{Cursor}
+use Rattle.pg_hops.specs.Ahead.{item_ahead, place_ahead, settled, stepped}
 
 -- where it leads, and what the items on the way add
 pub record HopValue : Type 0 where

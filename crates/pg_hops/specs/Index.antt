@@ -1,7 +1,7 @@
 -- The hops and leaps of a galley, by the blocks from which they lead on.
 use Rattle.std.specs.Prelude.{ℕ, Bool, true, false, ◌==◌, if◌then◌else◌, List, Option, Some, None, IfSome, slice_get, ℤ}
 use Rattle.pg_list.specs.declared.blocks.Block.{Block}
-use Rattle.pg_stretch.specs.declared.cursor.Cursor.{Cursor}
+use Rattle.pg_hops.specs.declared.cursor.Cursor.{Cursor}
 use Rattle.pg_hops.specs.Hop.{HopValue, IsHop}
 use Rattle.pg_hops.specs.Leap.{IsLeap, LeapValue}
 use Rattle.pg_hops.specs.declared.index.LeapAt.{LeapAt}

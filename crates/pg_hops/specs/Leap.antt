@@ -4,15 +4,15 @@ use Rattle.std.specs.Option.{option_map_or}
 use Rattle.pg_list.specs.declared.item.Item.{Item}
 use Rattle.pg_list.specs.declared.blocks.Block.{Block}
 use Rattle.pg_list.specs.Shapes.{is_insert}
-use Rattle.pg_flat.specs.Break.{is_forcing}
+use Rattle.pg_list.specs.Break.{is_forcing}
 use Rattle.pg_breaks.specs.Near.{place_penalty}
 use Rattle.pg_column.specs.Passed.{Passed, least_room, note_height, raised}
 use Rattle.pg_rules.specs.Room.{Document}
-use Rattle.pg_shift.specs.declared.shift.Shift.{Shift}
-use Rattle.pg_shift.specs.Shift.{shifted}
+use Rattle.pg_hops.specs.declared.shift.Shift.{Shift}
+use Rattle.pg_hops.specs.Shift.{shifted}
 use Rattle.pg_style.specs.Values.{StyleValue}
-use Rattle.pg_stretch.specs.declared.cursor.Cursor.{Cursor}
-use Rattle.pg_stretch.specs.Ahead.{IsSettled, front_ahead, item_ahead, items_ahead, place_ahead}
+use Rattle.pg_hops.specs.declared.cursor.Cursor.{Cursor}
+use Rattle.pg_hops.specs.Ahead.{IsSettled, front_ahead, item_ahead, items_ahead, place_ahead}
 use Rattle.law_walk.specs.Reached.{reach_along}
 use Rattle.law_walk.specs.Walk.{past_stretch}
 use Rattle.pg_hops.specs.Hop.{HopValue, past_one, standing}

@@ -1,3 +1,9 @@
+pub mod View
+pub mod Ahead
+pub mod Quiet
+pub mod Told
+pub mod Shift
+pub mod Bounds
 pub mod Hop
 pub mod Leap
 pub mod Index

@@ -3,8 +3,8 @@ use Rattle.std.specs.Prelude.{List, Option, Some, None, IfSome, ℤ}
 use Rattle.std.proofs.Props.{props}
 use Rattle.pg_list.specs.declared.blocks.Block.{Block}
 use Rattle.pg_list.specs.declared.item.Item.{Item}
-use Rattle.pg_stretch.specs.Ahead.{item_ahead}
-use Rattle.pg_stretch.specs.declared.cursor.Cursor.{Cursor}
+use Rattle.pg_hops.specs.Ahead.{item_ahead}
+use Rattle.pg_hops.specs.declared.cursor.Cursor.{Cursor}
 use Rattle.pg_hops.specs.Hop.{HopValue, IsHop, IsHopAt}
 use Rattle.pg_hops.specs.Index.{AreHops}
 use Rattle.pg_hops.specs.Leap.{IsLeap, IsLeapAt, LeapValue}

@@ -1,8 +1,8 @@
 //! The hop and the leap from a place, found item by item.
 ghost use Rattle.std.specs.Prelude.{◌≡◌, ◌≤◌, ◌^◌, ◌&&◌, not, if◌then◌else◌, true, false, IfSome, Some, is_some, nat_abs, pos, unwrap_or};
-ghost use Rattle.pg_flat.specs.Break.{is_forcing as is_forcing_of};
+ghost use Rattle.pg_list.specs.Break.{is_forcing as is_forcing_of};
 ghost use Rattle.pg_breaks.specs.Near.{place_penalty};
-ghost use Rattle.pg_stretch.specs.Ahead.{item_ahead, place_ahead};
+ghost use Rattle.pg_hops.specs.Ahead.{item_ahead, place_ahead};
 ghost use Rattle.pg_list.specs.Shapes.{is_insert as is_insert_of};
 ghost use Rattle.pg_column.specs.Passed.{raised as raised_of};
 ghost use Rattle.pg_hops.specs.Hop.{IsHop, ends_hop};
@@ -10,12 +10,11 @@ ghost use Rattle.pg_hops.specs.Leap.{IsLeap, asked as asked_of, may_cross as may
 
 use crate::hop::Hop;
 use crate::leap::{Leap, raised};
+use crate::{Added, Cursor, Shift};
 use pg_breaks::is_forcing;
 use pg_list::{Galley, Item};
-use pg_shift::{Added, Shift};
-use pg_stretch::Cursor;
+use pg_scaled::minus;
 use pg_style::Style;
-use pg_whole::minus;
 
 // The most items that a hop passes.
 const LONGEST: u32 = 64;

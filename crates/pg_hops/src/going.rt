@@ -4,16 +4,16 @@ ghost use Rattle.std.specs.Option.{option_copied};
 ghost use Rattle.pg_list.specs.declared.blocks.Block.{Block as ABlock};
 ghost use Rattle.pg_rules.specs.Legal.{document};
 ghost use Rattle.pg_column.specs.Passed.{crossed, is_end_here};
-ghost use Rattle.pg_stretch.specs.Ahead.{item_ahead, items_ahead, place_ahead};
-ghost use Rattle.pg_stretch.specs.View.{IsFor, view};
+ghost use Rattle.pg_hops.specs.Ahead.{item_ahead, items_ahead, place_ahead};
+ghost use Rattle.pg_hops.specs.View.{IsFor, view};
 ghost use Rattle.pg_hops.specs.Goes.{Counts, Goes, Stops};
 ghost use Rattle.pg_hops.specs.Hop.{MayHop, moved};
 ghost use Rattle.pg_hops.specs.Index.{AreHops};
 
 use crate::hop::Hop;
 use crate::index::BreakIndex;
+use crate::{Cursor, Passed};
 use pg_list::{Galley, Item, Place};
-use pg_stretch::{Cursor, Passed};
 use pg_style::Style;
 
 /// The hop from a cursor, where one is kept and a box was passed.

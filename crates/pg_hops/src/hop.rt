@@ -1,13 +1,12 @@
 //! What lies between a break and the next one.
 ghost use Rattle.std.specs.Prelude.{◌≡◌, IfSome};
 
-use pg_shift::{Added, Shift};
-use pg_stretch::Cursor;
+use crate::{Added, Cursor, Shift};
 use std::marker::Model;
 
 /// The way from a break to the next one, or to an insert or the front of a choice before it: where it leads, how many items
 /// are passed, and what they add to sums behind a box, in scaled points.
-#[derive(Clone, Copy, Debug)]
+#[derive(Clone, Copy)]
 pub struct Hop {
     to: Cursor,
     count: u32,
@@ -22,7 +21,7 @@ pub struct Hop {
 
 impl Model for Hop {
     ghost use Rattle.pg_hops.specs.Hop.{HopValue};
-    ghost use Rattle.pg_shift.specs.Bounds.{IsWellKept};
+    ghost use Rattle.pg_hops.specs.Bounds.{IsWellKept};
 
     ghost Value = { HopValue };
 

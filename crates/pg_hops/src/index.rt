@@ -5,17 +5,17 @@ ghost use Rattle.pg_list.specs.declared.blocks.Block.{Block as ABlock};
 ghost use Rattle.pg_hops.specs.Leap.{IsLeap};
 ghost use Rattle.pg_hops.specs.Index.{AreHops, AreHopsInside, AreRowHops, AreVariantHops, hop_at, hop_in as hop_in_of, leap_at, leap_in as leap_in_of, leap_here as leap_here_of, within};
 
+use crate::Cursor;
 use crate::finding::{hop_from, is_insert, leap_from};
 use crate::hop::Hop;
 use crate::leap::Leap;
 use pg_list::{Block, Galley, Item, Variant};
-use pg_stretch::Cursor;
 use pg_style::Style;
 use std::alloc::{AllocError, Global};
 use std::marker::Model;
 
 /// The leap from an item of a variant.
-#[derive(Clone, Copy, Debug)]
+#[derive(Clone, Copy)]
 pub(crate) struct LeapAt {
     index: u32,
     leap: Leap,

@@ -7,7 +7,7 @@ use std::marker::Model;
 
 /// The way from a break past several more breaks, and the most that one of these asks of a room behind the first break, in
 /// scaled points.
-#[derive(Clone, Copy, Debug)]
+#[derive(Clone, Copy)]
 pub struct Leap {
     way: Hop,
     highest: i64,

@@ -4,8 +4,8 @@ ghost use Rattle.std.specs.Option.{option_copied};
 ghost use Rattle.pg_list.specs.declared.blocks.Block.{Block};
 ghost use Rattle.pg_rules.specs.Legal.{document};
 ghost use Rattle.pg_column.specs.Passed.{fits};
-ghost use Rattle.pg_stretch.specs.Ahead.{items_ahead};
-ghost use Rattle.pg_stretch.specs.View.{IsFor, view};
+ghost use Rattle.pg_hops.specs.Ahead.{items_ahead};
+ghost use Rattle.pg_hops.specs.View.{IsFor, view};
 ghost use Rattle.pg_hops.specs.Goes.{Counts};
 ghost use Rattle.pg_hops.specs.Hop.{moved};
 ghost use Rattle.pg_hops.specs.Index.{AreHops};
@@ -14,10 +14,10 @@ ghost use Rattle.pg_hops.specs.Leap.{GoesFar, Serves, leapt};
 use crate::going::add_items;
 use crate::index::BreakIndex;
 use crate::leap::{Leap, raised};
+use crate::{Cursor, Passed};
 use pg_list::Galley;
-use pg_stretch::{Cursor, Passed};
+use pg_scaled::plus;
 use pg_style::Style;
-use pg_whole::plus;
 
 // The leap from a cursor, where one is kept, a box was passed, and the shrink is not negative.
 fn leap_ahead<'a>(index: &'a BreakIndex, passed: &Passed, at: Cursor) -> Option<&'a Leap>

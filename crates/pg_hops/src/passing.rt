@@ -4,20 +4,20 @@ ghost use Rattle.pg_rules.specs.Legal.{document};
 ghost use Rattle.pg_column.specs.Passed.{fits};
 ghost use Rattle.law_walk.specs.Reached.{reach_along};
 ghost use Rattle.law_walk.specs.Walk.{past_stretch};
-ghost use Rattle.pg_stretch.specs.Ahead.{IsSettled, front_ahead, items_ahead};
-ghost use Rattle.pg_stretch.specs.View.{IsFor, view, views};
+ghost use Rattle.pg_hops.specs.Ahead.{IsSettled, front_ahead, items_ahead};
+ghost use Rattle.pg_hops.specs.View.{IsFor, view, views};
 ghost use Rattle.pg_hops.specs.Index.{AreHops};
 
 use crate::going::{go, hop_ahead, is_end_ahead};
 use crate::index::BreakIndex;
 use crate::leaping::leap_over;
+use crate::{Cursor, Passed};
 use pg_list::Galley;
-use pg_stretch::{Cursor, Passed};
 use pg_style::Style;
 
 /// What was passed along a stretch, if some room up to the greatest one lets pass, with the front behind it then, and
 /// the greatest block on the way.
-#[derive(Clone, Copy, Debug)]
+#[derive(Clone, Copy)]
 pub struct Passing {
     pub passed: Option<Passed>,
     pub front: u32,

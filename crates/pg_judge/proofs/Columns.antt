@@ -9,8 +9,8 @@ use Rattle.pg_lemmas.proofs.Lists.{no_items}
 use Rattle.pg_list.specs.GalleyValue.{GalleyValue}
 use Rattle.pg_list.specs.declared.blocks.Block.{Block}
 use Rattle.pg_list.specs.declared.variants.Variant.{Variant}
-use Rattle.pg_flat.specs.Flat.{blocks_at, fronts, is_same_place, picked_variants}
-use Rattle.pg_flat.proofs.Places.{picked_few}
+use Rattle.pg_list.specs.Flat.{blocks_at, fronts, is_same_place, picked_variants}
+use Rattle.pg_list.proofs.Places.{picked_few}
 use Rattle.pg_plan.specs.declared.pages.Column.{Column}
 use Rattle.pg_style.specs.Values.{StyleValue}
 use Rattle.pg_rules.specs.ColumnRules.{column_variants, does_fit, has_room, is_tolerable, is_well_formed, keeps_looseness, keeps_note_limits, passes_breaks, text_fitness}
@@ -22,7 +22,7 @@ use Rattle.pg_rules.specs.Room.{ColumnContext, Document, flat_items_of, is_text,
 use Rattle.pg_column.specs.Fits.{does_fit_from}
 use Rattle.pg_column.specs.Judged.{Judges, text_fault}
 use Rattle.pg_column.specs.declared.cost.TextCost.{TextCost}
-use Rattle.pg_areas.specs.Counts.{count_in}
+use Rattle.pg_floats.specs.Counts.{count_in}
 use Rattle.pg_judge.specs.Judged.{JudgesColumn}
 use Rattle.pg_judge.specs.Seats.{IsSeat}
 use Rattle.pg_judge.specs.declared.seat.Seat.{Seat}

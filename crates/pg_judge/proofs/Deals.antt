@@ -5,7 +5,7 @@ use Rattle.std.specs.List.{AllByRecursion, list_all, range_with_len}
 use Rattle.std.proofs.lemmas.Bool.{eqb-true, leb-true, le-leb}
 use Rattle.std.proofs.lemmas.List.{length-map}
 use Rattle.pg_list.specs.Shapes.{IsBlock}
-use Rattle.pg_flat.specs.Flat.{flat}
+use Rattle.pg_list.specs.Flat.{flat}
 use Rattle.pg_plan.specs.declared.pages.PageMove.{PageMove}
 use Rattle.pg_rules.specs.ColumnRules.{has_counts, has_dealable}
 use Rattle.pg_rules.specs.Cost.{float_demerits}
@@ -18,10 +18,10 @@ use Rattle.law_places.proofs.Among.{all_same}
 use Rattle.pg_lemmas.proofs.Bools.{both_of, both_ways, or_cases}
 use Rattle.pg_lemmas.proofs.Numbers.{eq_yes}
 use Rattle.pg_judge.specs.Added.{added_by}
-use Rattle.pg_areas.specs.Counts.{cap, capped}
+use Rattle.pg_floats.specs.Counts.{cap, capped}
 use Rattle.pg_judge.specs.Moves.{page_ends}
 use Rattle.pg_judge.specs.Waits.{is_slot_called, price_of, prices_below, slot_price}
-use Rattle.pg_areas.proofs.Capped.{AreFew, entry_capped}
+use Rattle.pg_floats.proofs.Capped.{AreFew, entry_capped}
 use Rattle.pg_judge.proofs.Distances.{Chained, wait_is}
 use Rattle.pg_judge.proofs.LeastRules.{added_rule}
 use Rattle.pg_judge.proofs.Priced.{ArePriced, all_flat, all_numbered, all_priced, one_priced, prices_same, slot_priced}

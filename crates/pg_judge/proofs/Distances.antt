@@ -5,8 +5,8 @@ use Rattle.std.specs.List.{AllByRecursion}
 use Rattle.std.proofs.lemmas.Bool.Decides.{nat_tests}
 use Rattle.pg_list.specs.declared.galley.Place.{Place}
 use Rattle.pg_list.specs.Shapes.{IsBlock}
-use Rattle.pg_flat.specs.Flat.{is_same_place, items_before}
-use Rattle.pg_flat.proofs.Places.{same_place}
+use Rattle.pg_list.specs.Flat.{is_same_place, items_before}
+use Rattle.pg_list.proofs.Places.{same_place}
 use Rattle.pg_plan.specs.declared.pages.PageMove.{PageMove}
 use Rattle.pg_rules.specs.ColumnRules.{does_fit}
 use Rattle.pg_rules.specs.Floats.{called, distance_table, entry, float_numbers, sizes_of}

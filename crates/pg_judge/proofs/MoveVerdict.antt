@@ -16,7 +16,7 @@ use Rattle.pg_judge.specs.Judged.{JudgesColumn}
 use Rattle.pg_judge.specs.Moves.{JudgesMove, decided, least_rule}
 use Rattle.pg_judge.specs.Verdict.{first_false, tests_on}
 use Rattle.pg_judge.specs.declared.judged.ColumnCost.{ColumnCost}
-use Rattle.pg_areas.proofs.Capped.{AreFew}
+use Rattle.pg_floats.proofs.Capped.{AreFew}
 use Rattle.pg_judge.proofs.Deals.{AreAdded}
 use Rattle.pg_judge.proofs.LeastRules.{added_rule, least_is}
 

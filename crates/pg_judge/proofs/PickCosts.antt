@@ -6,8 +6,8 @@ use Rattle.std.proofs.lemmas.Int.{ints}
 use Rattle.pg_list.specs.declared.blocks.Block.{Block}
 use Rattle.pg_list.specs.declared.blocks.Block.TheVariants.{One, Choice}
 use Rattle.pg_list.specs.declared.variants.Variant.{Variant}
-use Rattle.pg_flat.specs.Flat.{picked_variants}
-use Rattle.pg_flat.specs.Whole.{whole_sum_by}
+use Rattle.pg_list.specs.Flat.{picked_variants}
+use Rattle.pg_list.specs.Whole.{whole_sum_by}
 use Rattle.pg_judge.specs.Picks.{pick_cost}
 
 abbrev pub variants_cost : List Variant → ℤ

@@ -6,13 +6,13 @@ use Rattle.std.proofs.lemmas.Bool.{leb-true, le-leb}
 use Rattle.std.proofs.lemmas.Bool.Decides.{nat_tests}
 use Rattle.std.proofs.lemmas.Int.{ints}
 use Rattle.std.proofs.lemmas.Grind.{flat_map-append}
-use Rattle.pg_flat.specs.Whole.{whole_sum_by}
+use Rattle.pg_list.specs.Whole.{whole_sum_by}
 use Rattle.pg_rules.specs.Floats.{numbered}
 use Rattle.pg_lemmas.proofs.Bools.{both, both_of, both_ways}
 use Rattle.pg_lemmas.proofs.Lists.{range_more}
 use Rattle.pg_lemmas.proofs.Numbers.{less_of, less_true, not_less, suc_not}
 use Rattle.pg_judge.specs.Waits.{both_prices, prices_below}
-use Rattle.pg_areas.proofs.Ranges.{all_append_is}
+use Rattle.pg_floats.proofs.Ranges.{all_append_is}
 use Rattle.pg_judge.proofs.Waiting.{got_near, none_near}
 
 -- all are near and pay so much, or one is not near

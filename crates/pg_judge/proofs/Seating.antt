@@ -2,7 +2,7 @@
 use Rattle.std.proofs.Common.{◌≡◌, refl, sym, ap, ◌∙◌, subst, ℕ, zero, suc, arith, length, ◌<◌, List, Bool, true, false, ℤ, pos, ◌+ℤ◌, Option, Some, None}
 use Rattle.std.specs.Prelude.{if◌then◌else◌, is_some, nat_lt, not, unwrap_or}
 use Rattle.pg_list.specs.GalleyValue.{GalleyValue}
-use Rattle.pg_flat.specs.Flat.{is_same_place}
+use Rattle.pg_list.specs.Flat.{is_same_place}
 use Rattle.pg_plan.specs.declared.pages.Column.{Column}
 use Rattle.pg_style.specs.Ranges.{IsStyle}
 use Rattle.pg_style.specs.Values.{StyleValue}
@@ -13,12 +13,12 @@ use Rattle.pg_rules.specs.Legal.{document}
 use Rattle.pg_lemmas.proofs.Bools.{if_true}
 use Rattle.pg_lemmas.proofs.Numbers.{less_of}
 use Rattle.pg_rules.specs.Room.{checked_height, extra}
-use Rattle.pg_areas.specs.Counts.{capped, count_in}
-use Rattle.pg_areas.specs.Given.{IsAreaHeight, IsListOf, IsWideHeight}
+use Rattle.pg_floats.specs.Counts.{capped, count_in}
+use Rattle.pg_floats.specs.Given.{IsAreaHeight, IsListOf, IsWideHeight}
 use Rattle.pg_judge.specs.Seats.{IsSeat, seated}
 use Rattle.pg_judge.specs.declared.seat.Seat.{Seat}
-use Rattle.pg_areas.proofs.Capped.{are_few, height_capped}
-use Rattle.pg_areas.proofs.Heights.{is_height, no_height}
+use Rattle.pg_floats.proofs.Capped.{are_few, height_capped}
+use Rattle.pg_floats.proofs.Heights.{is_height, no_height}
 
 pub wide_is : (wide : Option ℤ) → IsWideHeight wide → IsAreaHeight (unwrap_or wide (pos 0))
 wide_is None h = no_height

@@ -11,7 +11,7 @@ use Rattle.pg_rules.specs.Cost.{cost, cost_of}
 use Rattle.pg_rules.specs.History.{placed_of}
 use Rattle.pg_rules.specs.Legal.{breach, document, ends_spent, has_dealt_all, misfilled}
 use Rattle.pg_rules.specs.Room.{Document}
-use Rattle.pg_areas.specs.Counts.{capped}
+use Rattle.pg_floats.specs.Counts.{capped}
 use Rattle.pg_judge.specs.Progress.{IsGoing, IsProgress, broken_pair, is_lost}
 use Rattle.pg_judge.specs.Settled.{JudgesPlan, Settles, answered, end_fault}
 use Rattle.pg_judge.specs.Verdict.{behind_pages, broken_at_end, broken_by, first_false, lesser, tests_at_end}

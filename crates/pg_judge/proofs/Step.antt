@@ -6,7 +6,7 @@ use Rattle.std.specs.Option.{option_map_or, option_or}
 use Rattle.std.proofs.lemmas.List.{reverse-append}
 use Rattle.pg_list.specs.GalleyValue.{GalleyValue}
 use Rattle.pg_list.specs.declared.galley.Place.{Place}
-use Rattle.pg_flat.specs.Flat.{is_same_place}
+use Rattle.pg_list.specs.Flat.{is_same_place}
 use Rattle.pg_plan.specs.declared.pages.Column.{Column}
 use Rattle.pg_plan.specs.declared.pages.PageMove.{PageMove}
 use Rattle.pg_style.specs.Values.{StyleValue}
@@ -20,8 +20,8 @@ use Rattle.pg_floats.specs.FloatsValue.{ClassFloatsValue}
 use Rattle.law_columns.proofs.Faults.{kept, none_or, none_unless}
 use Rattle.pg_lemmas.proofs.Bools.{if_false, if_true, not_both}
 use Rattle.pg_judge.specs.Added.{added_by}
-use Rattle.pg_areas.specs.Counts.{capped, capped_sum}
-use Rattle.pg_areas.specs.Given.{IsListOf, IsWideHeight}
+use Rattle.pg_floats.specs.Counts.{capped, capped_sum}
+use Rattle.pg_floats.specs.Given.{IsListOf, IsWideHeight}
 use Rattle.pg_judge.specs.Moves.{fitness_cost, page_ends}
 use Rattle.pg_judge.specs.Judged.{IsColumnCost, own_fitness}
 use Rattle.pg_judge.specs.Progress.{AreCounted, IsAdvanced, IsGoing, IsKept, IsPaid, IsProgress, broken_pair, is_lost, the_move}
@@ -39,7 +39,7 @@ use Rattle.pg_judge.specs.Waits.{is_slot_called, prices_below, slot_price}
 use Rattle.pg_judge.specs.declared.added.Counted.{Counted}
 use Rattle.pg_judge.specs.declared.progress.Progress.{Progress}
 use Rattle.pg_judge.specs.declared.seat.Seat.{Seat}
-use Rattle.pg_areas.proofs.Capped.{AreFew, are_few, has_all_capped, plus_capped}
+use Rattle.pg_floats.proofs.Capped.{AreFew, are_few, has_all_capped, plus_capped}
 use Rattle.pg_judge.proofs.Deals.{AreAdded, added_is, called_is, is_close, pays, priced_is}
 use Rattle.pg_judge.proofs.Priced.{ArePriced}
 

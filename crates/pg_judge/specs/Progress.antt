@@ -8,8 +8,8 @@ use Rattle.pg_rules.specs.Floats.{float_numbers, plus_counts}
 use Rattle.pg_rules.specs.History.{fitness_of, last_run, next_column, next_page, place_of, placed_after, placed_of, wide_of, with_wide}
 use Rattle.pg_rules.specs.Legal.{first_at_fault, is_chained}
 use Rattle.pg_rules.specs.Room.{Document}
-use Rattle.pg_areas.specs.Counts.{capped}
-use Rattle.pg_areas.specs.Given.{IsWideHeight}
+use Rattle.pg_floats.specs.Counts.{capped}
+use Rattle.pg_floats.specs.Given.{IsWideHeight}
 use Rattle.pg_judge.specs.Moves.{page_ends}
 use Rattle.pg_judge.specs.Verdict.{broken_by, lesser}
 use Rattle.pg_judge.specs.declared.added.Counted.{Counted}

@@ -5,7 +5,7 @@ use Rattle.pg_plan.specs.declared.pages.Column.{Column}
 use Rattle.pg_style.specs.Values.{StyleValue}
 use Rattle.pg_rules.specs.Legal.{document}
 use Rattle.pg_rules.specs.Room.{ColumnContext, bottom_height, full_height, is_bottom_allowed, is_text, is_top_allowed, top_height, wide_height}
-use Rattle.pg_areas.specs.Given.{IsAreaHeight}
+use Rattle.pg_floats.specs.Given.{IsAreaHeight}
 use Rattle.pg_judge.specs.declared.seat.Seat.{Seat}
 
 -- heights within their ranges

@@ -8,14 +8,13 @@ ghost use Rattle.pg_rules.specs.Legal.{document};
 ghost use Rattle.pg_rules.specs.Room.{checked_height};
 ghost use Rattle.pg_floats.specs.AreFloats.{AreFloats};
 ghost use Rattle.pg_judge.specs.Added.{added_by};
-ghost use Rattle.pg_areas.specs.Counts.{capped, capped_sum};
-ghost use Rattle.pg_areas.specs.Given.{IsListOf, IsWideHeight};
+ghost use Rattle.pg_floats.specs.Counts.{capped, capped_sum};
+ghost use Rattle.pg_floats.specs.Given.{IsListOf, IsWideHeight};
 ghost use Rattle.pg_judge.specs.Waits.{is_slot_called, prices_below, slot_price};
 
 use crate::floats::{are_called, float_demerits};
 use crate::seat::Seat;
-use pg_areas::{Spot, checked_area, count_floats, is_allowed, plus, total};
-use pg_floats::FloatList;
+use pg_floats::{FloatList, Spot, checked_area, count_floats, is_allowed, plus, total};
 use pg_list::{Galley, Place};
 use pg_plan::{Column, Counts};
 use pg_style::Style;

@@ -5,11 +5,10 @@ ghost use Rattle.pg_list.specs.declared.galley.Place.{Place as APlace};
 ghost use Rattle.pg_rules.specs.Floats.{distance_table, entry as entry_of};
 ghost use Rattle.pg_rules.specs.History.{is_called as is_called_of};
 ghost use Rattle.pg_rules.specs.Legal.{document};
-ghost use Rattle.pg_areas.specs.Given.{IsListOf};
+ghost use Rattle.pg_floats.specs.Given.{IsListOf};
 ghost use Rattle.pg_judge.specs.Waits.{is_slot_called as is_slot_called_of, price_of, prices_below, slot_price, waits_in};
 
-use pg_areas::{entry, table_of};
-use pg_floats::FloatList;
+use pg_floats::{FloatList, entry, table_of};
 use pg_list::{Galley, Place};
 use pg_style::Style;
 

@@ -1,6 +1,6 @@
 //! The rules on one column by itself, with text or without.
 ghost use Rattle.std.specs.Prelude.{◌≡◌, ◌≤◌, ◌<◌, ◌^◌, ◌==◌, ◌&&◌, ◌||◌, ◌+ℤ◌, ◌-ℤ◌, if◌then◌else◌, length, nat_abs, nat_lt, int_le, pos, true, false};
-ghost use Rattle.pg_flat.specs.Flat.{is_same_place};
+ghost use Rattle.pg_list.specs.Flat.{is_same_place};
 ghost use Rattle.pg_rules.specs.Floats.{float_numbers};
 ghost use Rattle.pg_rules.specs.Legal.{document};
 ghost use Rattle.pg_rules.specs.Room.{ColumnContext};
@@ -9,12 +9,12 @@ ghost use Rattle.pg_judge.specs.Judged.{JudgesColumn};
 ghost use Rattle.pg_judge.specs.Seats.{AreHeights, IsSeat};
 
 use crate::seat::Seat;
-use pg_areas::count_floats;
 use pg_column::judge_from;
+use pg_floats::count_floats;
 use pg_list::Galley;
 use pg_plan::Column;
+use pg_scaled::{minus, plus, wide};
 use pg_style::Style;
-use pg_whole::{minus, plus, wide};
 
 /// What a column costs by itself, and the fitness of its text, from 0 (very loose) to 3 (tight).
 #[derive(Clone, Copy)]

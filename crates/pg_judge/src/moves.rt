@@ -14,8 +14,8 @@ use crate::judged::{ColumnCost, judge_floats, judge_text};
 use crate::seat::{Seat, is_same_place};
 use pg_list::Galley;
 use pg_plan::Column;
+use pg_scaled::{large, large_plus};
 use pg_style::{Run, Style};
-use pg_whole::{large, large_plus};
 
 // The rules on a column by itself.
 pub fn judge_own(

@@ -2,8 +2,8 @@
 ghost use Rattle.std.specs.Prelude.{◌≡◌, ◌≤◌, ◌<◌, ◌^◌, drop, length, pos};
 ghost use Rattle.std.specs.Option.{option_map_or};
 ghost use Rattle.pg_list.specs.declared.variants.Variant.{Variant as AVariant};
-ghost use Rattle.pg_flat.specs.Flat.{blocks_at, picked_variants};
-ghost use Rattle.pg_flat.specs.Whole.{whole_sum_by};
+ghost use Rattle.pg_list.specs.Flat.{blocks_at, picked_variants};
+ghost use Rattle.pg_list.specs.Whole.{whole_sum_by};
 ghost use Rattle.pg_column.specs.Ahead.{first_variant, picks_after as picks_after_of};
 ghost use Rattle.std.specs.List.{AllByRecursion};
 ghost use Rattle.pg_list.specs.Shapes.{IsBlock};

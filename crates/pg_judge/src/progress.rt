@@ -2,17 +2,17 @@
 ghost use Rattle.std.specs.Prelude.{◌≡◌, ◌≤◌, ◌<◌, ◌+◌, ◌-◌, ◌+ℤ◌, nat_abs, pos, is_some, slice_get, ◌*◌, ◌^◌, ◌==◌, ◌&&◌, not, if◌then◌else◌, List, [], ◌∷◌, ◌++◌, ℕ, None, true, OnOk};
 ghost use Rattle.std.specs.Option.{option_map_or, option_or};
 ghost use Rattle.pg_list.specs.declared.variants.Variant.{Variant as AVariant};
-ghost use Rattle.pg_flat.specs.Flat.{blocks_at, picked_variants};
-ghost use Rattle.pg_flat.specs.Whole.{whole_sum_by};
+ghost use Rattle.pg_list.specs.Flat.{blocks_at, picked_variants};
+ghost use Rattle.pg_list.specs.Whole.{whole_sum_by};
 ghost use Rattle.pg_rules.specs.Cost.{run_demerits};
 ghost use Rattle.pg_plan.specs.declared.pages.PageMove.{PageMove as APageMove};
-ghost use Rattle.pg_flat.specs.Flat.{is_same_place as is_same_place_of};
+ghost use Rattle.pg_list.specs.Flat.{is_same_place as is_same_place_of};
 ghost use Rattle.pg_rules.specs.History.{is_right, side_of};
 ghost use Rattle.pg_rules.specs.Floats.{float_numbers};
 ghost use Rattle.pg_rules.specs.Legal.{document, is_chained as is_chained_of};
 ghost use Rattle.pg_rules.specs.History.{placed_of, wide_of};
 ghost use Rattle.pg_column.specs.Fits.{does_fit_from};
-ghost use Rattle.pg_areas.specs.Given.{IsListOf, IsWideHeight};
+ghost use Rattle.pg_floats.specs.Given.{IsListOf, IsWideHeight};
 ghost use Rattle.pg_judge.specs.Moves.{JudgesMove, fitness_cost};
 ghost use Rattle.pg_judge.specs.Progress.{AreCounted, IsAdvanced, IsGoing, IsKept, IsProgress, broken_pair, is_lost as is_lost_of, the_move};
 ghost use Rattle.pg_judge.specs.Verdict.{lesser};
@@ -29,7 +29,7 @@ use pg_style::{First, Style};
 use std::alloc::{AllocError, Global};
 
 /// The least rule that is broken, with the first column that breaks it.
-#[derive(Clone, Copy, Debug, PartialEq, Eq)]
+#[derive(Clone, Copy, PartialEq, Eq)]
 pub struct Broken {
     pub rule: u8,
     pub column: u32,

@@ -1,22 +1,21 @@
 //! What a page leaves to a column: which floats it may have, and how high its areas are.
 ghost use Rattle.std.specs.Prelude.{◌≡◌, ◌≤◌, ◌<◌, ◌^◌, ◌-ℤ◌, if◌then◌else◌, List, ℕ, length, nat_abs, not, is_some};
-ghost use Rattle.pg_flat.specs.Flat.{is_same_place as is_same_place_of};
+ghost use Rattle.pg_list.specs.Flat.{is_same_place as is_same_place_of};
 ghost use Rattle.pg_rules.specs.Floats.{float_numbers, is_area_allowed, plus_counts, takes_bottom, takes_in_column, takes_top};
 ghost use Rattle.pg_rules.specs.Floats.{floats};
 ghost use Rattle.pg_rules.specs.Room.{checked_height};
 ghost use Rattle.pg_floats.specs.AreFloats.{AreFloats};
 ghost use Rattle.pg_list.specs.declared.blocks.Block.{Block as ABlock};
 ghost use Rattle.pg_style.specs.Ranges.{IsStyle};
-ghost use Rattle.pg_areas.specs.Counts.{capped};
-ghost use Rattle.pg_areas.specs.Given.{IsListOf, IsWideHeight};
+ghost use Rattle.pg_floats.specs.Counts.{capped};
+ghost use Rattle.pg_floats.specs.Given.{IsListOf, IsWideHeight};
 ghost use Rattle.pg_judge.specs.Seats.{AreHeights, IsSeat, seated};
 
-use pg_areas::{Spot, checked_area, full_height, is_allowed};
-use pg_floats::FloatList;
+use pg_floats::{FloatList, Spot, checked_area, full_height, is_allowed};
 use pg_list::{Galley, Place};
 use pg_plan::{Column, Counts};
+use pg_scaled::minus;
 use pg_style::Style;
-use pg_whole::minus;
 
 /// What a page leaves to a column. Heights are in scaled points.
 #[derive(Clone, Copy)]

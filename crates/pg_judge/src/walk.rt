@@ -4,7 +4,7 @@ ghost use Rattle.pg_plan.specs.declared.pages.Column.{Column as AColumn};
 ghost use Rattle.pg_plan.specs.declared.pages.PageMove.{PageMove as APageMove};
 ghost use Rattle.pg_plan.specs.Order.{columns_of, no_floats as no_floats_of, page_moves};
 ghost use Rattle.pg_rules.specs.Legal.{document};
-ghost use Rattle.pg_areas.specs.Given.{IsListOf};
+ghost use Rattle.pg_floats.specs.Given.{IsListOf};
 ghost use Rattle.pg_judge.specs.Progress.{IsKept, IsProgress, the_move};
 
 use crate::progress::Progress;

@@ -5,7 +5,7 @@ ghost use Rattle.pg_plan.specs.declared.pages.PageMove.{PageMove as APageMove};
 ghost use Rattle.pg_plan.specs.Order.{columns};
 ghost use Rattle.pg_rules.specs.Legal.{document, misfilled as misfilled_of};
 ghost use Rattle.pg_floats.specs.AreFloats.{AreFloats};
-ghost use Rattle.pg_areas.specs.Given.{IsListOf};
+ghost use Rattle.pg_floats.specs.Given.{IsListOf};
 ghost use Rattle.pg_judge.specs.Progress.{IsKept, IsProgress, broken_pair};
 ghost use Rattle.pg_judge.specs.Settled.{JudgesPlan, Settles, answered};
 
@@ -14,11 +14,9 @@ use crate::pages::misfilled;
 use crate::progress::{Broken, Progress, is_lost, lesser_of};
 use crate::rule::JudgeFault;
 use crate::walk::judge_pages;
-use pg_areas::slots_of;
-use pg_floats::FloatList;
+use pg_floats::{FloatList, has_dealt_all, is_spent_at, slots_of};
 use pg_list::{Galley, Place};
 use pg_plan::{Counts, Pagination};
-use pg_remains::{has_dealt_all, is_spent_at};
 use pg_style::Style;
 use std::alloc::Global;
 

@@ -16,8 +16,8 @@ use pg_labels::{Output, Shown};
 use pg_list::Galley;
 use pg_small::{SmallLabel, small_labels};
 use pg_space::{Document, KeptPages, PageSpace};
-use pg_steps::Steps;
 use pg_style::Style;
+use pg_table::Steps;
 use std::alloc::Global;
 use std::sync::ledger::{Blank, Ledger};
 

@@ -48,7 +48,7 @@ fn fitness_of(told: bool, words: &mut Words<'_>) -> Option<Option<u8>>
 }
 
 /// Where a label stands: the first fields of its state.
-#[derive(Clone, Copy, Debug, PartialEq, Eq)]
+#[derive(Clone, Copy, PartialEq, Eq)]
 pub struct Front {
     pub place: Place,
     pub column: u8,

@@ -18,7 +18,7 @@ pub struct Output {
 }
 
 /// Why a text was not read.
-#[derive(Clone, Copy, Debug, Drop, PartialEq, Eq)]
+#[derive(Clone, Copy, Drop, PartialEq, Eq)]
 pub enum OutputFault {
     /// The lines up to this one begin no output text, or the text ends in front of it.
     BadText { line: u32 },

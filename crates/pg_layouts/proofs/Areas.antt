@@ -13,7 +13,7 @@ use Rattle.law_places.proofs.Among.{Among, all_at, all_of}
 use Rattle.pg_lemmas.proofs.Bools.{both, both_of}
 use Rattle.pg_lemmas.proofs.Numbers.{eq_refl}
 use Rattle.pg_layouts.specs.Counts.{Within}
-use Rattle.pg_areas.specs.Spots.{takes_slot}
+use Rattle.pg_floats.specs.Spots.{takes_slot}
 use Rattle.pg_layouts.specs.Layouts.{area_lists, limits, zeros}
 use Rattle.law_places.proofs.Members.{below_in}
 use Rattle.pg_layouts.proofs.CountLists.{AreCounts, in_count_lists, of_count_lists}

@@ -7,7 +7,7 @@ use Rattle.law_places.proofs.Among.{Among}
 use Rattle.pg_style.specs.Values.{StyleValue}
 use Rattle.pg_style.specs.declared.style.Area.{Area}
 use Rattle.pg_rules.specs.Floats.{entry, float_numbers, plus_counts, takes_wide}
-use Rattle.pg_areas.specs.Counts.{cap, capped_sum}
+use Rattle.pg_floats.specs.Counts.{cap, capped_sum}
 use Rattle.pg_lemmas.proofs.Bools.{by_bool}
 use Rattle.pg_lemmas.proofs.Numbers.{less_true, not_less}
 use Rattle.pg_layouts.specs.Behind.{bare}

@@ -6,7 +6,7 @@ use Rattle.std.proofs.lemmas.Grind.{flat_map-append}
 use Rattle.std.proofs.lemmas.List.{flat_map_more}
 use Rattle.std.proofs.lemmas.List.Elements.{filter-append}
 use Rattle.std.proofs.Math.Seq.{take-suc}
-use Rattle.pg_areas.proofs.Ranges.{next_map, next_range}
+use Rattle.pg_floats.proofs.Ranges.{next_map, next_range}
 
 -- the image of one more number behind those of the numbers below it
 pub map_next : {Y : Type 0} (f : ℕ → Y) (old mid new : List Y) (n : ℕ) (x : Y) →

@@ -9,7 +9,7 @@ use Rattle.pg_style.specs.Values.{StyleValue}
 use Rattle.pg_style.specs.declared.style.Area.{Area}
 use Rattle.pg_rules.specs.Floats.{entry, plus_counts, slots, takes_bottom, takes_in_column, takes_top, takes_wide}
 use Rattle.pg_rules.specs.Room.{Document}
-use Rattle.pg_areas.specs.Spots.{takes_slot}
+use Rattle.pg_floats.specs.Spots.{takes_slot}
 use Rattle.pg_layouts.specs.declared.layout.Layout.{Layout}
 use Rattle.pg_layouts.specs.Counts.{count_lists}
 

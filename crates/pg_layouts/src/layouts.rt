@@ -9,7 +9,7 @@ ghost use Rattle.pg_layouts.specs.Fit.{Fit};
 use crate::counting::count_lists;
 use crate::layout::Layout;
 use crate::limits::area_limits;
-use pg_areas::{Spot, plus};
+use pg_floats::{Spot, plus};
 use pg_plan::Counts;
 use pg_style::Style;
 use std::alloc::{AllocError, Global};

@@ -1,10 +1,10 @@
 //! How many floats of each class an area may take.
 ghost use Rattle.std.specs.Prelude.{◌≡◌, ◌-◌, length, if◌then◌else◌, IfOk};
 ghost use Rattle.pg_rules.specs.Floats.{entry as entry_of, float_numbers};
-ghost use Rattle.pg_areas.specs.Spots.{takes_of, takes_slot};
+ghost use Rattle.pg_floats.specs.Spots.{takes_of, takes_slot};
 ghost use Rattle.pg_layouts.specs.Layouts.{limits};
 
-use pg_areas::{Spot, entry};
+use pg_floats::{Spot, entry};
 use pg_plan::Counts;
 use pg_style::Style;
 use std::alloc::{AllocError, Global};

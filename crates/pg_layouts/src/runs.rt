@@ -12,7 +12,7 @@ use crate::kind::ColumnKind;
 use crate::layout::Layout;
 use crate::layouts::{plus_counts, push_floats, push_tops};
 use crate::limits::area_limits;
-use pg_areas::Spot;
+use pg_floats::Spot;
 use pg_plan::{Counts, State};
 use pg_style::Style;
 use std::alloc::{AllocError, Global};

@@ -12,14 +12,14 @@ use std::alloc::AllocError;
 use std::marker::Model;
 
 /// Why variants are no choice.
-#[derive(Clone, Copy, Debug, PartialEq, Eq)]
+#[derive(Clone, Copy, PartialEq, Eq)]
 pub enum ShapeFault {
     Shape,
     Inserts,
 }
 
 /// A choice between variants, which keeps its shape.
-#[derive(Debug, Drop)]
+#[derive(Drop)]
 pub struct Choice {
     variants: Vec<Variant>,
 }

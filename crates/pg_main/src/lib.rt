@@ -10,7 +10,7 @@ ghost use Rattle.std.specs.Process.{exit_status};
 ghost use Rattle.pg_command.specs.Lines.{exit_number};
 
 use pg_outside::{FileShelf, StreamSink, words_of};
-use pg_steps::Steps;
+use pg_table::Steps;
 use pg_top::{Status, serve};
 use std::io;
 use std::marker::Brand;

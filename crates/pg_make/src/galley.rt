@@ -14,7 +14,7 @@ use pg_list::{Block, Blocks, Bytes, Choice, Galley, Item, Items, Order, Variant}
 use std::alloc::{AllocError, Global};
 
 /// Why no galley is made.
-#[derive(Clone, Copy, Debug, PartialEq, Eq)]
+#[derive(Clone, Copy, PartialEq, Eq)]
 pub enum MakeFault {
     /// More than 2000 paragraphs.
     Limit { count: u32 },

@@ -10,10 +10,10 @@ use Rattle.pg_list.specs.Shapes.{is_box, is_discardable}
 use Rattle.pg_list.specs.declared.blocks.Block.{Block}
 use Rattle.pg_list.specs.declared.item.Item.{Item}
 use Rattle.pg_list.specs.declared.item.Item.TheVariants.{BoxItem, Rule, Glue, Kern, Penalty, Insert, Carry}
-use Rattle.pg_flat.specs.Totals.{trimmed}
+use Rattle.pg_list.specs.Totals.{trimmed}
 use Rattle.pg_plan.specs.declared.pages.Column.{Column}
 use Rattle.pg_plan.specs.declared.pages.Page.{Page}
-use Rattle.pg_column_text.specs.Between.{column_text}
+use Rattle.pg_column.specs.Between.{column_text}
 use Rattle.pg_marks.specs.Carries.{is_label, label_of, mark_of, named}
 use Rattle.pg_marks.specs.Heads.{column_items, page_items}
 use Rattle.pg_marks.specs.Walked.{page_text}

@@ -3,10 +3,10 @@ use Rattle.std.specs.Prelude.{ℕ, ◌+◌, if◌then◌else◌, List, [], ◌�
 use Rattle.std.specs.List.{filter_map, flat_map, list_any}
 use Rattle.pg_list.specs.declared.blocks.Block.{Block}
 use Rattle.pg_list.specs.declared.item.Item.{Item}
-use Rattle.pg_flat.specs.Totals.{trimmed}
+use Rattle.pg_list.specs.Totals.{trimmed}
 use Rattle.pg_plan.specs.declared.pages.Column.{Column}
 use Rattle.pg_plan.specs.declared.pages.Page.{Page}
-use Rattle.pg_column_text.specs.Between.{column_text}
+use Rattle.pg_column.specs.Between.{column_text}
 use Rattle.pg_marks.specs.declared.lists.Head.{Head}
 use Rattle.pg_marks.specs.declared.lists.Reference.{Reference}
 use Rattle.pg_marks.specs.Carries.{mark_of, use_of, is_label}

@@ -6,7 +6,7 @@ use Rattle.std.specs.Str.{bytes_eq}
 use Rattle.pg_list.specs.declared.blocks.Block.{Block}
 use Rattle.pg_list.specs.declared.item.Item.{Item}
 use Rattle.pg_plan.specs.declared.pages.Page.{Page}
-use Rattle.pg_column_text.specs.Between.{column_text}
+use Rattle.pg_column.specs.Between.{column_text}
 use Rattle.pg_marks.specs.Carries.{label_of, use_of}
 use Rattle.pg_marks.specs.Heads.{first_or, last_or, marks}
 use Rattle.pg_marks.specs.declared.lists.Head.{Head}

@@ -1,10 +1,10 @@
 //! The items of a page.
 ghost use Rattle.std.specs.Prelude.{◌≡◌, ◌++◌, IfOk};
-ghost use Rattle.pg_column_text.specs.Between.{behind};
+ghost use Rattle.pg_column.specs.Between.{behind};
 ghost use Rattle.pg_marks.specs.Fitting.{AreFitting};
 ghost use Rattle.pg_marks.specs.Walked.{page_text};
 
-use pg_column_text::push_text;
+use pg_column::push_text;
 use pg_list::{Galley, Item};
 use pg_plan::Page;
 use std::alloc::{AllocError, Global};

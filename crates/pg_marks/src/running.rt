@@ -1,6 +1,6 @@
 //! The marks of pages.
 ghost use Rattle.std.specs.Prelude.{◌≡◌, IfOk, [], List, ℕ};
-ghost use Rattle.pg_column_text.specs.Between.{behind};
+ghost use Rattle.pg_column.specs.Between.{behind};
 ghost use Rattle.pg_marks.specs.Fitting.{AllFit};
 ghost use Rattle.pg_marks.specs.Heads.{first_or, heads as heads_of, last_or, marks};
 ghost use Rattle.pg_marks.specs.Walked.{heads_from, page_text};

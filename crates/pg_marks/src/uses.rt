@@ -1,6 +1,6 @@
 //! References: each use with its page, and the page of the first label of its name.
 ghost use Rattle.std.specs.Prelude.{◌≡◌, ◌<◌, ◌+◌, ◌^◌, ◌++◌, IfOk, OnOk, length, map, List, ℕ};
-ghost use Rattle.pg_column_text.specs.Between.{behind};
+ghost use Rattle.pg_column.specs.Between.{behind};
 ghost use Rattle.pg_marks.specs.Fitting.{AllFit};
 ghost use Rattle.pg_marks.specs.Carries.{label_of as label_in};
 ghost use Rattle.pg_marks.specs.Heads.{references as references_of};

@@ -25,14 +25,14 @@ use Rattle.pg_table.specs.declared.step.Step.{Step}
 use Rattle.law_moves.specs.Laws.{ListedAreMoves, ReachIsCeiling}
 use Rattle.law_moves.specs.Listed.{beyond, listed_floats, listed_stay, listed_text, stays_on}
 use Rattle.law_moves.specs.Steps.{IsCeiling, text_room}
-use Rattle.pg_laid.specs.Laid.{laid_of}
+use Rattle.pg_rooms.specs.Laid.{laid_of}
 use Rattle.pg_candidates.specs.RoomEnds.{ends_of}
 use Rattle.law_walk.specs.Candidates.{Candidate}
 use Rattle.pg_rooms.specs.PlaceEnds.{ArePlaceEnds, ends_in, has_room}
 use Rattle.pg_rooms.specs.declared.place_ends.PlaceEnds.{PlaceEnds}
 use Rattle.pg_rooms.proofs.Kept.{room_right}
 use Rattle.pg_moves.specs.Stepping.{AreTextSteps, stay_in, steps_in}
-use Rattle.pg_laid.specs.declared.laid.Laid.{Laid}
+use Rattle.pg_rooms.specs.declared.laid.Laid.{Laid}
 use Rattle.pg_moves.specs.Thinned.{Adds, Thins}
 use Rattle.pg_moves.proofs.Added.{thinned_moves, thins_all, thins_append}
 use Rattle.pg_moves.proofs.Stepped.{laid_steps}

@@ -19,10 +19,10 @@ use Rattle.pg_layouts.specs.Layouts.{move_of}
 use Rattle.law_moves.specs.Ages.{ages_left, float_cost}
 use Rattle.law_moves.specs.Listed.{layout_cost, listed_end, listed_stay, placed_with, state_to}
 use Rattle.law_moves.specs.Steps.{fitness_cost, kept_fitness, wide_of}
-use Rattle.pg_laid.specs.Laid.{laid_of}
-use Rattle.pg_laid.specs.declared.laid.Laid.{Laid}
-use Rattle.pg_waiting.specs.Settling.{Settles}
-use Rattle.pg_waiting.specs.declared.settling.Settled.{Settled}
+use Rattle.pg_rooms.specs.Laid.{laid_of}
+use Rattle.pg_rooms.specs.declared.laid.Laid.{Laid}
+use Rattle.pg_states.specs.Settling.{Settles}
+use Rattle.pg_states.specs.declared.settling.Settled.{Settled}
 use Rattle.pg_moves.specs.Stepping.{IsBehind, cost_at, fitness_behind, page_price, rank_tail, state_behind, stay_price}
 use Rattle.pg_moves.specs.declared.behind.Behind.{Behind}
 

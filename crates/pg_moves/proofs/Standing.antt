@@ -20,9 +20,9 @@ use Rattle.pg_layouts.proofs.Areas.{slots_long, zeros_entry}
 use Rattle.law_moves.specs.Ages.{may_wait}
 use Rattle.law_moves.specs.Listed.{column_fits, listed_stay, placed_with, stays_on}
 use Rattle.law_moves.specs.Steps.{area_of, wide_of}
-use Rattle.pg_laid.specs.Laid.{IsFloatLaid, laid_of}
+use Rattle.pg_rooms.specs.Laid.{IsFloatLaid, laid_of}
 use Rattle.pg_moves.specs.Stepping.{can_stand, stay_in}
-use Rattle.pg_laid.specs.declared.laid.Laid.{Laid}
+use Rattle.pg_rooms.specs.declared.laid.Laid.{Laid}
 
 -- ---- an area without floats
 

@@ -7,11 +7,11 @@ use Rattle.std.proofs.lemmas.List.Elements.{filter-append}
 use Rattle.pg_list.specs.declared.galley.Place.{Place}
 use Rattle.pg_plan.specs.declared.pages.PageMove.{PageMove}
 use Rattle.pg_plan.specs.declared.states.State.{State}
-use Rattle.pg_ends.specs.declared.end.End.{End}
+use Rattle.pg_column.specs.declared.end.End.{End}
 use Rattle.pg_candidates.specs.RoomEnds.{end_of, ends_of}
 use Rattle.pg_candidates.specs.declared.room_end.RoomEnd.{RoomEnd}
 use Rattle.law_walk.specs.Candidates.{Candidate}
-use Rattle.pg_flat.specs.Flat.{is_same_place}
+use Rattle.pg_list.specs.Flat.{is_same_place}
 use Rattle.pg_lemmas.proofs.Lists.{one_more}
 use Rattle.pg_layouts.specs.declared.layout.Layout.{Layout}
 use Rattle.pg_rules.specs.Floats.{called}
@@ -21,15 +21,15 @@ use Rattle.pg_table.specs.declared.step.Step.{Step}
 use Rattle.law_moves.specs.Ages.{may_wait}
 use Rattle.law_moves.specs.Listed.{calls_all, goes_on, listed_end, listed_with, placed_with}
 use Rattle.law_moves.specs.Steps.{text_room}
-use Rattle.pg_laid.specs.Laid.{laid_of}
-use Rattle.pg_laid.specs.declared.laid.Laid.{Laid}
+use Rattle.pg_rooms.specs.Laid.{laid_of}
+use Rattle.pg_rooms.specs.declared.laid.Laid.{Laid}
 use Rattle.pg_rooms.specs.PlaceEnds.{AreGroups, ArePlaceEnds, ends_in, groups_in}
 use Rattle.pg_rooms.specs.declared.grouping.Group.{Group}
 use Rattle.pg_rooms.specs.declared.place_ends.PlaceEnds.{PlaceEnds}
 use Rattle.pg_rooms.specs.declared.place_ends.RoomEnds.{RoomEnds}
 use Rattle.pg_rooms.proofs.Kept.{groups_right}
-use Rattle.pg_waiting.specs.Settling.{Settles}
-use Rattle.pg_waiting.specs.declared.settling.Settled.{Settled}
+use Rattle.pg_states.specs.Settling.{Settles}
+use Rattle.pg_states.specs.declared.settling.Settled.{Settled}
 use Rattle.pg_layouts.proofs.OneMore.{flat_next}
 use Rattle.pg_moves.specs.Stepping.{IsOpenAt, steps_in}
 use Rattle.pg_moves.specs.Thinned.{Adds}

@@ -3,7 +3,7 @@ use Rattle.std.specs.Prelude.{◌≡◌, ℕ, ◌+◌, ◌*◌, ◌^◌, ◌≤�
 use Rattle.pg_list.specs.declared.galley.Place.{Place}
 use Rattle.pg_plan.specs.declared.states.State.{State}
 use Rattle.pg_style.specs.Values.{StyleValue}
-use Rattle.pg_ends.specs.declared.end.End.{End}
+use Rattle.pg_column.specs.declared.end.End.{End}
 use Rattle.pg_rules.specs.Cost.{run_demerits}
 use Rattle.pg_rules.specs.Floats.{total_count}
 use Rattle.pg_rules.specs.Follow.{fills_page, keeps_run, other_side}
@@ -19,9 +19,9 @@ use Rattle.law_moves.specs.Laws.{AreEndsOf}
 use Rattle.law_moves.specs.Listed.{calls_all, column_fits, listed_stay, listed_text, listed_with, stays_on}
 use Rattle.pg_rooms.specs.PlaceEnds.{ends_in}
 use Rattle.pg_rooms.specs.declared.place_ends.RoomEnds.{RoomEnds}
-use Rattle.pg_waiting.specs.Settling.{Settles}
-use Rattle.pg_waiting.specs.declared.settling.Settled.{Settled}
-use Rattle.pg_laid.specs.declared.laid.Laid.{Laid}
+use Rattle.pg_states.specs.Settling.{Settles}
+use Rattle.pg_states.specs.declared.settling.Settled.{Settled}
+use Rattle.pg_rooms.specs.declared.laid.Laid.{Laid}
 use Rattle.law_space.specs.PageSpace.{side_run}
 use Rattle.pg_moves.specs.Thinned.{Thins}
 use Rattle.pg_moves.specs.declared.behind.Behind.{Behind}

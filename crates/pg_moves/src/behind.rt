@@ -5,21 +5,20 @@ ghost use Rattle.pg_rules.specs.IsState.{IsState};
 ghost use Rattle.pg_rules.specs.Room.{Document};
 ghost use Rattle.law_moves.specs.Steps.{fitness_cost as fitness_cost_of, kept_fitness as kept_fitness_of};
 ghost use Rattle.pg_sources.specs.Document.{doc_of};
-ghost use Rattle.pg_laid.specs.Laid.{laid_of};
+ghost use Rattle.pg_rooms.specs.Laid.{laid_of};
 ghost use Rattle.law_space.specs.PageSpace.{rank};
 ghost use Rattle.pg_moves.specs.Stepping.{IsBehind, rank_tail};
 
 use crate::steps::{fitness_price, kept_fitness, page_price, state_behind, text_price};
-use pg_areas::total;
 use pg_candidates::RoomEnd;
-use pg_laid::Laid;
+use pg_floats::total;
 use pg_plan::State;
+use pg_rooms::Laid;
+use pg_scaled::large_plus;
 use pg_small::SmallState;
 use pg_sources::Sources;
-use pg_states::{place_rank, rest_rank};
+use pg_states::{Settled, place_rank, rest_rank};
 use pg_style::Style;
-use pg_waiting::Settled;
-use pg_whole::large_plus;
 use std::alloc::AllocError;
 
 /// The state behind a column of a layout up to one end after another, with what is worked out once for all of them.

@@ -7,20 +7,19 @@ ghost use Rattle.pg_rules.specs.Floats.{called as called_of};
 ghost use Rattle.pg_rules.specs.IsState.{IsState};
 ghost use Rattle.law_moves.specs.Listed.{listed_with};
 ghost use Rattle.pg_sources.specs.Document.{doc_of};
-ghost use Rattle.pg_laid.specs.Laid.{laid_of};
+ghost use Rattle.pg_rooms.specs.Laid.{laid_of};
 ghost use Rattle.pg_rooms.specs.PlaceEnds.{AreGroups};
-ghost use Rattle.pg_waiting.specs.Settling.{known_of};
+ghost use Rattle.pg_states.specs.Settling.{known_of};
 ghost use Rattle.pg_moves.specs.Thinned.{Adds};
 
 use crate::steps::add_ends;
 use pg_candidates::{NearList, RoomEnd};
-use pg_laid::Laid;
 use pg_plan::State;
-use pg_rooms::Group;
+use pg_rooms::{Group, Laid};
 use pg_small::{SmallMove, SmallState};
 use pg_sources::Sources;
+use pg_states::{Known, calls_all, settle};
 use pg_table::{StepList, Wants};
-use pg_waiting::{Known, calls_all, settle};
 use std::alloc::AllocError;
 
 // Adds the wanted steps to ends before each of which the same floats are called.

@@ -11,21 +11,20 @@ ghost use Rattle.law_walk.specs.Reached.{tallest};
 ghost use Rattle.law_moves.specs.Listed.{beyond, listed_floats};
 ghost use Rattle.pg_sources.specs.Document.{doc_of};
 ghost use Rattle.pg_rooms.specs.PlaceEnds.{ArePlaceEnds};
-ghost use Rattle.pg_waiting.specs.Settling.{known_of};
+ghost use Rattle.pg_states.specs.Settling.{known_of};
 
 use crate::stays::add_stays;
 use crate::texts::text_steps;
 use law_moves::listed_steps_are_moves;
 use law_space::reach_laws::reach_is_the_greatest;
 use pg_hops::BreakIndex;
-use pg_laid::lay_floats;
 use pg_list::{Galley, Place};
 use pg_plan::{Counts, State};
-use pg_rooms::{Calls, PlaceEnds};
+use pg_rooms::{Calls, PlaceEnds, lay_floats};
 use pg_small::{SmallMove, SmallState};
 use pg_sources::Sources;
+use pg_states::{Known, known};
 use pg_table::{EveryMove, Opened, StepList, Wants};
-use pg_waiting::{Known, known};
 use pg_walk::{PlaceWalk, walk_from};
 use std::alloc::AllocError;
 

@@ -6,21 +6,21 @@ ghost use Rattle.pg_rules.specs.IsState.{IsState};
 ghost use Rattle.pg_layouts.specs.Layouts.{move_of};
 ghost use Rattle.law_moves.specs.Listed.{listed_stay};
 ghost use Rattle.pg_sources.specs.Document.{doc_of};
-ghost use Rattle.pg_laid.specs.Laid.{IsFloatLaid, laid_of};
-ghost use Rattle.pg_waiting.specs.Settling.{Settles, known_of};
+ghost use Rattle.pg_rooms.specs.Laid.{IsFloatLaid, laid_of};
+ghost use Rattle.pg_states.specs.Settling.{Settles, known_of};
 ghost use Rattle.pg_moves.specs.Stepping.{can_stand, fitness_behind as fitness_behind_of, stay_in, stay_price as stay_price_of};
-ghost use Rattle.pg_laid.specs.declared.laid.Laid.{Laid as ALaid};
+ghost use Rattle.pg_rooms.specs.declared.laid.Laid.{Laid as ALaid};
 ghost use Rattle.pg_plan.specs.declared.states.State.{State as AState};
 
 use crate::steps::{page_price, state_behind};
-use pg_laid::{Laid, has_floats};
 use pg_plan::{Picks, State};
+use pg_rooms::{Laid, has_floats};
+use pg_scaled::{large_plus, plus};
 use pg_small::{SmallMove, SmallState};
 use pg_sources::Sources;
+use pg_states::{Known, Settled, settle};
 use pg_style::Style;
 use pg_table::{Step, StepList};
-use pg_waiting::{Known, Settled, settle};
-use pg_whole::{large_plus, plus};
 use std::alloc::{AllocError, Global};
 
 // The column without text.

@@ -6,26 +6,26 @@ ghost use Rattle.pg_rules.specs.Cost.{run_demerits as run_demerits_of};
 ghost use Rattle.pg_rules.specs.Follow.{fills_page as fills_page_of, keeps_run, other_side as other_side_of};
 ghost use Rattle.pg_rules.specs.IsState.{IsState};
 ghost use Rattle.pg_layouts.specs.Layouts.{move_of};
-ghost use Rattle.pg_flat.specs.Flat.{is_same_place};
+ghost use Rattle.pg_list.specs.Flat.{is_same_place};
 ghost use Rattle.pg_candidates.specs.RoomEnds.{ends_of, picks_at};
 ghost use Rattle.pg_candidates.specs.declared.room_end.RoomEnd.{RoomEnd as ARoomEnd};
 ghost use Rattle.law_moves.specs.Listed.{listed_with};
 ghost use Rattle.law_moves.specs.Steps.{fitness_cost as fitness_cost_of, kept_fitness as kept_fitness_of};
 ghost use Rattle.pg_sources.specs.Document.{doc_of};
-ghost use Rattle.pg_laid.specs.Laid.{laid_of};
+ghost use Rattle.pg_rooms.specs.Laid.{laid_of};
 ghost use Rattle.pg_moves.specs.Stepping.{IsBehind, IsOpenAt, page_price as page_price_of, state_behind as state_behind_of};
 ghost use Rattle.pg_moves.specs.Thinned.{Adds};
 
 use crate::behind::{Behind, first_behind};
 use pg_candidates::{NearList, RoomEnd};
-use pg_laid::Laid;
 use pg_list::Place;
 use pg_plan::{Ages, Picks, Side, State};
+use pg_rooms::Laid;
 use pg_small::{SmallMove, SmallState};
 use pg_sources::Sources;
+use pg_states::Settled;
 use pg_style::{Run, Style};
 use pg_table::{Step, StepList, Wants};
-use pg_waiting::Settled;
 use std::alloc::AllocError;
 
 /// The fitness that the next column is compared with.

@@ -3,21 +3,20 @@ ghost use Rattle.std.specs.Prelude.{◌≡◌, Contains, IfOk, OnOk};
 ghost use Rattle.std.specs.List.{flat_map};
 ghost use Rattle.pg_rules.specs.IsState.{IsState};
 ghost use Rattle.pg_sources.specs.Document.{doc_of};
-ghost use Rattle.pg_laid.specs.Laid.{HasSoMany, laid_of};
+ghost use Rattle.pg_rooms.specs.Laid.{HasSoMany, laid_of};
 ghost use Rattle.pg_rooms.specs.PlaceEnds.{ArePlaceEnds};
-ghost use Rattle.pg_waiting.specs.Settling.{known_of};
+ghost use Rattle.pg_states.specs.Settling.{known_of};
 ghost use Rattle.pg_moves.specs.Stepping.{AreTextSteps, steps_in};
 ghost use Rattle.pg_moves.specs.Thinned.{Adds};
-ghost use Rattle.pg_laid.specs.declared.laid.Laid.{Laid as ALaid};
+ghost use Rattle.pg_rooms.specs.declared.laid.Laid.{Laid as ALaid};
 
 use crate::groups::add_groups;
-use pg_laid::{Laid, lay_texts};
 use pg_plan::{Counts, State};
-use pg_rooms::PlaceEnds;
+use pg_rooms::{Laid, PlaceEnds, lay_texts};
 use pg_small::{SmallMove, SmallState};
 use pg_sources::Sources;
+use pg_states::Known;
 use pg_table::{StepList, Wants};
-use pg_waiting::Known;
 use std::alloc::AllocError;
 
 // Adds the wanted steps to the ends in the room of a layout.

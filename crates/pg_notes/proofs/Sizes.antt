@@ -9,8 +9,8 @@ use Rattle.std.proofs.lemmas.Bool.Decides.{nat_tests}
 use Rattle.pg_list.specs.declared.item.Item.{Item}
 use Rattle.pg_list.specs.declared.item.Item.TheVariants.{BoxItem, Rule, Glue, Kern, Penalty, Insert, Carry}
 use Rattle.pg_list.specs.Shapes.{is_insert}
-use Rattle.pg_flat.specs.Totals.{trimmed}
-use Rattle.pg_flat.specs.Whole.{whole_sum, whole_sum_by}
+use Rattle.pg_list.specs.Totals.{trimmed}
+use Rattle.pg_list.specs.Whole.{whole_sum, whole_sum_by}
 use Rattle.pg_style.specs.Values.{StyleValue}
 use Rattle.pg_style.specs.declared.style.Class.{Class}
 use Rattle.pg_style.specs.declared.style.Kind.{Kind}

@@ -4,7 +4,7 @@ use Rattle.std.specs.List.{find}
 use Rattle.pg_list.specs.declared.item.Item.{Item}
 use Rattle.pg_style.specs.Values.{StyleValue}
 use Rattle.pg_style.specs.declared.style.Class.{Class}
-use Rattle.pg_flat.specs.Whole.{whole_sum}
+use Rattle.pg_list.specs.Whole.{whole_sum}
 use Rattle.pg_rules.specs.Floats.{sizes_of}
 use Rattle.pg_rules.specs.Room.{is_within_limit}
 use Rattle.pg_notes.specs.declared.sums.NoteSum.{NoteSum}

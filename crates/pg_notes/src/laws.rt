@@ -1,7 +1,7 @@
 //! The notes of a segment are those of all its items.
 ghost use Rattle.std.specs.Prelude.{◌≡◌, ℕ, List};
 ghost use Rattle.pg_list.specs.declared.item.Item.{Item};
-ghost use Rattle.pg_flat.specs.Totals.{trimmed};
+ghost use Rattle.pg_list.specs.Totals.{trimmed};
 ghost use Rattle.pg_style.specs.Values.{StyleValue};
 ghost use Rattle.pg_rules.specs.Floats.{sizes_of};
 ghost use Rattle.pg_rules.specs.Room.{notes, are_notes_within_limits};

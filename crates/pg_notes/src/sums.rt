@@ -18,7 +18,7 @@ use pg_style::{Class, Kind, Style};
 use std::marker::Model;
 
 /// The sum of the sizes of a class's inserts in scaled points, and whether there is one.
-#[derive(Clone, Copy, Debug, PartialEq, Eq)]
+#[derive(Clone, Copy, PartialEq, Eq)]
 pub struct NoteSum {
     pub size: u64,
     pub is_there: bool,
@@ -27,7 +27,7 @@ pub struct NoteSum {
 /// The sums of the notes of a segment so far, for each class of a style in increasing number.
 ///
 /// Every call with a style wants the style with which all items so far were added.
-#[derive(Clone, Copy, Debug)]
+#[derive(Clone, Copy)]
 pub struct NoteSums {
     sums: [NoteSum; 8],
     count: u32,

@@ -7,12 +7,12 @@ use Rattle.pg_list.specs.declared.blocks.Block.{Block}
 use Rattle.pg_list.specs.declared.galley.Place.{Place}
 use Rattle.pg_list.specs.Places.{item_at}
 use Rattle.pg_list.specs.Shapes.{IsBlock}
-use Rattle.pg_flat.specs.Flat.{end_of, flat_items_at, is_same_place}
+use Rattle.pg_list.specs.Flat.{end_of, flat_items_at, is_same_place}
 use Rattle.pg_column.specs.Ahead.{item_place}
 use Rattle.pg_column.proofs.Ahead.{IsSettled, Named, stop}
 use Rattle.pg_column.proofs.Spans.{behind as later, opened}
 use Rattle.pg_lemmas.proofs.Bools.{if_false, if_true}
-use Rattle.pg_column_text.specs.Between.{items_to}
+use Rattle.pg_column.specs.Between.{items_to}
 
 module _ (blocks : List Block) (all : AllByRecursion IsBlock blocks) (at : Place) (picks : List ℕ)
     (is : IsSettled blocks at) (named : Named blocks at picks) (is_end : Bool) (to : Place) (read whole : List Item)

@@ -9,9 +9,9 @@ use Rattle.pg_list.specs.Ranges.{IsItemInRange}
 use Rattle.pg_list.specs.Shapes.{is_box}
 use Rattle.pg_list.specs.declared.item.Item.{Item}
 use Rattle.pg_list.specs.declared.item.Item.TheVariants.{BoxItem, Rule, Glue, Kern, Penalty, Insert, Carry}
-use Rattle.pg_flat.specs.Badness.{is_over}
-use Rattle.pg_flat.specs.Totals.{depth, depth_of, full_size, has_size, height_of, shrink, shrink_of, top_glue, total}
-use Rattle.pg_flat.specs.Whole.{whole_sum_by}
+use Rattle.pg_list.specs.Badness.{is_over}
+use Rattle.pg_list.specs.Totals.{depth, depth_of, full_size, has_size, height_of, shrink, shrink_of, top_glue, total}
+use Rattle.pg_list.specs.Whole.{whole_sum_by}
 
 -- not below -n
 abbrev IsAbove : ℕ → ℤ → Type 0

@@ -5,7 +5,7 @@ use Rattle.std.specs.List.{sum_by}
 use Rattle.std.proofs.lemmas.Bool.{eqb-true, leb-true}
 use Rattle.std.proofs.lemmas.List.{length-map}
 use Rattle.std.proofs.lemmas.List.Sums.{sum_by-cons}
-use Rattle.pg_flat.specs.Flat.{flat}
+use Rattle.pg_list.specs.Flat.{flat}
 use Rattle.pg_rules.specs.Floats.{entry, float_numbers, floats, has_all, has_all_from, plus_counts, sizes_of}
 use Rattle.pg_rules.specs.Room.{Document}
 use Rattle.law_columns.proofs.BoundCounts.{plus_long}

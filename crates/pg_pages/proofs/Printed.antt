@@ -10,8 +10,8 @@ use Rattle.pg_list.specs.declared.item.Item.TheVariants.{BoxItem, Rule, Glue, Ke
 use Rattle.pg_list.specs.declared.blocks.Block.{Block}
 use Rattle.pg_list.specs.declared.galley.Place.{Place}
 use Rattle.pg_list.specs.Shapes.{is_box, is_discardable}
-use Rattle.pg_flat.specs.Flat.{FlatItem, end_of, is_same_place, steps_to}
-use Rattle.pg_flat.specs.Totals.{trimmed}
+use Rattle.pg_list.specs.Flat.{FlatItem, end_of, is_same_place, steps_to}
+use Rattle.pg_list.specs.Totals.{trimmed}
 use Rattle.pg_column.proofs.Leads.{is_at, position_here, position_later}
 use Rattle.std.proofs.lemmas.List.Elements.{filter_map-append}
 use Rattle.pg_pages.specs.Bodies.{plain_text}
@@ -22,7 +22,7 @@ use Rattle.std.specs.Prelude.{ℤ, pos}
 use Rattle.std.proofs.lemmas.List.{map-append, take_all}
 use Rattle.pg_lemmas.proofs.Lists.{range_more}
 use Rattle.std.specs.Prelude.{option_map}
-use Rattle.pg_column_text.specs.Between.{behind, items_to}
+use Rattle.pg_column.specs.Between.{behind, items_to}
 
 -- ---- items up to a place
 

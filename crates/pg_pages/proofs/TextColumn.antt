@@ -10,10 +10,10 @@ use Rattle.pg_list.specs.Counts.{item_count}
 use Rattle.pg_list.specs.Ranges.{IsItemInRange}
 use Rattle.pg_list.specs.Shapes.{IsBlock, is_box, is_discardable}
 use Rattle.pg_list.specs.declared.item.Item.{Item}
-use Rattle.pg_flat.specs.Break.{break_penalty, is_spent}
-use Rattle.pg_flat.specs.Flat.{FlatItem, blocks_at, end_of, flat, fronts, is_same_place, picked_variants}
-use Rattle.pg_flat.specs.Totals.{trimmed}
-use Rattle.pg_flat.specs.Whole.{whole_sum, whole_sum_by}
+use Rattle.pg_list.specs.Break.{break_penalty, is_spent}
+use Rattle.pg_list.specs.Flat.{FlatItem, blocks_at, end_of, flat, fronts, is_same_place, picked_variants}
+use Rattle.pg_list.specs.Totals.{trimmed}
+use Rattle.pg_list.specs.Whole.{whole_sum, whole_sum_by}
 use Rattle.pg_style.specs.Ranges.{IsClass, IsKind, IsStyle}
 use Rattle.pg_style.specs.Values.{StyleValue}
 use Rattle.pg_plan.specs.declared.pages.Column.{Column}
@@ -42,8 +42,8 @@ use Rattle.pg_pages.specs.Printed.{bare_text, bottom_by, dealt_text, numbers_tex
 use Rattle.pg_pages.proofs.ColumnText.{notes_are, widths_are}
 use Rattle.pg_pages.proofs.Excess.{excess_small}
 use Rattle.pg_pages.proofs.Numbers.{printed}
-use Rattle.pg_column_text.specs.Between.{items_to}
-use Rattle.pg_column_text.proofs.Steps.{items_are, map_length}
+use Rattle.pg_column.specs.Between.{items_to}
+use Rattle.pg_column.proofs.Steps.{items_are, map_length}
 
 -- ---- items
 
@@ -174,13 +174,13 @@ module _ (it : ColumnContext) (all : AllByRecursion IsBlock it.document.blocks) 
 
         by : (t : Bool) (o : Option ℕ) → t ≡ true → o ≡ Some n →
             (not t || option_map_or (λ (n : ℕ). not (text_is_over it n)
-            && (Rattle.pg_flat.specs.Break.is_forced (items_of it) n
+            && (Rattle.pg_list.specs.Break.is_forced (items_of it) n
             || Rattle.std.specs.Prelude.nat_le (Rattle.pg_rules.specs.ColumnRules.text_badness it n)
             it.document.style.tolerance)) o false) ≡ true → text_is_over it n ≡ false
         by false o t e r = absurd cc
         by true o t e r = not_over (text_is_over it n) _
             (subst (λ (o : Option ℕ). option_map_or (λ (n : ℕ). not (text_is_over it n)
-            && (Rattle.pg_flat.specs.Break.is_forced (items_of it) n
+            && (Rattle.pg_list.specs.Break.is_forced (items_of it) n
             || Rattle.std.specs.Prelude.nat_le (Rattle.pg_rules.specs.ColumnRules.text_badness it n)
             it.document.style.tolerance)) o false ≡ true) e r)
 

@@ -8,7 +8,7 @@ use Rattle.pg_list.specs.Ranges.{IsItemInRange}
 use Rattle.pg_list.specs.declared.item.Item.{Item}
 use Rattle.pg_list.specs.declared.item.Item.TheVariants.{BoxItem, Rule, Glue, Kern, Penalty, Insert, Carry}
 use Rattle.pg_list.specs.declared.item.Order.{Order}
-use Rattle.pg_flat.specs.Totals.{is_same_order}
+use Rattle.pg_list.specs.Totals.{is_same_order}
 use Rattle.pg_glue.specs.declared.Elastic.{Elastic}
 use Rattle.pg_glue.specs.declared.Sense.{Sense}
 use Rattle.pg_glue.specs.declared.Sense.TheVariants.{Stretch, Shrink}

@@ -6,9 +6,9 @@ use Rattle.pg_list.specs.declared.item.Item.{Item}
 use Rattle.pg_list.specs.declared.item.Item.TheVariants.{Glue, Insert}
 use Rattle.pg_list.specs.GalleyValue.{GalleyValue}
 use Rattle.pg_list.specs.Shapes.{is_box}
-use Rattle.pg_flat.specs.Break.{break_penalty}
-use Rattle.pg_flat.specs.Flat.{flat}
-use Rattle.pg_flat.specs.Totals.{top_glue}
+use Rattle.pg_list.specs.Break.{break_penalty}
+use Rattle.pg_list.specs.Flat.{flat}
+use Rattle.pg_list.specs.Totals.{top_glue}
 use Rattle.pg_plan.specs.Order.{columns}
 use Rattle.pg_plan.specs.declared.states.Side.{Side}
 use Rattle.pg_plan.specs.declared.pages.Column.{Column}

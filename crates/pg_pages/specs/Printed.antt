@@ -9,7 +9,7 @@ use Rattle.pg_list.specs.declared.item.Item.TheVariants.{Glue}
 use Rattle.pg_list.specs.declared.galley.Place.{Place}
 use Rattle.pg_list.specs.declared.blocks.Block.{Block}
 use Rattle.pg_list.specs.Shapes.{is_box, is_discardable}
-use Rattle.pg_flat.specs.Flat.{FlatItem, is_same_place}
+use Rattle.pg_list.specs.Flat.{FlatItem, is_same_place}
 use Rattle.pg_style.specs.Classes.{is_float_class}
 use Rattle.pg_style.specs.declared.style.Class.{Class}
 use Rattle.pg_floats.specs.Callouts.{first_items}
@@ -26,7 +26,7 @@ use Rattle.pg_pages.specs.PageText.{area, inserted, is_note_kind, items_text}
 use Rattle.pg_words.specs.Written.{line, whole_text}
 use Rattle.pg_scaled.specs.Scaled.{scaled_text}
 use Rattle.pg_pages.specs.SetGlue.{own_width, shrinking, stretching}
-use Rattle.pg_column_text.specs.Between.{behind}
+use Rattle.pg_column.specs.Between.{behind}
 
 -- ---- items
 

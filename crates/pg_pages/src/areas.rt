@@ -10,7 +10,7 @@ ghost use Rattle.pg_words.specs.Written.{line};
 ghost use Rattle.pg_pages.specs.Bodies.{body_text};
 ghost use Rattle.pg_pages.specs.PageText.{area, inserted, inserted_body};
 ghost use Rattle.pg_pages.specs.Printed.{bodies_of, class_notes_text, lent, notes_by};
-ghost use Rattle.pg_column_text.specs.Between.{behind};
+ghost use Rattle.pg_column.specs.Between.{behind};
 
 use crate::bodies::print_body;
 use pg_floats::first_items_of;

@@ -3,8 +3,8 @@ ghost use Rattle.std.specs.Prelude.{◌≡◌, ◌<◌, ◌≤◌, ◌+◌, ◌^
 ghost use Rattle.std.specs.List.{flat_map, AllByRecursion};
 ghost use Rattle.pg_list.specs.Counts.{item_limit};
 ghost use Rattle.pg_list.specs.Ranges.{IsItemInRange};
-ghost use Rattle.pg_flat.specs.Flat.{end_of, flat_items_at, is_same_place};
-ghost use Rattle.pg_flat.specs.Totals.{trimmed as trimmed_of};
+ghost use Rattle.pg_list.specs.Flat.{end_of, flat_items_at, is_same_place};
+ghost use Rattle.pg_list.specs.Totals.{trimmed as trimmed_of};
 ghost use Rattle.std.specs.Option.{option_map_or};
 ghost use Rattle.pg_rules.specs.Legal.{document};
 ghost use Rattle.pg_rules.specs.Room.{before_bottom, is_text, room as room_in, size_of};
@@ -19,7 +19,7 @@ ghost use Rattle.pg_pages.specs.Seated.{MayPrint, seated};
 ghost use Rattle.pg_words.specs.Written.{line};
 ghost use Rattle.pg_pages.specs.Printed.{dealt_text, bare_text, bottom_by, lent, notes_by, read_above, read_below, read_text, text_by, top_by};
 ghost use Rattle.pg_glue.specs.Widths.{IsPrintable};
-ghost use Rattle.pg_column_text.specs.Between.{behind, items_to};
+ghost use Rattle.pg_column.specs.Between.{behind, items_to};
 
 use crate::areas::{close_area, open_area, print_dealt, print_notes};
 use crate::glue::widths_of;

@@ -5,7 +5,7 @@ ghost use Rattle.pg_list.specs.Counts.{item_limit};
 ghost use Rattle.pg_glue.specs.Widths.{set_widths as set_widths_of};
 ghost use Rattle.pg_pages.specs.SetGlue.{own_width};
 ghost use Rattle.pg_pages.specs.Printed.{elastic, widths_by};
-ghost use Rattle.pg_column_text.specs.Between.{behind};
+ghost use Rattle.pg_column.specs.Between.{behind};
 
 use pg_glue::{Elastic, Sense, set_widths};
 use pg_list::{Item, Order};

@@ -17,8 +17,8 @@ ghost use Rattle.pg_pages.specs.Seated.{MayPrint, seated};
 use pg_floats::FloatList;
 use pg_list::Galley;
 use pg_plan::{Column, Counts};
+use pg_scaled::{minus, plus, wide};
 use pg_style::{AreaRule, Run, Style};
-use pg_whole::{minus, plus, wide};
 use std::alloc::{AllocError, Global};
 
 // An entry of a count list.

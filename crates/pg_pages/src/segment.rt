@@ -1,10 +1,10 @@
 //! The items of a column.
 ghost use Rattle.std.specs.Prelude.{◌≡◌, ◌++◌, ◌∷◌, [], OnOk, IfOk, true, if◌then◌else◌};
-ghost use Rattle.pg_flat.specs.Flat.{end_of, flat_items_at, is_same_place};
-ghost use Rattle.pg_flat.specs.Totals.{trimmed as trimmed_of};
+ghost use Rattle.pg_list.specs.Flat.{end_of, flat_items_at, is_same_place};
+ghost use Rattle.pg_list.specs.Totals.{trimmed as trimmed_of};
 ghost use Rattle.pg_column.specs.Fits.{are_named};
 ghost use Rattle.pg_pages.specs.Printed.{kept_from};
-ghost use Rattle.pg_column_text.specs.Between.{behind, items_to};
+ghost use Rattle.pg_column.specs.Between.{behind, items_to};
 
 use pg_column::{
     blocks_of, is_end, is_reached, item_ahead, item_place, next_index_of, picks_behind, settled,

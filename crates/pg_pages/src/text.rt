@@ -1,13 +1,13 @@
 //! The text area of a column.
 ghost use Rattle.std.specs.Prelude.{◌≡◌, ◌++◌, ◌∷◌, [], OnOk, IfOk, codes};
 ghost use Rattle.std.specs.List.{flat_map, AllByRecursion};
-ghost use Rattle.pg_flat.specs.Totals.{top_glue as top_glue_of};
+ghost use Rattle.pg_list.specs.Totals.{top_glue as top_glue_of};
 ghost use Rattle.pg_scaled.specs.Scaled.{Grows};
 ghost use Rattle.pg_pages.specs.Bodies.{plain_text};
 ghost use Rattle.pg_pages.specs.PageText.{items_text, set_items, top_line};
 ghost use Rattle.pg_pages.specs.Printed.{box_on, front_of, set_item, widths_behind};
 ghost use Rattle.pg_glue.specs.Widths.{IsPrintable};
-ghost use Rattle.pg_column_text.specs.Between.{behind};
+ghost use Rattle.pg_column.specs.Between.{behind};
 
 use crate::bodies::{print_body, print_set};
 use crate::lines::print_length_line;

@@ -3,7 +3,7 @@ use Rattle.std.proofs.Common.{◌≡◌, sym, ap, subst, ◌∙◌, ℕ, Option,
 use Rattle.std.specs.Prelude.{IfSome, length, map}
 use Rattle.std.specs.List.{AllByRecursion, insert}
 use Rattle.pg_candidates.specs.declared.room_end.RoomEnd.{RoomEnd}
-use Rattle.pg_flat.specs.Flat.{items_before}
+use Rattle.pg_list.specs.Flat.{items_before}
 use Rattle.pg_lemmas.proofs.Lists.{all_append, all_drop, all_take, no_items}
 use Rattle.pg_list.specs.declared.galley.Place.{Place}
 use Rattle.pg_rules.specs.Floats.{called, float_numbers, sizes_of}

@@ -3,7 +3,7 @@ use Rattle.std.specs.Prelude.{◌≡◌, Bool, true, false, if◌then◌else◌,
 use Rattle.std.specs.List.{AllByRecursion}
 use Rattle.std.specs.Ordering.{int_eq}
 use Rattle.pg_list.specs.declared.galley.Place.{Place}
-use Rattle.pg_ends.specs.Ends.{AreEnds}
+use Rattle.pg_column.specs.Ends.{AreEnds}
 use Rattle.pg_rules.specs.Floats.{called}
 use Rattle.pg_rules.specs.Room.{Document}
 use Rattle.law_walk.specs.Candidates.{Candidate}

@@ -1,13 +1,21 @@
-//! The ends of columns of text from a place, room by room, from one walk; what was worked out for a room is kept.
+//! The rooms that the layouts of a column leave to its text, and the ends of columns in them.
 //!
-//! Proved: `PlaceEnds` keeps for each room that it was asked for all ends in it, as pg_ends defines them with the picks of
-//! their candidates, in groups before which the same floats are called (`specs/PlaceEnds`).
+//! Proved: `lay_texts` gives each layout of a column of text up to a ceiling of counts, and `lay_floats` each of a
+//! column without text, with the wide area's height, the floats placed behind and the room for a text as the rules give
+//! them (`specs/Laid`); each deals out floats that are there, and no room is above that of the tallest run.
+//!
+//! `PlaceEnds` keeps for each room that it was asked for all ends in it, from one walk, as pg_column defines them with
+//! the picks of their candidates, in groups before which the same floats are called (`specs/PlaceEnds`).
 #![tactic(auto)]
 
 mod calls;
 mod grouping;
+mod laid;
+mod laying;
 mod place_ends;
 
 pub use calls::{Call, Calls};
 pub use grouping::Group;
+pub use laid::{Laid, has_floats};
+pub use laying::{lay_floats, lay_texts};
 pub use place_ends::{PlaceEnds, RoomEnds};

@@ -4,16 +4,16 @@ ghost use Rattle.std.specs.List.{AllByRecursion};
 ghost use Rattle.std.specs.Ordering.{int_eq};
 ghost use Rattle.pg_list.specs.declared.galley.Place.{Place as APlace};
 ghost use Rattle.law_walk.specs.Reached.{tallest};
-ghost use Rattle.pg_laid.specs.declared.laid.Laid.{Laid as ALaid};
+ghost use Rattle.pg_rooms.specs.declared.laid.Laid.{Laid as ALaid};
 ghost use Rattle.pg_sources.specs.Document.{doc_of};
 ghost use Rattle.pg_rooms.specs.Calls.{AreCalls};
 ghost use Rattle.pg_candidates.specs.Nears.{AreNearFrom};
 ghost use Rattle.pg_rooms.specs.PlaceEnds.{ArePlaceEnds, AreRoomEnds, ends_in, groups_in, has_room};
 
+use crate::Laid;
 use crate::calls::Calls;
 use crate::grouping::{Group, group_ends};
 use pg_candidates::{NearList, RoomEnd};
-use pg_laid::Laid;
 use pg_sources::Sources;
 use pg_walk::PlaceWalk;
 use std::alloc::{AllocError, Global};

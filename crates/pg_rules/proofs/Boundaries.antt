@@ -3,8 +3,8 @@ use Rattle.std.proofs.Common.{◌≡◌, refl, pos, negsuc, List, [], ◌∷◌,
 use Rattle.std.specs.declared.cmp.Ordering.TheVariants.{Less}
 use Rattle.pg_list.specs.declared.item.Item.TheVariants.{BoxItem, Penalty}
 use Rattle.pg_list.specs.GalleyValue.{GalleyValue}
-use Rattle.pg_flat.specs.Badness.{is_over, page_badness}
-use Rattle.pg_flat.specs.Totals.{total}
+use Rattle.pg_list.specs.Badness.{is_over, page_badness}
+use Rattle.pg_list.specs.Totals.{total}
 use Rattle.pg_plan.specs.Order.{picks_cmp}
 use Rattle.pg_plan.specs.declared.pages.Pagination.{Pagination}
 use Rattle.pg_plan.specs.declared.states.Side.{Side}

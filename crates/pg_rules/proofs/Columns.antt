@@ -3,8 +3,8 @@ use Rattle.std.proofs.Common.{◌≡◌, refl, pos, true, false, List, [], ◌�
 use Rattle.std.specs.Prelude.{map}
 use Rattle.pg_list.specs.declared.item.Item.{Item}
 use Rattle.pg_list.specs.declared.item.Item.TheVariants.{Carry}
-use Rattle.pg_flat.specs.Badness.{badness}
-use Rattle.pg_flat.specs.Break.{break_penalty, passes_between}
+use Rattle.pg_list.specs.Badness.{badness}
+use Rattle.pg_list.specs.Break.{break_penalty, passes_between}
 use Rattle.pg_rules.specs.Reach.{is_over_at_most}
 use Rattle.pg_rules.proofs.Examples.{line, lines, gap, kern, penalty, plain}
 

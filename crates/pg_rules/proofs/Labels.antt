@@ -4,8 +4,8 @@ use Rattle.std.specs.Option.{option_map_or}
 use Rattle.std.proofs.lemmas.Int.{ints}
 use Rattle.std.specs.Prelude.{◌==◌, ◌&&◌, Contains, slice_index_or, ℤ, pos, if◌then◌else◌}
 use Rattle.pg_lemmas.proofs.Bools.{both_of}
-use Rattle.pg_flat.proofs.Places.{same_place}
-use Rattle.pg_flat.specs.Flat.{is_same_place}
+use Rattle.pg_list.proofs.Places.{same_place}
+use Rattle.pg_list.specs.Flat.{is_same_place}
 use Rattle.pg_list.specs.GalleyValue.{GalleyValue}
 use Rattle.pg_list.specs.Places.{place}
 use Rattle.pg_list.specs.declared.galley.Place.{Place}

@@ -4,12 +4,12 @@ use Rattle.std.specs.List.{list_all, list_any}
 use Rattle.pg_list.specs.declared.variants.Variant.{Variant}
 use Rattle.pg_list.specs.declared.item.Item.{Item}
 use Rattle.pg_list.specs.Shapes.{is_box}
-use Rattle.pg_flat.specs.Badness.{is_over, page_badness}
-use Rattle.pg_flat.specs.Break.{break_penalty, is_forced, is_spent, passes_between}
-use Rattle.pg_flat.specs.Flat.{fronts, picked_variants, blocks_at}
+use Rattle.pg_list.specs.Badness.{is_over, page_badness}
+use Rattle.pg_list.specs.Break.{break_penalty, is_forced, is_spent, passes_between}
+use Rattle.pg_list.specs.Flat.{fronts, picked_variants, blocks_at}
 use Rattle.pg_rules.specs.Floats.{float_count, float_numbers, floats, has_all}
 use Rattle.pg_rules.specs.Room.{ColumnContext, is_text, flat_items_of, items_of, at_size, before_bottom, is_top_allowed, is_bottom_allowed, top_height, full_height, wide_height, room, notes, are_notes_within_limits}
-use Rattle.pg_flat.specs.Totals.{trimmed, total, shrink}
+use Rattle.pg_list.specs.Totals.{trimmed, total, shrink}
 
 -- ---- the first n items of the column
 

@@ -8,13 +8,13 @@ use Rattle.pg_plan.specs.Order.{columns}
 use Rattle.pg_plan.specs.declared.pages.Pagination.{Pagination}
 use Rattle.pg_style.specs.Values.{StyleValue}
 use Rattle.pg_style.specs.declared.style.Run.{Run}
-use Rattle.pg_flat.specs.Break.{break_penalty}
+use Rattle.pg_list.specs.Break.{break_penalty}
 use Rattle.pg_rules.specs.ColumnRules.{text_badness, column_variants}
 use Rattle.pg_rules.specs.History.{next_column, fitness_of, column_fitness, placed_of, context}
 use Rattle.pg_rules.specs.Legal.{added, distance, document}
 use Rattle.pg_rules.specs.Floats.{distance_table}
 use Rattle.pg_rules.specs.Room.{Document, ColumnContext, is_text, items_of, size_of}
-use Rattle.pg_flat.specs.Whole.{whole_sum_by, square}
+use Rattle.pg_list.specs.Whole.{whole_sum_by, square}
 
 -- what a penalty adds: its square, with its sign; nothing where it forces
 abbrev pub penalty_demerits : ℤ → ℤ

@@ -12,9 +12,9 @@ use Rattle.pg_style.specs.declared.style.Kind.TheVariants.{Note, Float}
 use Rattle.pg_style.specs.declared.style.Area.{Area}
 use Rattle.pg_style.specs.declared.style.Area.TheVariants.{Top, Bottom, Both, Wide}
 use Rattle.pg_style.specs.Values.{AreaRuleValue}
-use Rattle.pg_flat.specs.Flat.{flat, items_before}
+use Rattle.pg_list.specs.Flat.{flat, items_before}
 use Rattle.pg_list.specs.declared.galley.Place.{Place}
-use Rattle.pg_flat.specs.Whole.{whole_sum_by}
+use Rattle.pg_list.specs.Whole.{whole_sum_by}
 
 -- the class of a number
 abbrev pub class_of : StyleValue → ℕ → Option Class

@@ -8,7 +8,7 @@ use Rattle.pg_plan.specs.declared.states.State.{State}
 use Rattle.pg_style.specs.Values.{StyleValue}
 use Rattle.pg_rules.specs.ColumnRules.{does_fit, is_well_formed, is_tolerable, passes_breaks, has_room, has_counts, keeps_note_limits, keeps_looseness}
 use Rattle.pg_rules.specs.Cost.{column_cost}
-use Rattle.pg_flat.specs.Flat.{is_same_place}
+use Rattle.pg_list.specs.Flat.{is_same_place}
 use Rattle.pg_rules.specs.Floats.{called, floats_between}
 use Rattle.pg_rules.specs.History.{context_with, made_wide, placed_after, is_called, fitness_after}
 use Rattle.pg_rules.specs.Legal.{has_wide_counts, deals_floats, has_callouts, has_run, added}

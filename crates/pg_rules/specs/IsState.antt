@@ -10,7 +10,7 @@ use Rattle.pg_plan.specs.declared.states.Side.TheVariants.{L, R, S}
 use Rattle.pg_plan.specs.declared.states.State.{State}
 use Rattle.pg_style.specs.declared.style.First.{First}
 use Rattle.pg_style.specs.declared.style.First.TheVariants.{Left, Right, Single}
-use Rattle.pg_flat.specs.Flat.{is_same_place, end_of}
+use Rattle.pg_list.specs.Flat.{is_same_place, end_of}
 use Rattle.pg_rules.specs.Floats.{entry, called, float_numbers, slots}
 use Rattle.pg_rules.specs.Follow.{waiting_in}
 use Rattle.pg_rules.specs.Floats.{distance_table}

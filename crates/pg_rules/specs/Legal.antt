@@ -9,9 +9,9 @@ use Rattle.pg_plan.specs.declared.pages.Page.{Page}
 use Rattle.pg_plan.specs.declared.pages.Pagination.{Pagination}
 use Rattle.pg_style.specs.Values.{StyleValue}
 use Rattle.pg_style.specs.declared.style.Area.{Area}
-use Rattle.pg_flat.specs.Break.{is_spent}
+use Rattle.pg_list.specs.Break.{is_spent}
 use Rattle.pg_rules.specs.ColumnRules.{does_fit, is_well_formed, is_tolerable, passes_breaks, has_room, has_counts, has_dealable, keeps_note_limits, keeps_looseness}
-use Rattle.pg_flat.specs.Flat.{FlatItem, is_same_place, flat_items_at}
+use Rattle.pg_list.specs.Flat.{FlatItem, is_same_place, flat_items_at}
 use Rattle.pg_rules.specs.Floats.{total_count, float_numbers, floats, has_all, entry, float_class, is_area_allowed, takes_wide, floats_between, distance_table}
 use Rattle.pg_rules.specs.History.{next_column, next_page, next_run, place_of, placed_of, placed_after, is_called, calling_page, context}
 use Rattle.pg_rules.specs.Room.{Document, ColumnContext}

@@ -8,10 +8,10 @@ use Rattle.pg_list.specs.declared.galley.Edit.{Edit}
 use Rattle.pg_list.specs.Places.{tail, spliced}
 use Rattle.pg_style.specs.Values.{StyleValue}
 use Rattle.pg_style.specs.declared.style.Run.{Run}
-use Rattle.pg_flat.specs.Badness.{is_over}
-use Rattle.pg_flat.specs.Break.{passes_between}
-use Rattle.pg_flat.specs.Flat.{FlatItem, flat_items_at, steps_to, fronts, picked_variants, blocks_at}
-use Rattle.pg_flat.specs.Totals.{trimmed, total, shrink}
+use Rattle.pg_list.specs.Badness.{is_over}
+use Rattle.pg_list.specs.Break.{passes_between}
+use Rattle.pg_list.specs.Flat.{FlatItem, flat_items_at, steps_to, fronts, picked_variants, blocks_at}
+use Rattle.pg_list.specs.Totals.{trimmed, total, shrink}
 use Rattle.pg_rules.specs.Room.{Document}
 
 -- the most that a run adds

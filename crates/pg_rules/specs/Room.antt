@@ -5,14 +5,14 @@ use Rattle.std.specs.Option.{option_map_or}
 use Rattle.pg_list.specs.declared.blocks.Block.{Block}
 use Rattle.pg_list.specs.declared.item.Item.{Item}
 use Rattle.pg_plan.specs.declared.pages.Column.{Column}
-use Rattle.pg_flat.specs.Flat.{FlatItem, flat_items_at, steps_to, is_same_place}
+use Rattle.pg_list.specs.Flat.{FlatItem, flat_items_at, steps_to, is_same_place}
 use Rattle.pg_style.specs.Values.{StyleValue}
 use Rattle.pg_style.specs.declared.style.Run.{Run}
 use Rattle.pg_style.specs.declared.style.Class.{Class}
 use Rattle.pg_style.specs.declared.style.Kind.{Kind}
 use Rattle.pg_style.specs.declared.style.Kind.TheVariants.{Note, Float}
 use Rattle.pg_style.specs.Values.{AreaRuleValue}
-use Rattle.pg_flat.specs.Whole.{whole_sum_by, whole_sum}
+use Rattle.pg_list.specs.Whole.{whole_sum_by, whole_sum}
 use Rattle.pg_rules.specs.Floats.{dealt, has_all, floats, area_height, is_area_allowed, takes_top, takes_bottom, takes_in_column, sizes_of, plus_counts}
 
 -- the galley's blocks and the style

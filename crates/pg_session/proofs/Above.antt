@@ -4,7 +4,7 @@ use Rattle.std.specs.Prelude.{◌==◌, cond, nat_le}
 use Rattle.std.specs.List.{count_by}
 use Rattle.std.proofs.lemmas.List.Sums.{sum_by-cons}
 use Rattle.std.proofs.lemmas.Bool.{eqb-true}
-use Rattle.pg_flat.specs.Flat.{flat_items_at, fronts}
+use Rattle.pg_list.specs.Flat.{flat_items_at, fronts}
 use Rattle.pg_lemmas.proofs.Bools.{both_of, by_bool}
 use Rattle.pg_lemmas.proofs.Numbers.{le_true}
 use Rattle.pg_list.specs.Counts.{item_count, item_limit}

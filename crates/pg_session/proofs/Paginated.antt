@@ -7,7 +7,7 @@ use Rattle.pg_floats.specs.FloatsValue.{ClassFloatsValue}
 use Rattle.pg_list.specs.GalleyValue.{GalleyValue}
 use Rattle.pg_plan.specs.declared.states.Label.{Label}
 use Rattle.pg_style.specs.Values.{StyleValue}
-use Rattle.pg_frontier.proofs.Ordered.{listed}
+use Rattle.pg_space.proofs.Ordered.{listed}
 use Rattle.pg_rules.specs.Frontier.{Frontier, state_cmp}
 use Rattle.pg_rules.specs.Legal.{document}
 use Rattle.pg_rules.specs.Ranges.{AreInRange}

@@ -15,12 +15,11 @@ use crate::kept::Kept;
 use crate::told::Told;
 use law_space::filled_table_tells_all;
 use pg_floats::FloatList;
-use pg_frontier::frontier_of;
 use pg_hops::BreakIndex;
 use pg_list::Galley;
-use pg_space::{Outcome, PageSpace, outcome_of, refill_pages};
-use pg_steps::Steps;
+use pg_space::{Outcome, PageSpace, frontier_of, outcome_of, refill_pages};
 use pg_style::Style;
+use pg_table::Steps;
 use std::alloc::{AllocError, Global};
 use std::sync::ledger::Ledger;
 

@@ -14,7 +14,7 @@ use pg_list::{Bytes, Item, Order};
 use pg_scan::{letter_first, named, skip, skip_if};
 
 /// What the first line of an item says: its kind and its numbers, in scaled points.
-#[derive(Clone, Copy, Debug, PartialEq, Eq)]
+#[derive(Clone, Copy, PartialEq, Eq)]
 pub enum Node {
     Box {
         height: i32,

@@ -10,7 +10,7 @@ use pg_scan::skip;
 
 /// What a line says: nothing outside of listings, the end of a listing, a root of this width, the
 /// first line of an item, a deeper line, or a marker of a choice.
-#[derive(Clone, Copy, Debug, PartialEq, Eq)]
+#[derive(Clone, Copy, PartialEq, Eq)]
 pub enum ParsedLine {
     Nothing,
     Blank,

@@ -16,7 +16,7 @@ use std::mem;
 
 /// Where the next line stands: in no listing, in a listing, in a choice before its first variant, or
 /// in a variant with this looseness and these demerits.
-#[derive(Clone, Copy, Debug, PartialEq, Eq)]
+#[derive(Clone, Copy, PartialEq, Eq)]
 pub enum Within {
     Outside,
     Listing,
@@ -26,7 +26,7 @@ pub enum Within {
 
 /// What was read so far: the blocks, the width of the first root, the variants and items of the
 /// choice that is open, whether an item stands before the next line, and the number of items.
-#[derive(Debug, Drop)]
+#[derive(Drop)]
 pub struct ReaderState {
     pub blocks: Blocks,
     pub width: Option<i32>,

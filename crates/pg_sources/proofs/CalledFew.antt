@@ -9,7 +9,7 @@ use Rattle.pg_list.specs.declared.galley.Place.{Place}
 use Rattle.pg_style.specs.Values.{StyleValue}
 use Rattle.pg_floats.specs.FloatsValue.{ClassFloatsValue}
 use Rattle.pg_rules.specs.Floats.{called, entry, float_numbers, floats}
-use Rattle.pg_areas.specs.Given.{IsListOf}
+use Rattle.pg_floats.specs.Given.{IsListOf}
 use Rattle.law_moves.proofs.Ceilings.{called_few}
 
 counts_few : (lists : List (List ℤ)) (slot : ℕ) →

@@ -7,7 +7,7 @@ use Rattle.pg_list.specs.declared.blocks.Block.{Block}
 use Rattle.pg_style.specs.Values.{StyleValue}
 use Rattle.pg_floats.specs.FloatsValue.{ClassFloatsValue}
 use Rattle.pg_floats.specs.contracts.list.ClassFloats as class_row
-use Rattle.pg_areas.specs.Given.{IsListOf}
+use Rattle.pg_floats.specs.Given.{IsListOf}
 
 lists_set : IsSet (List ClassFloatsValue)
 lists_set = Coded-set (coded_list class_row.the_row.coded)

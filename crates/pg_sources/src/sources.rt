@@ -2,11 +2,10 @@
 ghost use Rattle.std.specs.Prelude.{◌≡◌, ◌≤◌, length};
 ghost use Rattle.pg_rules.specs.Floats.{float_numbers};
 ghost use Rattle.pg_rules.specs.Ranges.{AreInRange, AreInRange_prop};
-ghost use Rattle.pg_areas.specs.Given.{IsListOf};
+ghost use Rattle.pg_floats.specs.Given.{IsListOf};
 ghost use Rattle.pg_sources.specs.OneProof.{IsListOf_prop};
 
-use pg_areas::slots_of;
-use pg_floats::FloatList;
+use pg_floats::{FloatList, slots_of};
 use pg_list::Galley;
 use pg_style::Style;
 use std::alloc::Global;

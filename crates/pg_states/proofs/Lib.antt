@@ -1,3 +1,8 @@
+pub mod Ahead
+pub mod Empty
+pub mod Fresh
+pub mod Next
+pub mod Settles
 pub mod Both
 pub mod FirstState
 pub mod Sums

@@ -3,7 +3,7 @@ use Rattle.std.proofs.Common.{◌≡◌, ap, ◌∙◌, ℕ, ◌+◌, ◌*◌, �
 use Rattle.std.specs.List.{range_with_len}
 use Rattle.std.proofs.lemmas.List.Sums.{sum_by-append, sum_by-cons}
 use Rattle.pg_rules.specs.Floats.{total_count}
-use Rattle.pg_areas.proofs.Ranges.{next_map}
+use Rattle.pg_floats.proofs.Ranges.{next_map}
 
 -- one number of a range more
 pub total_next : (f : ℕ → ℕ) (n count more : ℕ) → count ≡ total_count (map f (range_with_len 0 n)) → more ≡ f n →

@@ -7,10 +7,10 @@ ghost use Rattle.law_moves.specs.StateTest.{young_by};
 ghost use Rattle.pg_sources.specs.Document.{doc_of};
 ghost use Rattle.pg_states.specs.Parts.{waits_in};
 
-use pg_areas::{entry, table_of};
+use crate::{behind, front};
+use pg_floats::{entry, table_of};
 use pg_plan::State;
 use pg_sources::Sources;
-use pg_waiting::{behind, front};
 
 // How many floats of a slot are called before a state's place and not placed.
 fn count_waiting(sources: &Sources<'_>, state: &State, slot: usize) -> usize

@@ -4,7 +4,7 @@ ghost use Rattle.law_moves.specs.Listed.{calls_all as calls_all_of};
 ghost use Rattle.pg_sources.specs.Document.{doc_of};
 ghost use Rattle.pg_states.specs.Called.{is_slot_called};
 
-use pg_areas::entry;
+use pg_floats::entry;
 use pg_list::Place;
 use pg_sources::Sources;
 

@@ -1,6 +1,6 @@
 //! When a state is no worse than another one.
 ghost use Rattle.std.specs.Prelude.{◌≡◌, ◌==◌, ◌&&◌, nat_le, IfOk};
-ghost use Rattle.pg_flat.specs.Flat.{is_same_place as is_same_place_of};
+ghost use Rattle.pg_list.specs.Flat.{is_same_place as is_same_place_of};
 ghost use Rattle.pg_rules.specs.NoWorse.{are_no_older as are_no_older_of, are_same_counts as are_same_counts_of, is_no_worse, is_same_key as is_same_key_of, is_same_number as is_same_number_of, is_same_side as is_same_side_of, is_same_whole as is_same_whole_of, key};
 
 use pg_list::Place;

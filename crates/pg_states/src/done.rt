@@ -5,7 +5,7 @@ ghost use Rattle.pg_rules.specs.Legal.{has_dealt_all as has_dealt_all_of, is_spe
 ghost use Rattle.pg_rules.specs.States.{is_done as is_done_of};
 ghost use Rattle.pg_sources.specs.Document.{doc_of};
 
-use pg_remains::{has_dealt_all, is_spent_at};
+use pg_floats::{has_dealt_all, is_spent_at};
 use pg_small::SmallState;
 use pg_sources::Sources;
 

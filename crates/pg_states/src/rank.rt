@@ -9,7 +9,7 @@ ghost use Rattle.pg_sources.specs.Document.{doc_of};
 ghost use Rattle.law_space.specs.PageSpace.{place_rank as place_rank_of, rank, side_run as side_run_of};
 
 use law_space::ranks_fit;
-use pg_areas::total;
+use pg_floats::total;
 use pg_plan::Side;
 use pg_small::SmallState;
 use pg_sources::Sources;

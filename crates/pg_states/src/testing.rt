@@ -1,7 +1,7 @@
 //! The test of a state, field by field.
 ghost use Rattle.std.specs.Prelude.{◌≡◌, ◌↔◌, IsTrue, ◌&&◌, ◌||◌, ◌==◌, if◌then◌else◌, true, not, nat_le, nat_lt, int_le, int_lt, is_some, length, pos, ◌^◌};
 ghost use Rattle.std.specs.Option.{option_map_or};
-ghost use Rattle.pg_flat.specs.Flat.{end_of, is_same_place};
+ghost use Rattle.pg_list.specs.Flat.{end_of, is_same_place};
 ghost use Rattle.pg_plan.specs.declared.states.Side.TheVariants.{R};
 ghost use Rattle.pg_rules.specs.IsState.{IsState, has_side as has_side_of, not_first, not_some};
 ghost use Rattle.pg_rules.specs.NoWorse.{is_same_side};

@@ -31,7 +31,7 @@ impl Model for Distance {
 }
 
 /// Why entries are no distance table.
-#[derive(Clone, Copy, Debug, PartialEq, Eq)]
+#[derive(Clone, Copy, PartialEq, Eq)]
 pub enum DistanceFault {
     Range,
     Decreasing,

@@ -7,7 +7,7 @@ use pg_list::Bytes;
 use std::alloc::{AllocError, Global};
 
 /// What is wrong with a style file.
-#[derive(Clone, Copy, Debug, PartialEq, Eq)]
+#[derive(Clone, Copy, PartialEq, Eq)]
 pub enum StyleKind {
     /// The text is no TOML.
     Toml,
@@ -31,7 +31,7 @@ pub enum StyleKind {
 
 /// The first fault of a style file, and the path of the key that has it. The path is empty where
 /// the text is no TOML, and where there was no memory.
-#[derive(Debug, Drop)]
+#[derive(Drop)]
 pub struct StyleFault {
     pub kind: StyleKind,
     pub key: Bytes,
@@ -57,7 +57,7 @@ impl StyleKind {
 }
 
 /// A table of a style file.
-#[derive(Clone, Copy, Debug, PartialEq, Eq)]
+#[derive(Clone, Copy, PartialEq, Eq)]
 pub enum TableName {
     Root,
     Top,
@@ -69,7 +69,7 @@ pub enum TableName {
 }
 
 /// A fault at a key of a table. It takes no memory.
-#[derive(Clone, Copy, Debug)]
+#[derive(Clone, Copy)]
 pub struct Fault<'t> {
     pub kind: StyleKind,
     pub table_name: TableName,

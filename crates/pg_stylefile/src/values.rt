@@ -10,7 +10,7 @@ use pg_style::{Area, First};
 use toml::{Table, Value};
 
 /// What the inserts of a class are.
-#[derive(Clone, Copy, Debug, PartialEq, Eq)]
+#[derive(Clone, Copy, PartialEq, Eq)]
 pub enum Sort {
     Note,
     Float,

@@ -1,8 +1,8 @@
 -- How badly kept totals fill a goal.
 use Rattle.std.proofs.Common.{◌≡◌, refl, Bool, List, ℤ}
 use Rattle.pg_list.specs.declared.item.Item.{Item}
-use Rattle.pg_flat.specs.Badness.{page_badness}
-use Rattle.pg_flat.specs.Totals.{total}
+use Rattle.pg_list.specs.Badness.{page_badness}
+use Rattle.pg_list.specs.Totals.{total}
 use Rattle.pg_sums.specs.AreSums.{AreTotals}
 use Rattle.pg_sums.specs.Step.{badness_by}
 use Rattle.pg_sums.specs.declared.totals.Totals.{Totals}

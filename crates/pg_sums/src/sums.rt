@@ -5,8 +5,8 @@ ghost use Rattle.pg_list.specs.Ranges.{IsItemInRange};
 ghost use Rattle.pg_scaled.specs.Ranges.{IsScaled};
 ghost use Rattle.pg_list.specs.Shapes.{is_box, is_discardable};
 ghost use Rattle.pg_list.specs.declared.item.Item.{Item as AnItem};
-ghost use Rattle.pg_flat.specs.Totals.{total, shrink, stretch, trimmed};
-ghost use Rattle.pg_flat.specs.Badness.{badness as badness_of, is_over, page_badness, has_infinite as has_infinite_of};
+ghost use Rattle.pg_list.specs.Totals.{total, shrink, stretch, trimmed};
+ghost use Rattle.pg_list.specs.Badness.{badness as badness_of, is_over, page_badness, has_infinite as has_infinite_of};
 ghost use Rattle.pg_list.specs.declared.item.Order.TheVariants.{Finite};
 ghost use Rattle.pg_sums.specs.AreSums.{AreSums};
 ghost use Rattle.pg_sums.specs.SumsValue.{IsBounded};
@@ -15,14 +15,14 @@ ghost use Rattle.pg_sums.specs.Step.{badness_by, counted, has_infinite as has_in
 use crate::totals::Totals;
 use pg_badness::badness;
 use pg_list::{Item, item_is_discardable};
-use pg_whole::minus;
+use pg_scaled::minus;
 use std::marker::Model;
 
 /// The sums of a segment so far, in scaled points (65536 to the point). Discardable items before its first box
 /// or rule are left out.
 ///
 /// Each number is the number of the items added since `start`, whatever they are.
-#[derive(Clone, Copy, Debug)]
+#[derive(Clone, Copy)]
 pub struct Sums {
     topskip: i32,
     maxdepth: i32,

@@ -4,18 +4,18 @@ ghost use Rattle.std.specs.Int.{int_max, int_min};
 ghost use Rattle.pg_list.specs.Ranges.{IsItemInRange};
 ghost use Rattle.pg_scaled.specs.Ranges.{IsScaled};
 ghost use Rattle.pg_list.specs.declared.item.Order.TheVariants.{Finite, Fil, Fill, Filll};
-ghost use Rattle.pg_flat.specs.Totals.{is_same_order};
+ghost use Rattle.pg_list.specs.Totals.{is_same_order};
 ghost use Rattle.pg_sums.specs.SumsValue.{HaveSameGlue, HasGlueGrown, HasGrown, IsBounded};
 ghost use Rattle.pg_sums.specs.AreSums.{AreTotals};
 ghost use Rattle.pg_sums.specs.Step.{no_totals, with_item};
 ghost use Rattle.pg_list.specs.declared.item.Item.{Item as AnItem};
 
 use pg_list::{Item, Order};
-use pg_whole::{minus, plus, wide};
+use pg_scaled::{minus, plus, wide};
 
 /// The sums of items that all count, in scaled points: the natural size without the depth that hangs below,
 /// that depth, the stretch of each order, and the shrink.
-#[derive(Clone, Copy, Debug, PartialEq, Eq, Hash)]
+#[derive(Clone, Copy, PartialEq, Eq, Hash)]
 pub struct Totals {
     pub total: i64,
     pub depth: i64,

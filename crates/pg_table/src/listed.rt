@@ -1,9 +1,9 @@
 //! A space that lists its moves, for who looks for wanted ones.
 ghost use Rattle.std.specs.Prelude.{◌≡◌};
 
+use crate::Steps;
 use crate::space::{Offering, Space, Wants};
 use crate::step::Opened;
-use pg_steps::Steps;
 use std::alloc::AllocError;
 use std::cmp::Ordering;
 use std::sync::ledger::Ledger;

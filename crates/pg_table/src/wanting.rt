@@ -4,12 +4,12 @@ ghost use Rattle.std.specs.Bool.{Decides};
 ghost use Rattle.pg_table.specs.Space.{AreWanted};
 ghost use Rattle.pg_table.specs.Needless.{is_spared};
 
+use crate::Steps;
 use crate::pending::{Pending, hinted};
 use crate::search::is_below;
 use crate::space::{Offering, Wants};
 use crate::step::Opened;
 use crate::table::Entry;
-use pg_steps::Steps;
 use std::alloc::AllocError;
 use std::marker::PhantomData;
 use std::sync::ledger::Ledger;

@@ -8,16 +8,16 @@ use Rattle.pg_list.specs.declared.galley.Place.{Place}
 use Rattle.pg_list.specs.Places.{picked_items}
 use Rattle.pg_list.specs.Shapes.{IsBlock}
 use Rattle.pg_breaks.proofs.Lists.{get_lt}
-use Rattle.pg_flat.specs.Flat.{FlatItem, end_of}
-use Rattle.pg_flat.proofs.Places.{same_place}
+use Rattle.pg_list.specs.Flat.{FlatItem, end_of}
+use Rattle.pg_list.proofs.Places.{same_place}
 use Rattle.pg_column.specs.Passed.{Passed, nothing}
 use Rattle.pg_rules.specs.IsState.{IsPlace}
 use Rattle.pg_rules.specs.Room.{Document}
-use Rattle.pg_stretch.specs.View.{IsFor, view}
-use Rattle.pg_stretch.specs.declared.passing.State.{State}
-use Rattle.pg_stretch.proofs.Left.{first_left}
-use Rattle.pg_stretch.specs.Quiet.{is_quiet, passed_along}
-use Rattle.pg_stretch.proofs.Quiet.{quiet_reach, quiet_stops}
+use Rattle.pg_hops.specs.View.{IsFor, view}
+use Rattle.pg_hops.specs.declared.state.State.{State}
+use Rattle.pg_hops.proofs.Left.{first_left}
+use Rattle.pg_hops.specs.Quiet.{is_quiet, passed_along}
+use Rattle.pg_hops.proofs.Quiet.{quiet_reach, quiet_stops}
 use Rattle.law_walk.specs.Reached.{first_reach, quiet, reach_along}
 use Rattle.law_walk.specs.Walk.{first_front, first_items, past_stretch, variants_at}
 use Rattle.law_walk.proofs.SpaceLaws.{past_parts}
@@ -28,10 +28,10 @@ use Rattle.pg_walk.specs.Blocks.{IsAlone, TellsQuiet}
 use Rattle.law_walk.specs.Candidates.{AreCandidates, Candidate}
 use Rattle.law_walk.specs.Laws.{LabelsSuffice}
 use Rattle.law_walk.specs.Space.{first_ends}
-use Rattle.pg_walk_space.proofs.Lifted.{entries_of, lifted}
-use Rattle.pg_walk_labels.specs.Collected.{Collects}
-use Rattle.pg_walk_labels.proofs.Collecting.{are_collected}
-use Rattle.pg_walk_space.specs.Meaning.{IsOwn, state_of}
+use Rattle.pg_walk.proofs.Lifted.{entries_of, lifted}
+use Rattle.pg_walk.specs.Collected.{Collects}
+use Rattle.pg_walk.proofs.Collecting.{are_collected}
+use Rattle.pg_walk.specs.Meaning.{IsOwn, state_of}
 
 -- a place of the galley stands in it, or at its end
 pub place_within : (blocks : List Block) (at : Place) → IsPlace blocks at → at.block ≤ length blocks

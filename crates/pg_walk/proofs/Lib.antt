@@ -1,3 +1,9 @@
+pub mod Lifted
+pub mod Moves
+pub mod Reaches
+pub mod Labels
+pub mod Collecting
+pub mod Greatest
 pub mod First
-pub mod Furthest
+pub mod FurthestBlocks
 pub mod Several

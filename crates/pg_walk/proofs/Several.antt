@@ -4,8 +4,8 @@ use Rattle.std.specs.Prelude.{if◌then◌else◌, int_lt, slice_index_or}
 use Rattle.std.proofs.lemmas.Int.{ints}
 use Rattle.std.proofs.lemmas.List.{append_assoc, take_all}
 use Rattle.pg_list.specs.declared.galley.Place.{Place}
-use Rattle.pg_ends.specs.declared.end.End.{End}
-use Rattle.pg_ends.specs.Ends.{AreEnds}
+use Rattle.pg_column.specs.declared.end.End.{End}
+use Rattle.pg_column.specs.Ends.{AreEnds}
 use Rattle.pg_rules.specs.Room.{Document}
 use Rattle.pg_candidates.specs.Nears.{AreNearFrom, NearsValue}
 use Rattle.law_walk.specs.Laws.{AreEndsInEach, AreUpTo}

@@ -3,10 +3,10 @@ use Rattle.std.specs.Prelude.{◌≡◌, ◌⊎◌, ℕ, [], Some, None, ℤ}
 use Rattle.pg_column.specs.Passed.{nothing}
 use Rattle.pg_list.specs.declared.galley.Place.{Place}
 use Rattle.pg_rules.specs.Room.{Document}
-use Rattle.pg_stretch.specs.View.{view}
-use Rattle.pg_stretch.specs.declared.passed.Passed.{Passed}
-use Rattle.pg_stretch.specs.declared.passing.State.{State}
-use Rattle.pg_walk_labels.specs.Furthest.{GoesTo}
+use Rattle.pg_hops.specs.View.{view}
+use Rattle.pg_hops.specs.declared.passed.Passed.{Passed}
+use Rattle.pg_hops.specs.declared.state.State.{State}
+use Rattle.pg_walk.specs.Furthest.{GoesTo}
 use Rattle.pg_candidates.specs.View.{passed_of}
 use Rattle.pg_candidates.specs.declared.along.Walked.{Walked}
 use Rattle.law_walk.specs.Reached.{first_reach, quiet}

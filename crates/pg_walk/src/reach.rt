@@ -7,13 +7,11 @@ ghost use Rattle.pg_rules.specs.Reach.{IsReach, greatest_extra as greatest_extra
 ghost use Rattle.law_walk.specs.Reached.{quiet, tallest as tallest_of};
 ghost use Rattle.pg_walk.specs.Blocks.{IsAlone, IsGreatestFrom, state};
 
+use crate::{furthest, variants_at};
 use law_walk::laws::walk_tells_reach;
-use pg_hops::{BreakIndex, pass_on};
+use pg_hops::{BreakIndex, Cursor, Passed, State, pass_on};
 use pg_list::{Galley, Place};
-use pg_stretch::{Cursor, Passed, State};
 use pg_style::{Classes, Run, Runs, Style};
-use pg_walk_labels::furthest;
-use pg_walk_space::variants_at;
 use std::alloc::{AllocError, Global};
 
 // The same runs.

@@ -4,14 +4,14 @@ ghost use Rattle.std.specs.List.{AllByRecursion};
 ghost use Rattle.pg_rules.specs.IsState.{IsPlace};
 ghost use Rattle.pg_rules.specs.Legal.{document};
 ghost use Rattle.pg_list.specs.declared.galley.Place.{Place as APlace};
-ghost use Rattle.pg_ends.specs.Ends.{AreEnds};
+ghost use Rattle.pg_column.specs.Ends.{AreEnds};
 ghost use Rattle.law_walk.specs.Laws.{AreEndsInEach, AreUpTo};
 ghost use Rattle.pg_candidates.specs.Nears.{AreNearFrom};
 ghost use Rattle.pg_walk.specs.Rooms.{greatest_room};
 
 use crate::place::near_from;
 use pg_candidates::NearList;
-use pg_ends::{EndList, EndLists};
+use pg_column::{EndList, EndLists};
 use pg_list::{Galley, Place};
 use pg_style::Style;
 use std::alloc::{AllocError, Global};

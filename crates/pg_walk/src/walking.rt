@@ -9,18 +9,16 @@ ghost use Rattle.law_walk.specs.Reached.{quiet};
 ghost use Rattle.law_walk.specs.Space.{first_ends};
 ghost use Rattle.law_walk.specs.Walk.{first_front, first_items, past_stretch};
 ghost use Rattle.pg_candidates.specs.View.{passed_of};
-ghost use Rattle.pg_walk_space.specs.Meaning.{IsOwn};
+ghost use Rattle.pg_walk.specs.Meaning.{IsOwn};
 ghost use Rattle.pg_walk.specs.Blocks.{IsAlone, TellsQuiet};
 
+use crate::{collect, variants_at};
 use law_walk::laws::walk_is_a_space;
 use pg_candidates::{CandidateList, Walked, walk_on};
-use pg_hops::BreakIndex;
+use pg_hops::{BreakIndex, Cursor, Passed, State};
 use pg_list::{Galley, Place};
 use pg_plan::Picks;
-use pg_stretch::{Cursor, Passed, State};
 use pg_style::Style;
-use pg_walk_labels::collect;
-use pg_walk_space::variants_at;
 use std::alloc::{AllocError, Global};
 
 // Adds the ends along the first stretch, and answers what the walk along it tells; where the notes passed take no room,

@@ -3,9 +3,9 @@ ghost use Rattle.std.specs.Prelude.{◌≡◌};
 
 use law_lines::{LineFault, LineRule};
 use pg_hlist::{Paras, read_paras};
+use pg_lines::break_lines;
 use pg_list::{Block, Galley, Variant};
-use pg_steps::Steps;
-use pg_variants::break_lines;
+use pg_table::Steps;
 use std::alloc::Global;
 use std::marker::Brand;
 use std::sync::ledger::{Blank, Ledger};

@@ -1,7 +1,7 @@
 -- Badnesses, worked out from the rule with its whole numbers (TeX: The Program, §108), and 31 that TeX told.
 use Rattle.std.proofs.Common.{refl, ℕ, pos, negsuc, [], ◌∷◌}
 use Rattle.std.specs.Prelude.{◌-◌, nat_lt, if◌then◌else◌}
-use Rattle.pg_flat.specs.Badness.{badness}
+use Rattle.pg_list.specs.Badness.{badness}
 use Rattle.test_parts.proofs.Cases.{AreTold}
 
 -- the badness of a page by its total, its goal, its stretch and its shrink

@@ -5,8 +5,8 @@ use Rattle.pg_list.specs.Places.{place}
 use Rattle.pg_list.specs.declared.galley.Place.{Place}
 use Rattle.pg_list.specs.declared.blocks.Block.{Block}
 use Rattle.pg_list.specs.declared.blocks.Block.TheVariants.{One, Choice}
-use Rattle.pg_flat.specs.Break.{break_penalty, is_forced, is_spent}
-use Rattle.pg_flat.specs.Flat.{flat, flat_items, steps_to}
+use Rattle.pg_list.specs.Break.{break_penalty, is_forced, is_spent}
+use Rattle.pg_list.specs.Flat.{flat, flat_items, steps_to}
 use Rattle.test_parts.proofs.Cases.{AreTold, fil_gap, gap, items, kern, line, mark, penalty, variant}
 
 -- what is said of a break at an offset

@@ -6,7 +6,7 @@ use Rattle.pg_list.specs.Places.{place}
 use Rattle.pg_list.specs.declared.galley.Place.{Place}
 use Rattle.pg_list.specs.declared.blocks.Block.{Block}
 use Rattle.pg_list.specs.declared.blocks.Block.TheVariants.{One, Choice}
-use Rattle.pg_flat.specs.Break.{break_penalty}
+use Rattle.pg_list.specs.Break.{break_penalty}
 use Rattle.pg_style.specs.Values.{StyleValue}
 use Rattle.pg_rules.specs.ColumnRules.{does_fit, text_badness, text_fitness, text_goal, text_total}
 use Rattle.pg_rules.specs.Cost.{text_demerits}

@@ -3,7 +3,7 @@ ghost use Rattle.std.specs.Prelude.{◌≡◌};
 
 use crate::world::World;
 use pg_outside::{MemShelf, MemSink};
-use pg_steps::Steps;
+use pg_table::Steps;
 use pg_top::{Status, serve};
 use std::alloc::{AllocError, Global};
 use std::marker::Brand;
@@ -98,6 +98,20 @@ fn tell_written(
     }
 }
 
+// The name of a status.
+fn name_of(status: Status) -> &'static str {
+    match status {
+        Status::Done => "Done",
+        Status::NoLegal => "NoLegal",
+        Status::Usage => "Usage",
+        Status::Refused => "Refused",
+        Status::ReadFault => "ReadFault",
+        Status::WriteFault => "WriteFault",
+        Status::Memory => "Memory",
+        Status::NotProved => "NotProved",
+    }
+}
+
 /// What comes of a call with these words: its status, and the lines that were written and said. The world keeps what was
 /// written.
 pub fn told_of(alloc: Global, line: &str, world: &mut World) -> Result<Vec<u8>, AllocError> {
@@ -107,7 +121,8 @@ pub fn told_of(alloc: Global, line: &str, world: &mut World) -> Result<Vec<u8>, 
     let mut say = world.say(alloc)?;
     let status = over_memory::<Brand>(alloc, &words, &mut shelf, &mut out, &mut say, Blank::new(1));
     let number = status.number();
-    let head = format!(in alloc; "status {number} {status:?}\n")?;
+    let name = name_of(status);
+    let head = format!(in alloc; "status {number} {name}\n")?;
     let mut told = head.into_bytes();
     tell_written(alloc, out.bytes(), &world.written, &mut told)?;
     tell_text(alloc, b'!', say.bytes(), &mut told)?;

@@ -15,9 +15,8 @@ ghost use Rattle.test_table.specs.Numbers.{numbers};
 mod space;
 
 use anyhow::{Context, anyhow};
-use pg_steps::Steps;
 use pg_table::{
-    Table, best_undercuts_done_runs, empty_table_is_right_below_0, narrower_is_lawful,
+    Steps, Table, best_undercuts_done_runs, empty_table_is_right_below_0, narrower_is_lawful,
     narrower_table_is_wide, right_below_for_agreeing, right_below_goes_down,
     table_begins_with_start, table_is_right_below,
 };

@@ -4,8 +4,7 @@
 ghost use Rattle.std.specs.Prelude.{◌≡◌, ◌≤◌, ◌^◌, OnOk};
 ghost use Rattle.test_table.specs.Numbers.{numbers, with_step};
 
-use pg_steps::Steps;
-use pg_table::{Narrowing, Opened, Space, Step, StepList};
+use pg_table::{Narrowing, Opened, Space, Step, StepList, Steps};
 use std::alloc::{AllocError, Global};
 use std::cell::Cell;
 use std::cmp::Ordering;

@@ -2,7 +2,7 @@
 ghost use Rattle.std.specs.Prelude.{◌≡◌, ◌<◌, ◌^◌, true, nat_abs, ℤ, IfOk, IfSome};
 ghost use Rattle.std.specs.Bool.{OnTrue};
 ghost use Rattle.std.specs.List.{AllByRecursion};
-ghost use Rattle.pg_flat.specs.Flat.{end_of, is_same_place};
+ghost use Rattle.pg_list.specs.Flat.{end_of, is_same_place};
 ghost use Rattle.pg_rules.specs.IsState.{IsPlace};
 
 use anyhow::{Context, anyhow};

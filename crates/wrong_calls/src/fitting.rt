@@ -8,7 +8,7 @@ ghost use Rattle.pg_course.specs.Counted.{IsCounted, UnlessMemory};
 
 use pg_command::Ending;
 use pg_outside::{Shelf, Sink};
-use pg_steps::Steps;
+use pg_table::Steps;
 use std::alloc::Global;
 use std::sync::ledger::Ledger;
 

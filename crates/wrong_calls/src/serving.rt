@@ -11,7 +11,7 @@ ghost use Rattle.pg_top.specs.Headline.{Headline};
 
 use pg_command::Status;
 use pg_outside::{Shelf, Sink};
-use pg_steps::Steps;
+use pg_table::Steps;
 use std::alloc::Global;
 use std::sync::ledger::Ledger;
 

@@ -2,7 +2,7 @@
 ghost use Rattle.std.specs.Prelude.{◌≡◌, ◌++◌, ◌∷◌, [], ◌+◌, ◌<◌, ◌^◌, ℤ, List, nat_abs, true, false};
 ghost use Rattle.pg_list.specs.Ranges.{IsItemInRange};
 ghost use Rattle.pg_list.specs.declared.item.Item.{Item as AnItem};
-ghost use Rattle.pg_flat.specs.Flat.{is_same_place as is_same_place_of};
+ghost use Rattle.pg_list.specs.Flat.{is_same_place as is_same_place_of};
 ghost use Rattle.pg_rules.specs.Legal.{document};
 ghost use Rattle.pg_rules.specs.Room.{ColumnContext, room as room_of};
 ghost use Rattle.pg_sums.specs.AreSums.{AreSums};

@@ -1,8 +1,8 @@
 //! Badness, and the setting of glue.
 ghost use Rattle.std.specs.Prelude.{◌≡◌, ◌++◌, ◌<◌, ◌≤◌, ◌^◌, ℕ, pos, ◌≤ℤ◌, length, nat_abs, OnOk, OnErr};
 ghost use Rattle.pg_list.specs.Counts.{item_limit};
-ghost use Rattle.pg_flat.specs.Badness.{badness};
-ghost use Rattle.pg_flat.specs.Whole.{whole_sum};
+ghost use Rattle.pg_list.specs.Badness.{badness};
+ghost use Rattle.pg_list.specs.Whole.{whole_sum};
 ghost use Rattle.pg_glue.specs.Widths.{amounts as amounts_of, chosen as chosen_of, set_widths as set_widths_of, changes};
 
 use pg_glue::{Elastic, Sense};

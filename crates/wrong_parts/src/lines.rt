@@ -1,11 +1,11 @@
 //! The lines of paragraphs.
 ghost use Rattle.law_lines.specs.ParagraphsLaws.{IsRule};
-ghost use Rattle.pg_variants.specs.Answers.{AnswersLines};
+ghost use Rattle.pg_lines.specs.Answers.{AnswersLines};
 
 use law_lines::{LineFault, LineRule};
 use pg_hlist::Paras;
 use pg_list::Galley;
-use pg_steps::Steps;
+use pg_table::Steps;
 use std::alloc::Global;
 use std::sync::ledger::Ledger;
 
@@ -19,5 +19,5 @@ pub fn break_lines<L: Ledger>(
     requires { IsRule rule.now }
     ensures { AnswersLines rule.now paras.now result }
 {
-    pg_variants::break_lines(alloc, paras, rule, steps)
+    pg_lines::break_lines(alloc, paras, rule, steps)
 }

@@ -6,8 +6,7 @@ ghost use Rattle.pg_cover.specs.declared.cover.Open.{Open as AnOpen};
 
 use pg_cover::Open;
 use pg_small::{SmallLabel, SmallMove, SmallState};
-use pg_steps::Steps;
-use pg_table::{Offering, Space};
+use pg_table::{Offering, Space, Steps};
 use std::alloc::{AllocError, Global};
 use std::sync::ledger::Ledger;
 

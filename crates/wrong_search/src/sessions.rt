@@ -7,7 +7,7 @@ use pg_edits::EditFault;
 use pg_list::Edit;
 use pg_session::{Session, Told};
 use pg_space::Outcome;
-use pg_steps::Steps;
+use pg_table::Steps;
 use std::alloc::{AllocError, Global};
 use std::sync::ledger::Ledger;
 

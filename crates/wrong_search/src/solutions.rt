@@ -35,5 +35,5 @@ pub fn frontier_of(
     ensures all { IfOk result (λ labels. IsPermutation (map label_of entries.now) labels) }
     ensures order { IfOk result (λ labels. IsSortedByKey (λ (label : ALabel). label.state) state_cmp labels) }
 {
-    pg_frontier::frontier_of(alloc, entries)
+    pg_space::frontier_of(alloc, entries)
 }

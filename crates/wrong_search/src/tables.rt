@@ -4,8 +4,7 @@ ghost use Rattle.pg_table.specs.Label.{IsTable, AreLabels, IsBestOf, NoneDone};
 ghost use Rattle.pg_table.specs.Below.{IsRightBelow, KeepsBelow};
 ghost use Rattle.pg_table.specs.Searching.{count_reaching};
 
-use pg_steps::Steps;
-use pg_table::{Space, Table};
+use pg_table::{Space, Steps, Table};
 use std::alloc::AllocError;
 use std::sync::ledger::Ledger;
 

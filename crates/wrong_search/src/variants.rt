@@ -2,12 +2,11 @@
 ghost use Rattle.std.specs.Prelude.{◌≡◌, ◌+◌, IfOk};
 ghost use Rattle.pg_rules.specs.Legal.{document};
 ghost use Rattle.pg_table.specs.Space.{AreMoves};
-ghost use Rattle.pg_walk_space.specs.Meaning.{space_meaning};
+ghost use Rattle.pg_walk.specs.Meaning.{space_meaning};
 
-use pg_steps::Steps;
-use pg_stretch::State;
-use pg_table::{Opened, Space};
-use pg_walk_space::WalkSpace;
+use pg_hops::State;
+use pg_table::{Opened, Space, Steps};
+use pg_walk::WalkSpace;
 use std::alloc::AllocError;
 use std::sync::ledger::Ledger;
 

@@ -5,9 +5,9 @@ use Rattle.pg_rules.specs.Legal.{document}
 use Rattle.pg_column.specs.Passed.{fits}
 use Rattle.law_walk.specs.Reached.{reach_along}
 use Rattle.law_walk.specs.Walk.{ends_along, past_stretch}
-use Rattle.pg_stretch.specs.Ahead.{IsSettled, front_ahead, items_ahead}
-use Rattle.pg_stretch.specs.Quiet.{is_quiet, passed_along}
-use Rattle.pg_stretch.specs.View.{IsFor, view}
+use Rattle.pg_hops.specs.Ahead.{IsSettled, front_ahead, items_ahead}
+use Rattle.pg_hops.specs.Quiet.{is_quiet, passed_along}
+use Rattle.pg_hops.specs.View.{IsFor, view}
 use Rattle.pg_candidates.proofs.along.walk_on.Given as goal
 
 abbrev pub invariant-ahead : goal.invariant-ahead

@@ -1,7 +1,7 @@
 use Rattle.std.proofs.Common.{ap, ◌∙◌, length, List, ℤ, w64}
 use Rattle.std.proofs.lemmas.Int.{to_z-of_z}
 use Rattle.pg_list.specs.declared.blocks.Block.{Block}
-use Rattle.pg_flat.specs.Flat.{blocks_at, end_of, flat_items_at, is_same_place}
+use Rattle.pg_list.specs.Flat.{blocks_at, end_of, flat_items_at, is_same_place}
 use Rattle.pg_rules.specs.Legal.{document}
 use Rattle.pg_column.specs.Judged.{are_loose_enough, started, walk_to}
 use Rattle.pg_column.specs.Fits.{are_named}

@@ -5,7 +5,7 @@ use Rattle.pg_list.specs.declared.blocks.Block.{Block}
 use Rattle.pg_list.specs.declared.galley.Place.{Place}
 use Rattle.pg_list.specs.Counts.{item_count}
 use Rattle.pg_list.specs.Shapes.{IsBlock}
-use Rattle.pg_flat.specs.Flat.{flat_items_at}
+use Rattle.pg_list.specs.Flat.{flat_items_at}
 use Rattle.pg_rules.specs.Legal.{document}
 use Rattle.pg_column.specs.Ahead.{item_place, is_front, next_index, picks_behind, settled}
 use Rattle.pg_column.specs.Judged.{Walked, started, walk_to}

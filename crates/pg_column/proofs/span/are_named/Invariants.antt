@@ -1,6 +1,6 @@
 use Rattle.std.proofs.Common.{◌≡◌, length}
 use Rattle.std.specs.Prelude.{◌==◌}
-use Rattle.pg_flat.specs.Flat.{picked_variants}
+use Rattle.pg_list.specs.Flat.{picked_variants}
 use Rattle.pg_column.proofs.span.are_named.Given as goal
 
 abbrev pub invariant-choices : goal.invariant-choices

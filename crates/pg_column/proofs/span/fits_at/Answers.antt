@@ -1,5 +1,5 @@
 use Rattle.std.proofs.Common.{sym, ◌∙◌, length}
-use Rattle.pg_flat.specs.Flat.{flat_items_at}
+use Rattle.pg_list.specs.Flat.{flat_items_at}
 use Rattle.pg_column.specs.Fits.{are_named}
 use Rattle.pg_column.proofs.Leads.{fits_named}
 use Rattle.pg_column.proofs.span.fits_at.Goals as goal

@@ -4,7 +4,7 @@ use Rattle.pg_list.specs.declared.blocks.Block.{Block}
 use Rattle.pg_list.specs.declared.galley.Place.{Place}
 use Rattle.pg_list.specs.Places.{item_at}
 use Rattle.pg_list.specs.Shapes.{IsBlock}
-use Rattle.pg_flat.specs.Flat.{flat_items_at}
+use Rattle.pg_list.specs.Flat.{flat_items_at}
 use Rattle.pg_column.specs.Ahead.{item_place, leads_to, next_index, settled}
 use Rattle.pg_column.proofs.Ahead.{IsSettled, Named, is_settled, named_settled, settle}
 use Rattle.pg_column.proofs.Spans.{leads_here, leads_none, leads_on, leads_short, leads_whole, next_named, next_picks, next_settled, shorter}

@@ -1,6 +1,6 @@
 use Rattle.std.proofs.Common.{◌∙◌, ◌≤◌, ◌+◌, ◌*◌, ◌^◌, ◌++◌, ap, sym, subst, nat_abs}
 use Rattle.std.specs.Prelude.{◌+ℤ◌}
-use Rattle.pg_flat.specs.Whole.{whole_sum_by}
+use Rattle.pg_list.specs.Whole.{whole_sum_by}
 use Rattle.pg_drawing.specs.Drawn.{item_extent, marks_from}
 use Rattle.pg_drawing.specs.Pieces.{begins, cut, texts, told}
 use Rattle.pg_drawing.specs.declared.pieces.Kind.TheVariants as at

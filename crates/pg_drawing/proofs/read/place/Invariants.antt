@@ -1,7 +1,7 @@
 use Rattle.std.proofs.Common.{◌≡◌, ◌≤◌, ◌+◌, ◌*◌, ◌^◌, ◌++◌, ◌∷◌, [], length, pos, nat_abs}
 use Rattle.std.specs.Prelude.{◌+ℤ◌}
 use Rattle.std.specs.Option.{option_map_or}
-use Rattle.pg_flat.specs.Whole.{whole_sum_by}
+use Rattle.pg_list.specs.Whole.{whole_sum_by}
 use Rattle.pg_drawing.specs.Drawn.{item_extent, items_of, marks_from}
 use Rattle.pg_drawing.specs.Pieces.{begins, cut, texts, told}
 use Rattle.pg_drawing.specs.declared.pieces.Kind.TheVariants as at

@@ -1,4 +1,4 @@
-use Rattle.pg_floats.proofs.Areas.{dealt_end}
+use Rattle.pg_floats.proofs.AreaSums.{dealt_end}
 use Rattle.pg_floats.proofs.area.deal.Goals as goal
 
 pub returns : goal.returns

@@ -1,5 +1,5 @@
 use Rattle.std.proofs.Common.{arith}
-use Rattle.pg_floats.proofs.Areas.{sum_few}
+use Rattle.pg_floats.proofs.AreaSums.{sum_few}
 use Rattle.pg_floats.proofs.area.together.Goals as goal
 
 pub returns-clause-size : goal.returns-clause-size

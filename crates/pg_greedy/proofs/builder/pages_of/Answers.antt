@@ -1,5 +1,5 @@
 use Rattle.std.proofs.Common.{◌≡◌, ◌∙◌, ◌+◌, ◌-◌, ◌<◌, sym, subst, arith, false, true, append-nil, length, []}
-use Rattle.pg_flat.specs.Break.{is_spent}
+use Rattle.pg_list.specs.Break.{is_spent}
 use Rattle.pg_greedy.specs.FirstFit.{AreFirstFit}
 use Rattle.pg_greedy.specs.Looking.{items_from, style_of}
 use Rattle.pg_greedy.specs.Single.{singles}

@@ -1,8 +1,8 @@
 use Rattle.std.proofs.Common.{◌≡◌, ◌∙◌, sym, ap, ap₂, lt-ltb, pos, rules, to_z, of_z, w64}
 use Rattle.std.proofs.lemmas.Int.{to_z-of_z}
 use Rattle.std.specs.Prelude.{nat_lt, int_le, negsuc, ◌+ℤ◌}
-use Rattle.pg_flat.specs.Badness.{is_over, page_badness}
-use Rattle.pg_flat.specs.Totals.{total, shrink, trimmed}
+use Rattle.pg_list.specs.Badness.{is_over, page_badness}
+use Rattle.pg_list.specs.Totals.{total, shrink, trimmed}
 use Rattle.pg_greedy.proofs.Costs.{cost_fair}
 use Rattle.pg_greedy.proofs.judged.judge_break.Goals as goal
 

@@ -7,11 +7,11 @@ use Rattle.pg_list.specs.Shapes.{IsBlock}
 use Rattle.pg_list.proofs.Sizes.{blocks_le}
 use Rattle.pg_rules.specs.Legal.{document}
 use Rattle.pg_column.specs.Passed.{Passed, pass_item}
-use Rattle.pg_stretch.specs.declared.cursor.Cursor.{Cursor}
-use Rattle.pg_stretch.specs.Ahead.{items_ahead}
-use Rattle.pg_stretch.specs.View.{view}
-use Rattle.pg_stretch.proofs.Along.{longer}
-use Rattle.pg_stretch.proofs.Cursors.{few, item_in_range}
+use Rattle.pg_hops.specs.declared.cursor.Cursor.{Cursor}
+use Rattle.pg_hops.specs.Ahead.{items_ahead}
+use Rattle.pg_hops.specs.View.{view}
+use Rattle.pg_hops.proofs.Along.{longer}
+use Rattle.pg_hops.proofs.Cursors.{few, item_in_range}
 use Rattle.pg_hops.specs.Goes.{Goes}
 use Rattle.pg_hops.specs.Hop.{MayHop}
 use Rattle.pg_hops.proofs.OneStep.{goes_one, stops_one}

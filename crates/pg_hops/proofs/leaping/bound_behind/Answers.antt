@@ -3,7 +3,7 @@ use Rattle.std.specs.Prelude.{◌+ℤ◌}
 use Rattle.std.proofs.lemmas.Int.{to_z-of_z}
 use mir.Val.{SFits}
 use Rattle.pg_sums.specs.declared.totals.Totals.{Totals}
-use Rattle.pg_stretch.specs.View.{view}
+use Rattle.pg_hops.specs.View.{view}
 use Rattle.pg_hops.proofs.LeapBound.{bound_is}
 use Rattle.pg_hops.proofs.leaping.bound_behind.Goals as goal
 

@@ -5,9 +5,9 @@ use Rattle.std.specs.List.{AllByRecursion}
 use Rattle.pg_list.specs.Shapes.{IsBlock}
 use Rattle.pg_rules.specs.Legal.{document}
 use Rattle.pg_column.specs.Passed.{Passed, fits}
-use Rattle.pg_stretch.specs.declared.cursor.Cursor.{Cursor}
-use Rattle.pg_stretch.specs.Ahead.{items_ahead}
-use Rattle.pg_stretch.specs.View.{view}
+use Rattle.pg_hops.specs.declared.cursor.Cursor.{Cursor}
+use Rattle.pg_hops.specs.Ahead.{items_ahead}
+use Rattle.pg_hops.specs.View.{view}
 use Rattle.pg_hops.specs.Hop.{HopValue, moved}
 use Rattle.pg_hops.specs.Leap.{GoesFar}
 use Rattle.pg_hops.proofs.LeapOn.{leap_counts, leap_goes}

@@ -3,10 +3,10 @@ use Rattle.std.proofs.lemmas.Int.{to_z-of_z}
 use mir.Val.{SFits}
 use Rattle.pg_rules.specs.Legal.{document}
 use Rattle.pg_column.specs.Passed.{fits}
-use Rattle.pg_stretch.specs.Ahead.{front_ahead, items_ahead}
-use Rattle.pg_stretch.specs.View.{view}
-use Rattle.pg_stretch.specs.declared.passed.Passed.{Passed}
-use Rattle.pg_stretch.proofs.Along.{end_past, end_reach, last, none_left}
+use Rattle.pg_hops.specs.Ahead.{front_ahead, items_ahead}
+use Rattle.pg_hops.specs.View.{view}
+use Rattle.pg_hops.specs.declared.passed.Passed.{Passed}
+use Rattle.pg_hops.proofs.Along.{end_past, end_reach, last, none_left}
 use Rattle.pg_hops.specs.Goes.{Goes, Stops}
 use Rattle.pg_hops.proofs.Stepped.{over_past, over_reach, step_past, step_reach, stop_reach}
 use Rattle.pg_hops.proofs.passing.pass_on.Goals as goal

@@ -1,7 +1,7 @@
 use Rattle.std.proofs.Common.{ap, ◌∙◌, ℤ, Option}
 use Rattle.std.specs.Prelude.{is_some}
 use Rattle.pg_rules.specs.Floats.{floats}
-use Rattle.pg_areas.proofs.Heights.{is_there}
+use Rattle.pg_floats.proofs.Heights.{is_there}
 use Rattle.pg_judge.proofs.added.has_floats.Goals as goal
 
 pub returns : goal.returns

@@ -1,8 +1,8 @@
 use Rattle.std.proofs.Common.{rules, sym, subst, ap, ◌∙◌, ◌≡◌, ℕ, List, Some, w64}
 use Rattle.std.proofs.lemmas.Int.{to_z-of_z}
 use Rattle.pg_rules.specs.Floats.{is_area_allowed, takes_wide}
-use Rattle.pg_areas.specs.Counts.{count_in}
-use Rattle.pg_areas.specs.Given.{IsAreaHeight}
+use Rattle.pg_floats.specs.Counts.{count_in}
+use Rattle.pg_floats.specs.Given.{IsAreaHeight}
 use Rattle.pg_judge.proofs.Seating.{is_made_wide, wide_size}
 use Rattle.pg_judge.proofs.added.wide_height.Goals as goal
 

@@ -2,7 +2,7 @@ use Rattle.std.proofs.Common.{rules, sym, ap, ◌∙◌, ◌≡◌, ◌<◌, ℕ
 use Rattle.std.specs.List.{list_all, range_with_len}
 use Rattle.pg_rules.specs.Legal.{document}
 use Rattle.pg_judge.specs.Waits.{is_slot_called}
-use Rattle.pg_areas.proofs.Ranges.{next_all, not_all}
+use Rattle.pg_floats.proofs.Ranges.{next_all, not_all}
 use Rattle.pg_judge.proofs.floats.are_called.Goals as goal
 
 pub returns-then-not-is_slot_called : goal.returns-then-not-is_slot_called

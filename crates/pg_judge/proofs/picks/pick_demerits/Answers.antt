@@ -2,7 +2,7 @@ use Rattle.std.proofs.Common.{◌∙◌, ap, pos, List}
 use Rattle.pg_list.specs.declared.blocks.Block.{Block}
 use Rattle.pg_judge.specs.Picks.{pick_cost}
 use Rattle.pg_judge.proofs.PickCosts.{costs_are}
-use Rattle.pg_flat.specs.Flat.{blocks_at}
+use Rattle.pg_list.specs.Flat.{blocks_at}
 use Rattle.pg_judge.proofs.picks.pick_demerits.Goals as goal
 
 pub returns-clause-value : goal.returns-clause-value

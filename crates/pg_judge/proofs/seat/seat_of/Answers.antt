@@ -1,7 +1,7 @@
 use Rattle.std.proofs.Common.{rules, sym, subst, ap, ◌∙◌, ◌<◌, ◌^◌, ℤ, w64}
 use Rattle.std.specs.Prelude.{nat_abs, not}
 use Rattle.std.proofs.lemmas.Int.{to_z-of_z}
-use Rattle.pg_areas.specs.Given.{IsAreaHeight}
+use Rattle.pg_floats.specs.Given.{IsAreaHeight}
 use Rattle.pg_judge.proofs.Seating.{bottom_height_is, is_seat, top_height_is, wide_is}
 use Rattle.pg_judge.proofs.seat.seat_of.Goals as goal
 

@@ -4,18 +4,18 @@ use Rattle.std.specs.Int.{w128}
 use Rattle.std.specs.List.{list_all, range_with_len}
 use Rattle.std.proofs.lemmas.Int.{to_z-of_z}
 use Rattle.pg_list.specs.declared.galley.Place.{Place}
-use Rattle.pg_flat.specs.Flat.{end_of}
+use Rattle.pg_list.specs.Flat.{end_of}
 use Rattle.pg_rules.specs.Floats.{called, entry}
 use Rattle.pg_rules.specs.History.{placed_of}
 use Rattle.pg_rules.specs.IsState.{IsPlace}
 use Rattle.pg_rules.specs.Legal.{document, is_chained, is_spent_at}
 use Rattle.law_columns.proofs.Faults.{kept}
-use Rattle.pg_areas.specs.Counts.{capped}
+use Rattle.pg_floats.specs.Counts.{capped}
 use Rattle.pg_judge.specs.Progress.{broken_pair}
 use Rattle.pg_judge.specs.Settled.{Settles}
-use Rattle.pg_areas.proofs.Capped.{are_few}
+use Rattle.pg_floats.proofs.Capped.{are_few}
 use Rattle.pg_judge.proofs.Distances.{chained_place}
-use Rattle.pg_remains.proofs.Dealt.{dealt_is}
+use Rattle.pg_floats.proofs.Dealt.{dealt_is}
 use Rattle.pg_judge.proofs.Settling.{settles_going, settles_lost}
 use Rattle.pg_judge.proofs.whole.settle.Goals as goal
 

@@ -2,7 +2,7 @@ use Rattle.std.proofs.Common.{rules, ◌≡◌, ◌-◌, ◌∙◌, ap, [], leng
 use Rattle.std.specs.Prelude.{if◌then◌else◌}
 use Rattle.std.specs.List.{range_with_len}
 use Rattle.pg_rules.specs.Floats.{entry, float_numbers}
-use Rattle.pg_areas.specs.Spots.{takes_of, takes_slot}
+use Rattle.pg_floats.specs.Spots.{takes_of, takes_slot}
 use Rattle.pg_layouts.proofs.OneMore.{map_next}
 use Rattle.pg_layouts.proofs.limits.area_limits.Goals as goal
 

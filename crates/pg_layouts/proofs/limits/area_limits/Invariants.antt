@@ -2,7 +2,7 @@ use Rattle.std.proofs.Common.{◌≡◌, ◌-◌, map, ℕ}
 use Rattle.std.specs.Prelude.{if◌then◌else◌}
 use Rattle.std.specs.List.{range_with_len}
 use Rattle.pg_rules.specs.Floats.{entry}
-use Rattle.pg_areas.specs.Spots.{takes_of, takes_slot}
+use Rattle.pg_floats.specs.Spots.{takes_of, takes_slot}
 use Rattle.pg_layouts.proofs.limits.area_limits.Given as goal
 
 abbrev pub invariant-loop-slot : goal.invariant-loop-slot

@@ -1,6 +1,6 @@
 use Rattle.std.proofs.Common.{◌≡◌, ◌++◌, length}
 use Rattle.std.specs.List.{AllByRecursion, flat_map}
-use Rattle.pg_column_text.specs.Between.{behind, column_text}
+use Rattle.pg_column.specs.Between.{behind, column_text}
 use Rattle.pg_marks.specs.Fitting.{Fits}
 use Rattle.pg_marks.specs.Walked.{page_text}
 use Rattle.pg_marks.proofs.page_items.page_items.Given as goal

@@ -1,5 +1,5 @@
 use Rattle.std.proofs.Common.{◌≡◌, length}
-use Rattle.pg_column_text.specs.Between.{behind}
+use Rattle.pg_column.specs.Between.{behind}
 use Rattle.pg_marks.specs.Heads.{first_or, marks}
 use Rattle.pg_marks.proofs.running.first_mark.Given as goal
 

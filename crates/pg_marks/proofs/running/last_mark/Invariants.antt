@@ -1,5 +1,5 @@
 use Rattle.std.proofs.Common.{◌≡◌, length}
-use Rattle.pg_column_text.specs.Between.{behind}
+use Rattle.pg_column.specs.Between.{behind}
 use Rattle.pg_marks.specs.Heads.{last_or, marks}
 use Rattle.pg_marks.proofs.running.last_mark.Given as goal
 

@@ -1,5 +1,5 @@
 use Rattle.std.proofs.Common.{◌≡◌, ◌++◌, length}
-use Rattle.pg_column_text.specs.Between.{behind}
+use Rattle.pg_column.specs.Between.{behind}
 use Rattle.pg_marks.specs.Told.{page_in}
 use Rattle.pg_marks.specs.Walked.{uses_on}
 use Rattle.pg_marks.proofs.uses.push_uses.Given as goal

@@ -4,11 +4,11 @@ use Rattle.pg_plan.specs.declared.pages.PageMove.{PageMove}
 use Rattle.pg_plan.specs.declared.states.State.{State}
 use Rattle.pg_table.specs.declared.step.Step.{Step}
 use Rattle.pg_sources.specs.Document.{doc_of}
-use Rattle.pg_laid.specs.Laid.{HasSoMany}
-use Rattle.pg_laid.specs.declared.laid.Laid.{Laid}
-use Rattle.pg_waiting.specs.declared.settling.Known.{Known}
+use Rattle.pg_rooms.specs.Laid.{HasSoMany}
+use Rattle.pg_rooms.specs.declared.laid.Laid.{Laid}
+use Rattle.pg_states.specs.declared.settling.Known.{Known}
 use Rattle.pg_moves.proofs.AllSteps.{at_err, floats_are}
-use Rattle.pg_laid.proofs.Dealt.{called_has}
+use Rattle.pg_rooms.proofs.Dealt.{called_has}
 use Rattle.pg_moves.proofs.opening.add_floats.Goals as goal
 
 pub lay_floats-requires-clause-ceiling : goal.lay_floats-requires-clause-ceiling

@@ -1,9 +1,9 @@
 use Rattle.std.proofs.Common.{subst, sym}
 use Rattle.pg_sources.specs.Document.{doc_of}
-use Rattle.pg_laid.specs.Laid.{HasSoMany}
+use Rattle.pg_rooms.specs.Laid.{HasSoMany}
 use Rattle.law_moves.specs.Listed.{beyond}
 use Rattle.pg_moves.proofs.AllSteps.{opened}
-use Rattle.pg_laid.proofs.Dealt.{called_has}
+use Rattle.pg_rooms.proofs.Dealt.{called_has}
 use Rattle.pg_moves.proofs.opening.open_by.Goals as goal
 
 pub listed_steps_are_moves-requires : goal.listed_steps_are_moves-requires

@@ -1,6 +1,6 @@
 use Rattle.std.proofs.Common.{rules, subst}
 use Rattle.pg_sources.specs.Document.{doc_of}
-use Rattle.pg_waiting.specs.Settling.{Settles}
+use Rattle.pg_states.specs.Settling.{Settles}
 use Rattle.pg_moves.proofs.Standing.{not_stayed, stayed}
 use Rattle.pg_moves.proofs.stays.add_standing.Goals as goal
 

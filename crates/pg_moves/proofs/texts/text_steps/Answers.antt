@@ -4,8 +4,8 @@ use Rattle.std.specs.List.{AllByRecursion}
 use Rattle.pg_layouts.specs.Layouts.{text_layouts}
 use Rattle.law_walk.specs.Reached.{tallest}
 use Rattle.pg_sources.specs.Document.{doc_of}
-use Rattle.pg_laid.specs.Laid.{HasSoMany, laid_of}
-use Rattle.pg_laid.specs.declared.laid.Laid.{Laid}
+use Rattle.pg_rooms.specs.Laid.{HasSoMany, laid_of}
+use Rattle.pg_rooms.specs.declared.laid.Laid.{Laid}
 use Rattle.pg_moves.proofs.AllSteps.{laid_own, text_steps_are}
 use Rattle.pg_moves.proofs.texts.text_steps.Goals as goal
 

@@ -7,7 +7,7 @@ use Rattle.pg_list.specs.Shapes.{IsBlock}
 use Rattle.pg_floats.specs.Callouts.{first_items}
 use Rattle.pg_pages.specs.PageText.{inserted}
 use Rattle.pg_pages.proofs.Printed.{inserted_append, split_first}
-use Rattle.pg_column_text.specs.Between.{behind}
+use Rattle.pg_column.specs.Between.{behind}
 use Rattle.pg_pages.proofs.areas.class_bodies.Goals as goal
 
 pub each-preserved : goal.each-preserved

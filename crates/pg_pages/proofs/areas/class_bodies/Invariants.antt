@@ -3,7 +3,7 @@ use Rattle.std.specs.List.{AllByRecursion}
 use Rattle.pg_list.specs.Shapes.{IsBlock}
 use Rattle.pg_floats.specs.Callouts.{first_items}
 use Rattle.pg_pages.specs.PageText.{inserted}
-use Rattle.pg_column_text.specs.Between.{behind}
+use Rattle.pg_column.specs.Between.{behind}
 use Rattle.pg_pages.proofs.areas.class_bodies.Given as goal
 
 abbrev pub invariant-each : goal.invariant-each

@@ -2,7 +2,7 @@ use Rattle.std.proofs.Common.{◌≡◌, ◌++◌, length}
 use Rattle.std.specs.List.{flat_map}
 use Rattle.pg_scaled.specs.Scaled.{Grows}
 use Rattle.pg_pages.specs.Bodies.{body_text}
-use Rattle.pg_column_text.specs.Between.{behind}
+use Rattle.pg_column.specs.Between.{behind}
 use Rattle.pg_pages.proofs.areas.print_bodies.Given as goal
 
 abbrev pub invariant-each : goal.invariant-each

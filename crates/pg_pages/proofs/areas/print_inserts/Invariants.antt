@@ -3,7 +3,7 @@ use Rattle.std.specs.List.{flat_map}
 use Rattle.pg_scaled.specs.Scaled.{Grows}
 use Rattle.pg_pages.specs.Bodies.{body_text}
 use Rattle.pg_pages.specs.PageText.{inserted}
-use Rattle.pg_column_text.specs.Between.{behind}
+use Rattle.pg_column.specs.Between.{behind}
 use Rattle.pg_pages.proofs.areas.print_inserts.Given as goal
 
 abbrev pub invariant-items : goal.invariant-items

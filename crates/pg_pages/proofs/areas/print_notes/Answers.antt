@@ -3,7 +3,7 @@ use Rattle.pg_style.specs.declared.style.Class.{Class}
 use Rattle.pg_pages.specs.Printed.{class_notes_text, notes_by}
 use Rattle.pg_pages.proofs.Printed.{split_first}
 use Rattle.pg_pages.proofs.Grown.{grows_on}
-use Rattle.pg_column_text.specs.Between.{behind}
+use Rattle.pg_column.specs.Between.{behind}
 use Rattle.pg_pages.proofs.areas.print_notes.Goals as goal
 
 pub each-preserved : goal.each-preserved

@@ -1,6 +1,6 @@
 use Rattle.std.proofs.Common.{◌≡◌, ◌++◌, length}
 use Rattle.pg_pages.specs.PageText.{inserted}
-use Rattle.pg_column_text.specs.Between.{behind}
+use Rattle.pg_column.specs.Between.{behind}
 use Rattle.pg_pages.proofs.areas.push_bodies.Given as goal
 
 abbrev pub invariant-items : goal.invariant-items

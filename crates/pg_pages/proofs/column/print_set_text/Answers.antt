@@ -3,7 +3,7 @@ use Rattle.std.specs.Prelude.{codes}
 use Rattle.pg_words.specs.Written.{line}
 use Rattle.pg_pages.specs.PageText.{items_text}
 use Rattle.pg_pages.proofs.Grown.{grown, grows_on, on_ok, two_parts}
-use Rattle.pg_column_text.specs.Between.{behind}
+use Rattle.pg_column.specs.Between.{behind}
 use Rattle.pg_pages.proofs.column.print_set_text.Goals as goal
 
 pub returns-clause-ok : goal.returns-clause-ok

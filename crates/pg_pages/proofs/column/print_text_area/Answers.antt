@@ -9,7 +9,7 @@ use Rattle.pg_pages.proofs.Printed.{behind_long}
 use Rattle.pg_pages.proofs.Grown.{on_ok}
 use Rattle.pg_pages.proofs.Widths.{by_printable}
 use Rattle.pg_glue.specs.Widths.{IsPrintable}
-use Rattle.pg_column_text.specs.Between.{behind}
+use Rattle.pg_column.specs.Between.{behind}
 use Rattle.pg_pages.proofs.column.print_text_area.Goals as goal
 
 pub print_set_text-requires : goal.print_set_text-requires

@@ -10,7 +10,7 @@ use Rattle.pg_lemmas.proofs.Numbers.{eq_yes}
 use Rattle.pg_pages.proofs.Printed.{behind_long}
 use Rattle.pg_pages.proofs.Grown.{on_same}
 use Rattle.pg_pages.proofs.TextColumn.{bodies_long, column_text_is, excess_is_small, named, segment_few, segment_is, segment_range, sized, summed}
-use Rattle.pg_column_text.specs.Between.{behind}
+use Rattle.pg_column.specs.Between.{behind}
 use Rattle.pg_pages.proofs.column.print_text_column.Goals as goal
 
 pub room_of-room-requires-clause-below : goal.room_of-room-requires-clause-below

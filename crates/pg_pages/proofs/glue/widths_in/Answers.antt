@@ -1,6 +1,6 @@
 use Rattle.std.proofs.Common.{ap, arith, length}
 use Rattle.pg_pages.proofs.Printed.{behind_long, elastics_few}
-use Rattle.pg_column_text.specs.Between.{behind}
+use Rattle.pg_column.specs.Between.{behind}
 use Rattle.pg_pages.proofs.glue.widths_in.Goals as goal
 
 pub set_widths-requires-clause-few : goal.set_widths-requires-clause-few

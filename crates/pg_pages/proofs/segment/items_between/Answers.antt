@@ -8,13 +8,13 @@ use Rattle.pg_list.specs.declared.galley.Place.{Place}
 use Rattle.pg_list.specs.declared.item.Item.{Item}
 use Rattle.pg_list.specs.Counts.{item_count}
 use Rattle.pg_list.specs.Shapes.{IsBlock}
-use Rattle.pg_flat.specs.Flat.{flat_items_at}
+use Rattle.pg_list.specs.Flat.{flat_items_at}
 use Rattle.pg_column.specs.Ahead.{item_place, next_index, picks_behind, settled}
 use Rattle.pg_column.proofs.Ahead.{IsSettled, Named, is_settled, named_settled, settle}
 use Rattle.pg_column.proofs.Spans.{index_small, next_named, next_settled, shorter}
 use Rattle.pg_pages.proofs.Between.{between_here, between_none, between_on}
-use Rattle.pg_column_text.specs.Between.{behind, items_to}
-use Rattle.pg_column_text.proofs.Between.{between_last}
+use Rattle.pg_column.specs.Between.{behind, items_to}
+use Rattle.pg_column.proofs.Between.{between_last}
 use Rattle.pg_pages.proofs.segment.items_between.Goals as goal
 
 pub ahead-init : goal.ahead-init

@@ -1,7 +1,7 @@
 use Rattle.std.proofs.Common.{◌≡◌, ◌++◌, length}
-use Rattle.pg_flat.specs.Flat.{flat_items_at}
+use Rattle.pg_list.specs.Flat.{flat_items_at}
 use Rattle.pg_column.proofs.Ahead.{IsSettled, Named}
-use Rattle.pg_column_text.specs.Between.{behind, items_to}
+use Rattle.pg_column.specs.Between.{behind, items_to}
 use Rattle.pg_pages.proofs.segment.items_between.Given as goal
 
 abbrev pub invariant-ahead : goal.invariant-ahead

@@ -4,7 +4,7 @@ use Rattle.pg_list.specs.declared.item.Item.{Item}
 use Rattle.pg_lemmas.proofs.Lists.{no_items}
 use Rattle.pg_pages.specs.Printed.{kept_from}
 use Rattle.pg_pages.proofs.Printed.{kept_trimmed}
-use Rattle.pg_column_text.specs.Between.{behind}
+use Rattle.pg_column.specs.Between.{behind}
 use Rattle.pg_pages.proofs.segment.trimmed.Goals as goal
 
 pub returns : goal.returns

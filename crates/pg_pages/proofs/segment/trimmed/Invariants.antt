@@ -1,6 +1,6 @@
 use Rattle.std.proofs.Common.{◌≡◌, ◌++◌, length, false}
 use Rattle.pg_pages.specs.Printed.{kept_from}
-use Rattle.pg_column_text.specs.Between.{behind}
+use Rattle.pg_column.specs.Between.{behind}
 use Rattle.pg_pages.proofs.segment.trimmed.Given as goal
 
 abbrev pub invariant-items : goal.invariant-items

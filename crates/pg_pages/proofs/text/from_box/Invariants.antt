@@ -1,6 +1,6 @@
 use Rattle.std.proofs.Common.{◌≡◌, length}
 use Rattle.pg_pages.specs.Printed.{box_on}
-use Rattle.pg_column_text.specs.Between.{behind}
+use Rattle.pg_column.specs.Between.{behind}
 use Rattle.pg_pages.proofs.text.from_box.Given as goal
 
 abbrev pub invariant-front : goal.invariant-front

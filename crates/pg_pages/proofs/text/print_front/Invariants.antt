@@ -3,7 +3,7 @@ use Rattle.std.specs.List.{flat_map}
 use Rattle.pg_scaled.specs.Scaled.{Grows}
 use Rattle.pg_pages.specs.Bodies.{plain_text}
 use Rattle.pg_pages.specs.Printed.{front_of}
-use Rattle.pg_column_text.specs.Between.{behind}
+use Rattle.pg_column.specs.Between.{behind}
 use Rattle.pg_pages.proofs.text.print_front.Given as goal
 
 abbrev pub invariant-front : goal.invariant-front

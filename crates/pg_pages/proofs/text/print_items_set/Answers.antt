@@ -6,7 +6,7 @@ use Rattle.pg_pages.specs.Bodies.{plain_text}
 use Rattle.pg_pages.specs.PageText.{set_items, top_line}
 use Rattle.pg_pages.specs.Printed.{box_on, front_of}
 use Rattle.pg_pages.proofs.Grown.{on_ok, two_parts}
-use Rattle.pg_column_text.specs.Between.{behind}
+use Rattle.pg_column.specs.Between.{behind}
 use Rattle.pg_pages.proofs.text.print_items_set.Goals as goal
 
 pub returns-clause-ok : goal.returns-clause-ok

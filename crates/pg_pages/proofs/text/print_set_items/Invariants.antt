@@ -3,7 +3,7 @@ use Rattle.std.specs.List.{AllByRecursion}
 use Rattle.pg_scaled.specs.Scaled.{Grows}
 use Rattle.pg_pages.specs.PageText.{set_items}
 use Rattle.pg_glue.specs.Widths.{IsPrintable}
-use Rattle.pg_column_text.specs.Between.{behind}
+use Rattle.pg_column.specs.Between.{behind}
 use Rattle.pg_pages.proofs.text.print_set_items.Given as goal
 
 abbrev pub invariant-items : goal.invariant-items

@@ -1,11 +1,11 @@
 use Rattle.std.proofs.Common.{◌∙◌, ◌++◌, ap, ℤ, w32, w64, rules}
 use Rattle.std.specs.Prelude.{codes}
 use Rattle.std.proofs.lemmas.Int.{to_z-of_z}
-use Rattle.pg_flat.specs.Totals.{top_glue}
+use Rattle.pg_list.specs.Totals.{top_glue}
 use Rattle.pg_scaled.specs.Scaled.{scaled_text}
 use Rattle.pg_words.specs.Written.{line}
 use Rattle.pg_pages.proofs.Grown.{on_ok}
-use Rattle.pg_column_text.specs.Between.{behind}
+use Rattle.pg_column.specs.Between.{behind}
 use Rattle.pg_pages.proofs.text.print_top.Goals as goal
 
 pub returns-clause-ok : goal.returns-clause-ok

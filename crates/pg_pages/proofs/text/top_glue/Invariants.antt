@@ -1,6 +1,6 @@
 use Rattle.std.proofs.Common.{◌≡◌, length}
-use Rattle.pg_flat.specs.Totals.{top_glue}
-use Rattle.pg_column_text.specs.Between.{behind}
+use Rattle.pg_list.specs.Totals.{top_glue}
+use Rattle.pg_column.specs.Between.{behind}
 use Rattle.pg_pages.proofs.text.top_glue.Given as goal
 
 abbrev pub invariant-items : goal.invariant-items

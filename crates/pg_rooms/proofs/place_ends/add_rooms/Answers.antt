@@ -1,6 +1,6 @@
 use Rattle.std.proofs.Common.{rules, ◌≡◌, sym, subst, true, ℤ, ◌≤ℤ◌, w64}
 use Rattle.std.proofs.lemmas.Int.{to_z-of_z}
-use Rattle.pg_laid.specs.declared.laid.Laid.{Laid}
+use Rattle.pg_rooms.specs.declared.laid.Laid.{Laid}
 use Rattle.law_walk.specs.Reached.{tallest}
 use Rattle.pg_rooms.specs.PlaceEnds.{has_room}
 use Rattle.pg_rooms.proofs.Kept.{all_contain, has_more}

@@ -1,6 +1,6 @@
 use Rattle.std.proofs.Common.{◌≡◌, take, true, ◌≤ℤ◌}
 use Rattle.std.specs.List.{AllByRecursion}
-use Rattle.pg_laid.specs.declared.laid.Laid.{Laid}
+use Rattle.pg_rooms.specs.declared.laid.Laid.{Laid}
 use Rattle.pg_list.specs.declared.galley.Place.{Place}
 use Rattle.pg_sources.specs.Document.{doc_of}
 use Rattle.pg_rooms.specs.Calls.{AreCalls}

@@ -1,6 +1,6 @@
 use Rattle.std.proofs.Common.{rules, ◌≡◌, ◌∙◌, ◌<◌, ap, subst, sym, length, ℕ}
 use Rattle.std.specs.List.{list_all, range_with_len}
-use Rattle.pg_areas.proofs.Ranges.{next_all, not_all}
+use Rattle.pg_floats.proofs.Ranges.{next_all, not_all}
 use Rattle.pg_rules.specs.Floats.{float_numbers}
 use Rattle.pg_sources.specs.Document.{doc_of}
 use Rattle.pg_states.specs.Called.{is_slot_called}

@@ -1,10 +1,10 @@
 use Rattle.std.proofs.Common.{◌∙◌, ap, ℕ}
 use Rattle.std.specs.Prelude.{◌==◌}
 use Rattle.std.specs.List.{list_all, range_with_len}
-use Rattle.pg_flat.specs.Flat.{end_of}
+use Rattle.pg_list.specs.Flat.{end_of}
 use Rattle.pg_rules.specs.Floats.{called, entry}
 use Rattle.pg_sources.specs.Document.{doc_of}
-use Rattle.pg_remains.proofs.Dealt.{dealt_all}
+use Rattle.pg_floats.proofs.Dealt.{dealt_all}
 use Rattle.pg_states.proofs.done.has_placed_all.Goals as goal
 
 pub returns : goal.returns

@@ -6,12 +6,12 @@ use Rattle.pg_lemmas.proofs.Lists.{no_items}
 use Rattle.pg_list.specs.Shapes.{IsBlock}
 use Rattle.pg_list.proofs.Sizes.{blocks_le}
 use Rattle.pg_rules.specs.Legal.{document}
-use Rattle.pg_stretch.specs.View.{view}
-use Rattle.pg_stretch.proofs.Left.{first_left}
+use Rattle.pg_hops.specs.View.{view}
+use Rattle.pg_hops.proofs.Left.{first_left}
 use Rattle.law_walk.specs.Walk.{variants_at}
-use Rattle.pg_walk_space.specs.Meaning.{IsOwn}
+use Rattle.pg_walk.specs.Meaning.{IsOwn}
 use Rattle.pg_walk.proofs.First.{place_within}
-use Rattle.pg_walk.proofs.Furthest.{IsBegun, alone, begun, by_picks, stops}
+use Rattle.pg_walk.proofs.FurthestBlocks.{IsBegun, alone, begun, by_picks, stops}
 use Rattle.pg_walk.proofs.reach.greatest_block.Goals as goal
 
 pub first-ahead-requires : goal.first-ahead-requires

@@ -1,6 +1,6 @@
 use Rattle.std.proofs.Common.{rules, pos, w32}
 use Rattle.std.proofs.lemmas.Int.{to_z-of_z}
-use Rattle.pg_walk.proofs.Furthest.{extras_are}
+use Rattle.pg_walk.proofs.FurthestBlocks.{extras_are}
 use Rattle.pg_walk.proofs.reach.greatest_extra.Goals as goal
 
 pub runs-init : goal.runs-init

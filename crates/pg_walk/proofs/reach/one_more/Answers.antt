@@ -5,7 +5,7 @@ use Rattle.pg_list.proofs.Sizes.{blocks_le}
 use Rattle.pg_rules.specs.Legal.{document}
 use Rattle.pg_rules.specs.Reach.{IsReach}
 use Rattle.law_walk.proofs.Reach.{reach_within}
-use Rattle.pg_walk.proofs.Furthest.{tells}
+use Rattle.pg_walk.proofs.FurthestBlocks.{tells}
 use Rattle.pg_walk.proofs.reach.one_more.Goals as goal
 
 pub overflow_add-result : goal.overflow_add-result

@@ -2,7 +2,7 @@ use Rattle.std.proofs.Common.{rules, sym, subst, ◌∙◌, w64}
 use Rattle.std.proofs.lemmas.Int.{to_z-of_z}
 use Rattle.pg_style.specs.Values.{StyleValue}
 use Rattle.pg_hops.specs.Index.{AreHops}
-use Rattle.pg_walk.proofs.Furthest.{greatest_quiet}
+use Rattle.pg_walk.proofs.FurthestBlocks.{greatest_quiet}
 use Rattle.pg_walk.proofs.reach.reach_by.Goals as goal
 
 pub one_more-requires-clause-greatest : goal.one_more-requires-clause-greatest

@@ -2,7 +2,7 @@ use Rattle.std.proofs.Common.{arith, subst, ℤ, w64}
 use Rattle.std.proofs.lemmas.Int.{ints, to_z-of_z}
 use Rattle.std.proofs.lemmas.Result.{IfOk-weaker}
 use Rattle.pg_rules.specs.Legal.{document}
-use Rattle.pg_ends.specs.Ends.{AreEnds}
+use Rattle.pg_column.specs.Ends.{AreEnds}
 use Rattle.pg_walk.proofs.rooms.ends.Goals as goal
 
 pub returns : goal.returns

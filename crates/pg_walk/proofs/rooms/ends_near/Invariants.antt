@@ -2,7 +2,7 @@ use Rattle.std.proofs.Common.{◌<◌, ◌^◌, ◌++◌, length, List, ℤ}
 use Rattle.std.specs.Prelude.{nat_abs}
 use Rattle.std.specs.List.{AllByRecursion}
 use Rattle.pg_list.specs.declared.galley.Place.{Place}
-use Rattle.pg_ends.specs.declared.end.End.{End}
+use Rattle.pg_column.specs.declared.end.End.{End}
 use Rattle.pg_rules.specs.Legal.{document}
 use Rattle.law_walk.specs.Laws.{AreEndsInEach, AreUpTo}
 use Rattle.pg_candidates.specs.Nears.{AreNearFrom}

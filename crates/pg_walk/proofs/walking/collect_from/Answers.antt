@@ -7,13 +7,13 @@ use Rattle.pg_rules.specs.Legal.{document}
 use Rattle.std.proofs.lemmas.Bool.{eqb-true}
 use Rattle.pg_lemmas.proofs.Lists.{no_items}
 use Rattle.pg_column.specs.Passed.{nothing}
-use Rattle.pg_stretch.specs.View.{view}
-use Rattle.pg_stretch.specs.declared.passing.State.{State}
+use Rattle.pg_hops.specs.View.{view}
+use Rattle.pg_hops.specs.declared.state.State.{State}
 use Rattle.pg_candidates.specs.View.{passed_of}
 use Rattle.law_walk.specs.Candidates.{AreCandidates, Candidate}
 use Rattle.law_walk.specs.Space.{first_ends}
 use Rattle.law_walk.specs.Walk.{first_front, first_items, past_stretch, variants_at}
-use Rattle.pg_walk_labels.specs.Collected.{Collects}
+use Rattle.pg_walk.specs.Collected.{Collects}
 use Rattle.pg_walk.proofs.First.{labels_do, told_alone}
 use Rattle.pg_walk.proofs.walking.collect_from.Goals as goal
 

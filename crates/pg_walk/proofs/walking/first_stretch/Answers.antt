@@ -4,8 +4,8 @@ use Rattle.std.proofs.lemmas.Int.{to_z-of_z}
 use Rattle.pg_list.specs.Shapes.{IsBlock}
 use Rattle.pg_list.proofs.Sizes.{blocks_le}
 use Rattle.pg_rules.specs.Legal.{document}
-use Rattle.pg_stretch.specs.View.{view}
-use Rattle.pg_stretch.proofs.Left.{first_left}
+use Rattle.pg_hops.specs.View.{view}
+use Rattle.pg_hops.proofs.Left.{first_left}
 use Rattle.pg_walk.proofs.First.{first_owned, first_quiet, place_within}
 use Rattle.pg_walk.proofs.walking.first_stretch.Goals as goal
 

@@ -2,7 +2,7 @@ use Rattle.std.proofs.Common.{◌∙◌, ap, List, map, subst, take, to_z, of_z,
 use Rattle.std.proofs.lemmas.Int.{to_z-of_z}
 use Rattle.std.proofs.lemmas.List.{take_all}
 use Rattle.pg_lemmas.proofs.Lists.{one_more}
-use Rattle.pg_ends.specs.Ends.{AreEnds}
+use Rattle.pg_column.specs.Ends.{AreEnds}
 use Rattle.pg_rules.specs.Legal.{document}
 use Rattle.law_walk.specs.Best.{AreBest}
 use Rattle.law_walk.specs.Candidates.{Candidate, kept_ends}

@@ -1,6 +1,6 @@
 use Rattle.std.proofs.Common.{◌≡◌, ◌∙◌, ◌<◌, ◌^◌, ap, pos, Some, to_z, w64, arith}
 use Rattle.std.proofs.lemmas.Int.{to_z_pos}
-use Rattle.pg_floats.proofs.Areas.{area_none, area_some}
+use Rattle.pg_floats.proofs.AreaSums.{area_none, area_some}
 use Rattle.pg_floats.proofs.list.FloatList.area.Goals as goal
 
 pub returns-in-None : goal.returns-in-None

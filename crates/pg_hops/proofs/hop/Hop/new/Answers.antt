@@ -1,9 +1,9 @@
 use Rattle.std.proofs.Common.{◌≡◌, ◌∙◌, sym, ap, subst, rules, w32, w64, to_z, of_z, ℕ, ℤ, Option}
 use Rattle.std.proofs.lemmas.Int.{to_z-of_z}
 use mir.Val.{SFits}
-use Rattle.pg_shift.specs.Bounds.{AddedValue, IsWellKept}
-use Rattle.pg_shift.specs.declared.shift.Shift.{Shift}
-use Rattle.pg_stretch.specs.declared.cursor.Cursor.{Cursor}
+use Rattle.pg_hops.specs.Bounds.{AddedValue, IsWellKept}
+use Rattle.pg_hops.specs.declared.shift.Shift.{Shift}
+use Rattle.pg_hops.specs.declared.cursor.Cursor.{Cursor}
 use Rattle.pg_hops.specs.Hop.{HopValue}
 use Rattle.pg_hops.proofs.hop.Hop.new.Goals as goal
 

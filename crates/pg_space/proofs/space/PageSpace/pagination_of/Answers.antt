@@ -1,6 +1,6 @@
 use Rattle.std.proofs.Common.{rules, ◌≡◌}
-use Rattle.pg_paging.specs.Paged.{paged}
-use Rattle.pg_paging.proofs.Paged.{plan_is}
+use Rattle.pg_space.specs.Paged.{paged}
+use Rattle.pg_space.proofs.Paged.{plan_is}
 use Rattle.pg_space.proofs.space.PageSpace.pagination_of.Goals as goal
 
 pub returns : goal.returns

@@ -1,4 +1,0 @@
-pub mod Ranges
-pub mod Takes
-pub mod Capped
-pub mod Heights

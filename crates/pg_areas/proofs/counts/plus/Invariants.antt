@@ -1,6 +1,0 @@
-use Rattle.std.proofs.Common.{◌≡◌}
-use Rattle.pg_areas.specs.Counts.{capped_sum}
-use Rattle.pg_areas.proofs.counts.plus.Given as goal
-
-abbrev pub invariant-loop-slot : goal.invariant-loop-slot
-invariant-loop-slot l = l.counts ≡ capped_sum l.slot l.a l.b

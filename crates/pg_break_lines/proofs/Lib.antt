@@ -1,6 +1,0 @@
-pub mod NearLaws
-pub mod FallLaws
-pub mod Scan
-pub mod Moves
-pub mod LowLaws
-pub mod Counted

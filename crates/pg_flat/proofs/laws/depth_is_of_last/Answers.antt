@@ -1,5 +1,0 @@
-use Rattle.pg_flat.proofs.SumsLaws.{depth_push}
-use Rattle.pg_flat.proofs.laws.depth_is_of_last.Goals as goal
-
-pub returns : goal.returns
-returns c = λ m xs x. depth_push m xs x

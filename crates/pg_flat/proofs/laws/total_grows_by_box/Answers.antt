@@ -1,5 +1,0 @@
-use Rattle.pg_flat.proofs.SumsLaws.{total_box, box_full}
-use Rattle.pg_flat.proofs.laws.total_grows_by_box.Goals as goal
-
-pub returns : goal.returns
-returns c = λ t m xs x box. total_box t m xs x box (box_full x box)

@@ -1,0 +1,18 @@
+-- Whether the notes along a stretch take room.
+use Rattle.std.specs.Prelude.{Bool, if◌then◌else◌, List, [], ◌∷◌, ℤ, pos}
+use Rattle.std.specs.Option.{option_map_or}
+use Rattle.std.specs.Ordering.{int_eq}
+use Rattle.pg_list.specs.Flat.{FlatItem}
+use Rattle.pg_rules.specs.Room.{Document}
+use Rattle.pg_style.specs.Values.{StyleValue}
+use Rattle.pg_column.specs.Passed.{Passed, fits, note_height, pass_item}
+
+-- the notes passed take no room
+abbrev pub is_quiet : StyleValue → Passed → Bool
+is_quiet style p = int_eq (note_height style p) (pos 0)
+
+-- what is passed of these items, up to a break that is forced or that no room up to the greatest one lets pass
+abbrev pub passed_along : Document → ℤ → Passed → List FlatItem → Passed
+passed_along doc top p [] = p
+passed_along doc top p (x ∷ xs) =
+    option_map_or (λ (q : Passed). if fits q.bound top then passed_along doc top q xs else q) (pass_item doc p x) p

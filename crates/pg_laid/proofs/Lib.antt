@@ -1,4 +1,0 @@
-pub mod Dealt
-pub mod FloatLaid
-pub mod LaidLemmas
-pub mod Tallest

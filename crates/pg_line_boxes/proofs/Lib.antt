@@ -1,4 +1,0 @@
-pub mod Widths
-pub mod Back
-pub mod SumsLaws
-pub mod Texts

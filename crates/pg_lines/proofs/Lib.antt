@@ -1,0 +1,15 @@
+pub mod Widths
+pub mod Back
+pub mod SumsLaws
+pub mod Texts
+pub mod NearLaws
+pub mod FallLaws
+pub mod Scan
+pub mod Moves
+pub mod LowLaws
+pub mod Counted
+pub mod Setting
+pub mod LineRanges
+pub mod LineSizes
+pub mod Found
+pub mod Going

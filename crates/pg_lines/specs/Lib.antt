@@ -1,0 +1,10 @@
+pub mod Printed
+pub mod Sums
+pub mod Near
+pub mod Ahead
+pub mod Ends
+pub mod Moves
+pub mod OneProof
+pub mod Found
+pub mod Set
+pub mod Answers

@@ -1,0 +1,108 @@
+-- Heights of areas whose floats are there.
+use Rattle.std.proofs.Common.{Bool, ◌≡◌, refl, sym, ap, ◌∙◌, subst, ℕ, ◌<◌, List, true, Option, Some, None, ℤ, pos, arith, ◌++◌, map, take, get_or, length, ◌+◌, [], ◌∷◌}
+use Rattle.std.specs.Prelude.{◌==◌, nat_lt, if◌then◌else◌, nat_abs, ◌^◌, ◌≤ℤ◌, ◌<ℤ◌, ◌&&◌, int_le, int_lt, ◌-ℤ◌, ◌+ℤ◌, unwrap_or, IfSome}
+use Rattle.std.specs.Option.{option_map_or}
+use Rattle.std.proofs.lemmas.Int.{ints}
+use Rattle.pg_plan.specs.declared.states.State.{State}
+use Rattle.pg_style.specs.Ranges.{IsAreaRule}
+use Rattle.pg_style.specs.Values.{AreaRuleValue}
+use Rattle.pg_rules.specs.Floats.{dealt, float_numbers, floats, plus_counts, total_count}
+use Rattle.pg_rules.specs.IsState.{IsState, not_first}
+use Rattle.pg_rules.specs.Room.{Document, checked_height, extra}
+use Rattle.std.specs.List.{AllByRecursion}
+use Rattle.pg_list.specs.Shapes.{IsBlock}
+use Rattle.law_columns.proofs.Areas.{area_range, dealt_range, floats_range}
+use Rattle.pg_layouts.specs.declared.layout.Layout.{Layout}
+use Rattle.std.proofs.lemmas.List.{map-append}
+use Rattle.pg_lemmas.proofs.Lists.{all_append, one_more}
+use Rattle.pg_lemmas.proofs.Bools.{both_of, by_bool, if_false}
+use Rattle.std.proofs.lemmas.Bool.{eqb-true}
+use Rattle.law_moves.proofs.Moves.{checked_is}
+use Rattle.law_moves.specs.Steps.{area_of, text_room, wide_of}
+use Rattle.pg_rooms.specs.Laid.{IsLaidBy, IsThere, laid_of}
+use Rattle.pg_rooms.specs.declared.laid.Laid.{Laid}
+use Rattle.law_places.proofs.Tests.{le_int, less_int}
+
+-- the height that a list of floats answers
+pub height_is : (doc : Document) (rule : AreaRuleValue) (before counts : List ℕ) (z : ℤ) → IsThere doc before counts →
+    z ≡ checked_height (floats doc.blocks doc.style) true rule before counts → z ≡ area_of doc rule before counts
+height_is doc rule before counts z there e =
+    e ∙ checked_is (floats doc.blocks doc.style) true rule before counts refl there.there
+
+pub height_small : (doc : Document) (rule : AreaRuleValue) (before counts : List ℕ) (z : ℤ) →
+    AllByRecursion IsBlock doc.blocks → IsAreaRule rule → IsThere doc before counts →
+    z ≡ area_of doc rule before counts → nat_abs z < 2 ^ 34
+height_small doc rule before counts z blocks range there e =
+    let r = area_range rule range (dealt (floats doc.blocks doc.style) before counts)
+    (dealt_range 0 (floats doc.blocks doc.style) before counts (floats_range doc.blocks (float_numbers doc.style) blocks))
+    there.few in
+    let few = r.1 in
+    subst (λ (y : ℤ). nat_abs y < 2 ^ 34) (sym e) (omega (arith, few))
+
+-- the wide area of the page of a later column, and of a first one
+pub wide_kept : (doc : Document) (u : State) (wide : List ℕ) → (u.column ≡ 1 → ⊥) → u.wide ≡ wide_of doc u wide
+wide_kept doc u wide n = by_bool (u.column == 1) (λ t. absurd (n (eqb-true u.column 1 t)))
+    (λ f. sym (if_false (u.column == 1) _ _ f))
+
+pub wide_first : (doc : Document) (u : State) (wide : List ℕ) (b : Bool) → u.column ≡ 1 → b ≡ nat_lt 0 (total_count wide) →
+    (if b then Some (area_of doc doc.style.wide u.placed wide) else None) ≡ wide_of doc u wide
+wide_first doc u wide b one e =
+    ap (λ (c : Bool). if c then Some (area_of doc doc.style.wide u.placed wide) else None) e
+    ∙ ap (λ (n : ℕ). if n == 1 then (if nat_lt 0 (total_count wide) then Some (area_of doc doc.style.wide u.placed wide)
+    else None) else u.wide) (sym one)
+
+-- a height that a state keeps
+pub kept_small : (column : ℕ) (o : Option ℤ) →
+    option_map_or (λ (z : ℤ). not_first column && (int_le (pos 0) z && int_lt z (pos (2 ^ 33)))) o true ≡ true →
+    IfSome o (λ height. nat_abs height < 2 ^ 34)
+kept_small column None e = tt
+kept_small column (Some z) e =
+    let b = both_of (int_le (pos 0) z) (int_lt z (pos (2 ^ 33))) (both_of (not_first column) _ e).1 in
+    let l = le_int (pos 0) z b.0 in
+    let h = less_int z (pos (2 ^ 33)) b.1 in
+    omega (arith, ints, l, h)
+
+-- what the areas of a layout leave to a text
+pub room_is : (doc : Document) (u : State) (layout : Layout) (wide : Option ℤ) (before below : List ℕ)
+    (full w t b : ℤ) → IsLaidBy doc u layout wide before below → full ≡ doc.style.height +ℤ extra doc.style layout.run →
+    w ≡ unwrap_or wide (pos 0) → t ≡ area_of doc doc.style.top before layout.top →
+    b ≡ area_of doc doc.style.bottom below layout.bottom → ((full -ℤ w) -ℤ t) -ℤ b ≡ text_room doc u layout
+room_is doc u layout wide before below full w t b by f h i j =
+    left_is full w t b _ _ _ _ f (h ∙ ap (λ (o : Option ℤ). unwrap_or o (pos 0)) by.wide_is)
+    (i ∙ ap (λ (counts : List ℕ). area_of doc doc.style.top counts layout.top) by.before_is)
+    (j ∙ ap (λ (counts : List ℕ). area_of doc doc.style.bottom counts layout.bottom)
+    (by.below_is ∙ ap (λ (counts : List ℕ). plus_counts doc.style counts layout.top) by.before_is))
+  where
+    left_is : (f w t b f' w' t' b' : ℤ) → f ≡ f' → w ≡ w' → t ≡ t' → b ≡ b' →
+        ((f -ℤ w) -ℤ t) -ℤ b ≡ ((f' -ℤ w') -ℤ t') -ℤ b'
+    left_is f w t b f' w' t' b' p q r s = cc
+
+pub laid_is : (doc : Document) (u : State) (layout : Layout) (wide : Option ℤ) (before below after : List ℕ) (room : ℤ) →
+    IsLaidBy doc u layout wide before below → after ≡ plus_counts doc.style below layout.bottom →
+    room ≡ text_room doc u layout →
+    ◌≡◌ {A = Laid} (record { layout = layout; wide = wide; after = after; room = room }) (laid_of doc u layout)
+laid_is doc u layout wide before below after room by a r =
+    same wide _ after _ room _ by.wide_is
+    (a ∙ (ap (λ (counts : List ℕ). plus_counts doc.style counts layout.bottom) by.below_is
+    ∙ ap (λ (counts : List ℕ). plus_counts doc.style (plus_counts doc.style counts layout.top) layout.bottom)
+    by.before_is)) r
+  where
+    same : (w w' : Option ℤ) (a a' : List ℕ) (r r' : ℤ) → w ≡ w' → a ≡ a' → r ≡ r' →
+        ◌≡◌ {A = Laid} (record { layout = layout; wide = w; after = a; room = r })
+        (record { layout = layout; wide = w'; after = a'; room = r' })
+    same w w' a a' r r' p q s = cc
+
+-- one more layout behind those before it
+pub laid_more : (doc : Document) (u : State) (layouts : List Layout) (i : ℕ) (layout copy : Layout) (it : Laid)
+    (mid new : List Laid) → i < length layouts → layout ≡ get_or layouts i layout → copy ≡ layout →
+    it ≡ laid_of doc u copy → nat_abs it.room < 2 ^ 40 → mid ≡ map (laid_of doc u) (take i layouts) →
+    AllByRecursion (λ (x : Laid). nat_abs x.room < 2 ^ 40) mid → new ≡ mid ++ it ∷ [] →
+    (new ≡ map (laid_of doc u) (take (i + 1) layouts)) × AllByRecursion (λ (x : Laid). nat_abs x.room < 2 ^ 40) new
+laid_more doc u layouts i layout copy it mid new less is c e small h all n = (
+  n ∙ (ap (λ (xs : List Laid). xs ++ it ∷ []) h
+      ∙ (ap (λ (x : Laid). map (laid_of doc u) (take i layouts) ++ x ∷ []) (e ∙ ap (laid_of doc u) c)
+      ∙ (sym (map-append (laid_of doc u) (take i layouts) (layout ∷ []))
+      ∙ ap (map (laid_of doc u)) (sym (one_more layouts i layout less is))))),
+  subst (AllByRecursion (λ (x : Laid). nat_abs x.room < 2 ^ 40)) (sym n)
+      (all_append (λ (x : Laid). nat_abs x.room < 2 ^ 40) mid (it ∷ []) all (small, tt)),
+)

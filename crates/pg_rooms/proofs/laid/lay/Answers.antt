@@ -1,0 +1,19 @@
+use Rattle.std.proofs.Common.{rules, ◌∙◌, of_z, to_z, w64}
+use Rattle.std.proofs.lemmas.Int.{to_z-of_z}
+use Rattle.pg_sources.specs.Document.{doc_of}
+use Rattle.pg_rooms.specs.Laid.{IsLaidBy}
+use Rattle.pg_rooms.proofs.LaidLemmas.{laid_is}
+use Rattle.pg_rooms.proofs.laid.lay.Goals as goal
+
+pub returns-clause-laid : goal.returns-clause-laid
+returns-clause-laid c =
+    let by : IsLaidBy (doc_of c.args.sources.now) c.args.state.now c.args.layout c.wide_height-wide.result
+    c.in_ok-before.before c.in_ok-below.below = record {
+      wide_is = c.wide_height-wide.ensures.value;
+      before_is = c.in_ok-before.ensures;
+      below_is = c.in_ok-below.ensures;
+    } in
+    laid_is (doc_of c.args.sources.now) c.args.state.now c.args.layout c.wide_height-wide.result c.in_ok-before.before
+    c.in_ok-below.below c.in_ok-after.after (to_z w64 (of_z w64 c.room-room.result)) by c.in_ok-after.ensures
+    (to_z-of_z w64 c.room-room.result (record { sfits = search rules })
+    ∙ c.room-room.ensures.value c.args.state.now by)

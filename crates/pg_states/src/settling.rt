@@ -1,0 +1,84 @@
+//! The floats at the end of a column: whether they are called, what is left of them, and what is paid.
+ghost use Rattle.std.specs.Prelude.{◌≡◌, IfOk, ◌≤◌, ◌^◌, IfSome};
+ghost use Rattle.pg_list.specs.declared.galley.Place.{Place as APlace};
+ghost use Rattle.pg_rules.specs.Floats.{called};
+ghost use Rattle.pg_rules.specs.Follow.{fills_page, turns as turns_of};
+ghost use Rattle.law_moves.specs.Listed.{calls_all as calls_all_of};
+ghost use Rattle.pg_sources.specs.Document.{doc_of};
+ghost use Rattle.pg_states.specs.Settling.{Settles, known_of};
+
+use crate::classes::Classes;
+use crate::counts::covers_all;
+use pg_plan::{Ages, Counts, State};
+use pg_sources::Sources;
+use pg_style::Style;
+use std::alloc::AllocError;
+
+/// How many floats of each class are called before a state, and how many of these wait.
+#[derive(Drop)]
+pub struct Known {
+    pub called: Counts,
+    pub waits: Counts,
+}
+
+/// The ages of the floats that are left, and what those pay that are placed.
+#[derive(Drop)]
+pub struct Settled {
+    pub ages: Ages,
+    pub price: u128,
+}
+
+/// Whether so many floats of each class are called before a place, before which `reached` are called.
+pub fn calls_all(sources: &Sources<'_>, reached: &[u16], after: &[u16]) -> bool
+    ensures { (to : APlace) → reached.now ≡ called sources.now.galley.now.blocks sources.now.style.now to →
+        result ≡ calls_all_of (doc_of sources.now) to after.now }
+{
+    covers_all(sources.slots(), reached, after)
+}
+
+// Whether a page ends with the next column.
+fn ends_page(style: &Style, state: &State) -> bool
+    ensures { result ≡ fills_page style.now state.now }
+{
+    state.column == style.columns
+}
+
+// How many pages end with the next column.
+fn turns(style: &Style, state: &State) -> u8
+    ensures { result ≡ turns_of style.now state.now }
+{
+    if ends_page(style, state) { 1 } else { 0 }
+}
+
+/// The floats at the end of a column, behind which so many of each class are placed, and before whose end `reached` are
+/// called. None where one of those that are left is too old.
+pub fn settle(
+    sources: &Sources<'_>,
+    state: &State,
+    known: &Known,
+    reached: &[u16],
+    after: &Counts,
+) -> Result<Option<Settled>, AllocError>
+    requires { known.now ≡ known_of (doc_of sources.now) state.now }
+    ensures settles { IfOk result (λ settled. (to : APlace) →
+        reached.now ≡ called sources.now.galley.now.blocks sources.now.style.now to →
+        Settles (doc_of sources.now) state.now to after.now settled) }
+    ensures small { IfOk result (λ settled. IfSome settled (λ it. it.price ≤ 2 ^ 51)) }
+{
+    let classes = Classes {
+        waits: known.waits.as_slice(),
+        called: known.called.as_slice(),
+        reached,
+        placed: state.placed.as_slice(),
+        after: after.as_slice(),
+    };
+    let slots = sources.slots();
+    let ages = state.ages.as_slice();
+    classes.settle(
+        sources.alloc,
+        sources.style,
+        slots,
+        ages,
+        turns(sources.style, state),
+    )
+}

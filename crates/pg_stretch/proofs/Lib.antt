@@ -1,5 +1,0 @@
-pub mod Cursors
-pub mod Telling
-pub mod Along
-pub mod Left
-pub mod Quiet

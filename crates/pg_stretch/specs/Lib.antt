@@ -1,4 +1,0 @@
-pub mod View
-pub mod Ahead
-pub mod Quiet
-pub mod Told

@@ -1,5 +1,0 @@
-pub mod Setting
-pub mod LineRanges
-pub mod Sizes
-pub mod Found
-pub mod Going

@@ -1,5 +1,0 @@
-pub mod Ahead
-pub mod Empty
-pub mod Fresh
-pub mod Next
-pub mod Settles

@@ -1,6 +1,0 @@
-use Rattle.std.proofs.Common.{◌∙◌}
-use Rattle.pg_walk_space.specs.WalkLawful.{totals_tests}
-use Rattle.pg_walk_space.proofs.space.same_totals.Goals as goal
-
-pub returns : goal.returns
-returns c = c.eq.ensures ∙ totals_tests c.args.a c.args.b
