@@ -9,10 +9,11 @@ DRAWN = "$(CURDIR)/examples/ten-lines.out"
 try:
 	cd crates/pg && rt try -- $(EXAMPLE)
 
-# both programs, proved: half an hour and more
+# the three programs, proved: half an hour and more
 build:
 	cd crates/pg && rt run -- $(EXAMPLE) > /dev/null
 	cd crates/pg_draw_main && rt run -- $(DRAWN) > /dev/null
+	cd crates/pg_tell_main && rt run -- --version > /dev/null
 
 # the gate: every proof, wrong body, test and program
 test:
@@ -25,4 +26,5 @@ draw:
 install:
 	install -D crates/pg/out/pg "$(DESTDIR)$(PREFIX)/bin/pg"
 	install -D crates/pg_draw_main/out/pg_draw_main "$(DESTDIR)$(PREFIX)/bin/pg_draw"
+	install -D crates/pg_tell_main/out/pg_tell_main "$(DESTDIR)$(PREFIX)/bin/pg_tell"
 	install -D -m 644 man/pg.1 "$(DESTDIR)$(PREFIX)/share/man/man1/pg.1"

@@ -3,8 +3,9 @@ module = "pg"
 packageversion = "1.0"
 packagedate = "2026-11-29"
 
-sourcefiles = { "pg.sty", "pg.lua" }
-installfiles = { "pg.sty", "pg.lua" }
+tdsroot = "generic"
+sourcefiles = { "pg.sty", "pg-plain.tex", "pg-core.tex", "pg.lua" }
+installfiles = sourcefiles
 scriptfiles = { "pgtex.lua" }
 scriptmanfiles = { "pgtex.1" }
 textfiles = { "README.md" }

@@ -8,7 +8,7 @@
 
 local VERSION = "1.0"
 local DATE = "2026-11-29"
-local FORMAT = 1 -- of NAME.pgx
+local FORMAT = 2 -- of NAME.pgx
 
 local USAGE = "usage: pgtex [--keep] [--latex COMMAND] NAME"
 local HELP = USAGE .. [[
@@ -18,7 +18,8 @@ Reads NAME.log, the log of a LaTeX run of a document with \usepackage{pg}, lets 
 writes NAME.pgx. LaTeX, run again, makes these pages. Where the galley and the style have not changed, nothing is
 written.
 
-  --keep            keep NAME.pgg, the galley, and NAME.pages, the page text of pg
+  --keep            keep what pg read and what it wrote: NAME-1.pgg and NAME-1.pages of the first part, and so on; NAME.pgg
+                    and NAME.pages of all, joined
   --latex COMMAND   the LaTeX for draft runs, where the option lengths asks for them; the engine of NAME.log otherwise
   --help            print this
   --version         print the version
@@ -116,65 +117,72 @@ local function new_item(line, at)
   return item
 end
 
-local function read_log(file)
-  local text = read_file(file)
-  if not text then stop("there is no %s: run LaTeX first", file) end
-  local lines, longest, listing = {}, 0, false
+-- the lines of a log, and how long the longest of the last listing is
+local function lines_of(text)
+  local lines, longest, is_listing = {}, 0, false
   for line in text:gmatch("([^\n]*)\n?") do
     line = line:gsub("\r$", "")
     lines[#lines + 1] = line
-    if line == "pg: galley begins" then listing, longest = true, 0
-    elseif line == "pg: galley ends" then listing = false
-    elseif listing then longest = math.max(longest, utf8.len(line) or #line) end
+    if line == "pg: galley begins" then is_listing, longest = true, 0
+    elseif line == "pg: galley ends" then is_listing = false
+    elseif is_listing then longest = math.max(longest, utf8.len(line) or #line) end
   end
-  local log = { file = file, items = {}, paragraphs = {} }
+  return lines, longest
+end
+-- what pg.sty tells: of a paragraph, of a class, or by a key
+local function read_told(log, line)
+  local n, count, how = line:match("^pg: paragraph (%d+) lines (%d+) (%a+)$")
+  local class, word = line:match("^pg: class (%d+) (.*)$")
+  local key, value = line:match("^pg: (%a+) (.*)$")
+  if n then
+    if how == "text" then log.paragraphs[integer(n)] = integer(count) end
+  elseif class then log.words[integer(class)] = word
+  elseif key then log[key] = value end
+end
+-- a line of the listing: of the root, of an item or within it, or what TeX wrote on a line of its own
+local function read_listed(log, line, at)
+  local item = log.items[#log.items]
+  if line:sub(1, 6) == "\\vbox(" then log.root = line
+  elseif not log.root then return
+  elseif line:sub(1, 2) == ".." then item.deep[#item.deep + 1] = line:sub(2)
+  elseif line:sub(1, 1) == "." then
+    item = new_item(line:sub(2), at)
+    local class, mark = item.line:match("^\\marks(%d+){(.*)}$")
+    if class and class == log.markers then item.marker = mark end
+    log.items[#log.items + 1] = item
+  elseif line ~= "" and item then
+    if #item.deep > 0 then item.deep[#item.deep] = item.deep[#item.deep] .. line
+    else log.items[#log.items] = new_item(item.line .. line, item.at) end
+  end
+end
+
+local function read_log(file)
+  local text = read_file(file)
+  if not text then stop("there is no %s: run LaTeX first", file) end
+  local lines, longest = lines_of(text)
+  local log = { file = file, items = {}, paragraphs = {}, words = {} }
   local first = lines[1] or ""
-  log.engine = first:match("XeTeX") and "xelatex" or first:match("Lua") and "lualatex" or "pdflatex"
-  local width = log_width(log.engine, longest)
-  local function full(line) return (utf8.len(line) or #line) == width or #line == width end
-  local inside, i = false, 1
-  local markers
+  log.machine = first:match("XeTeX") and "xe" or first:match("Lua") and "lua" or "pdf"
+  local width = log_width(log.machine .. "tex", longest)
+  local function is_full(line) return (utf8.len(line) or #line) == width or #line == width end
+  local is_inside, i = false, 1
   while lines[i] do
     local line, at = lines[i], i
-    if inside or line:sub(1, 4) == "pg: " then
-      while full(lines[i]) and lines[i + 1] do i = i + 1 line = line .. lines[i] end
+    local is_told = line:sub(1, 4) == "pg: "
+    if is_inside or is_told then
+      while is_full(lines[i]) and lines[i + 1] do i = i + 1 line = line .. lines[i] end
     end
     if line == "pg: galley begins" then
-      inside = true
+      is_inside = true
       log.items, log.root, log.ended = {}, nil, false
-    elseif line == "pg: galley ends" then inside = false log.ended = true
-    elseif line:sub(1, 4) == "pg: " then
-      local n, count, how = line:match("^pg: paragraph (%d+) lines (%d+) (%a+)$")
-      if n then
-        if how == "text" then log.paragraphs[integer(n)] = integer(count) end
-      else
-        local key, value = line:match("^pg: (%a+) (.*)$")
-        if key then log[key] = value end
-      end
-    elseif inside then
-      if line:sub(1, 6) == "\\vbox(" then log.root = line
-      elseif log.root then
-        local item = log.items[#log.items]
-        if line:sub(1, 2) == ".." then item.deep[#item.deep + 1] = line:sub(2)
-        elseif line:sub(1, 1) == "." then
-          item = new_item(line:sub(2), at)
-          if item.kind == "carry" then
-            local class, mark = item.line:match("^\\marks(%d+){(.*)}$")
-            if class and class == log.markers then item.marker = mark end
-          end
-          log.items[#log.items + 1] = item
-        elseif line ~= "" and item then
-          if #item.deep > 0 then item.deep[#item.deep] = item.deep[#item.deep] .. line
-          else
-            log.items[#log.items] = new_item(item.line .. line, item.at)
-          end
-        end
-      end
-    end
+    elseif line == "pg: galley ends" then is_inside = false log.ended = true
+    elseif is_told then read_told(log, line)
+    elseif is_inside then read_listed(log, line, at) end
     i = i + 1
   end
   if not log.ended then stop("%s has no galley: does the document use pg, and did LaTeX come to its end?", file) end
   if not log.root then stop("%s shows no galley: is there a shrink without bound (\\vss) in the text?", file) end
+  log.engine = log.machine .. (log.format == "plain" and "tex" or "latex")
   return log
 end
 
@@ -301,31 +309,33 @@ local function has_insert(block)
   end
 end
 
--- parts: first and last block, the columns of a page, and what LaTeX does in front of it
+-- parts: first and last block, the columns of a page, and what LaTeX does in front of it. A part ends with the break
+-- that is forced behind its last box; what waits for its page behind that waits for the next part.
 local function make_parts(blocks, columns)
   local parts, first, before = {}, 1, nil
-  local boxes, inserts = false, false
+  local boxes, inserts, forced = false, false, nil
   local function close(last)
     parts[#parts + 1] = { first = first, last = last, before = before, columns = columns, floats_alone = not boxes }
-    first, before, boxes, inserts = last + 1, nil, false, false
+    first, before, boxes, inserts, forced = last + 1, nil, false, false, nil
   end
   for b, block in ipairs(blocks) do
     local marker = block.item and block.item.marker
     if marker == "clear" or marker == "cleardouble" then
-      if boxes or inserts then close(b - 1) end
+      if boxes or inserts then close(forced or b - 1) end
       -- of several behind one another the strongest counts
       if #parts > 0 or marker == "cleardouble" then before = before == "cleardouble" and before or marker end
     elseif marker and marker:match("^columns ") then columns = marker:match("%d+")
-    elseif has_box(block) then boxes = true
-    elseif has_insert(block) then inserts = true end
+    elseif has_box(block) then boxes, forced = true, nil
+    elseif has_insert(block) then inserts, forced = true, nil
+    elseif (block.item.penalty or 0) <= -10000 then forced = forced or b end
   end
   if boxes or inserts then close(#blocks)
   elseif #parts > 0 then parts[#parts].last = #blocks end
   return parts
 end
 
--- what pg reads of a part: without markers, without what TeX drops in front of its first box, and with the marks and
--- writes behind its last box in front of the glue that TeX drops there
+-- what pg reads of a part: without markers, without what TeX drops in front of its first box and behind a forced break,
+-- and with the marks and writes behind its last box in front of the glue that TeX drops there
 local function show_to_pg(part, blocks)
   local shown, tail, seen = {}, {}, false
   local last_box = 0
@@ -337,7 +347,10 @@ local function show_to_pg(part, blocks)
     elseif has_box(block) then seen = true shown[#shown + 1] = b
     elseif is_discardable(item) then
       if b > last_box then tail[#tail + 1] = b
-      elseif seen then shown[#shown + 1] = b end
+      elseif seen then
+        shown[#shown + 1] = b
+        seen = not item.penalty or item.penalty > -10000
+      end
     else shown[#shown + 1] = b end
   end
   for _, b in ipairs(tail) do shown[#shown + 1] = b end
@@ -377,13 +390,17 @@ local function read_pages(text)
       if area == "notes" then
         local size = line:match("^%.\\insert%d+, natural size ([%d.]+)")
         if size then column.notes = column.notes + units(size) end
+      elseif area == "text" and not column.is_set then
+        local natural, set = line:match("^%.\\%a+%b() (-?[%d.]+).*, set (-?[%d.]+)$")
+        if not natural then natural, set = line:match("^%.\\%a+ (-?[%d.]+).*, set (-?[%d.]+)$") end
+        -- pg leaves the last page of a part as it is; where it has a \vfil, TeX stretches that
+        column.is_set = natural and (natural ~= set or line:match(" plus %-?[%d.]+fi") ~= nil)
       end
     else
       local w = {}
       for word in line:gmatch("%S+") do w[#w + 1] = word end
-      if w[1] == "pages" then pages.cost, pages.width = w[4], w[6]
-      elseif w[1] == "page" then
-        page = { side = w[4], run = integer(w[6]), wide = counts(w[8]), columns = {}, text = {} }
+      if w[1] == "page" then
+        page = { side = w[4], run = integer(w[6]), wide = counts(w[8]), columns = {} }
         pages[#pages + 1] = page
       elseif w[1] == "column" then
         column = { from = { integer(w[4]), integer(w[5]), integer(w[6]) }, to = { integer(w[8]), integer(w[9]), integer(w[10]) },
@@ -392,7 +409,6 @@ local function read_pages(text)
       elseif w[1] == "set" then column.goal, column.total = units(w[3]), units(w[5])
       elseif w[1] == "area" then area = w[2] end
     end
-    if page then page.text[#page.text + 1] = line end
   end
   return pages
 end
@@ -416,8 +432,8 @@ local function explain(part, blocks, style, log)
         local limit = style.notes[item.class] and size_of(style.notes[item.class], "limit")
         if b >= part.first then
           if item.size > room then
-            note(item, "%s %d of class %d is %s high, and a page %s", style.is_float[item.class] and "float" or "note",
-              seen[item.class], item.class, points(item.size), points(room))
+            note(item, "%s %d is %s high, and a page %s", log.words[item.class] or style.is_float[item.class] and "float" or "note",
+              seen[item.class], points(item.size), points(room))
           elseif limit and item.size > limit then
             note(item, "note %d is %s high, and at most %s may be", seen[item.class], points(item.size), points(limit))
           end
@@ -460,6 +476,7 @@ local function number_at(part, blocks, number)
   end
   return number
 end
+local function width_of(log) return log.root:match("x(-?[%d.]+)") end
 -- floats that stand between two \clearpage without text: as many to a page as it holds
 local function pages_of_floats(part, blocks, style)
   local pages, room, page = {}, size_of(style, "height"), nil
@@ -475,63 +492,88 @@ local function pages_of_floats(part, blocks, style)
       if item.size > room then return nil, item end
       local wide = style.is_float[item.class].area == "wide"
       if wide then
-        pages[#pages + 1] = { side = "S", run = 0, wide = one_of(item.class), columns = { { above = {}, below = {}, picks = {}, idle = true } }, text = {} }
+        pages[#pages + 1] = { side = "S", run = 0, wide = one_of(item.class), columns = { { above = {}, below = {}, picks = {} } } }
         left = 0
       elseif left >= item.size then
         local column = page.columns[1]
         for k, n in ipairs(one_of(item.class)) do column.above[k] = column.above[k] + n end
         left = left - item.size - size_of(style.top, "sep")
       else
-        page = { side = "S", run = 0, wide = {}, columns = { { above = one_of(item.class), below = {}, picks = {} } }, text = {} }
+        page = { side = "S", run = 0, wide = {}, columns = { { above = one_of(item.class), below = {}, picks = {} } } }
         pages[#pages + 1] = page
         left = room - item.size - size_of(style.top, "sep")
       end
     end
   end
-  pages.cost = "0"
   return pages
 end
-local function paginate(parts, blocks, style, log)
-  local number = integer(log.page or "1")
-  local galley, output, styles = temporary_name(), temporary_name(), {}
-  local function style_for(first, columns, longer)
-    if first == style.first and columns == style.columns and not longer then return style.file end
-    local which = first .. columns .. (longer and " longer" or "")
-    if not styles[which] then
-      styles[which] = temporary_name()
+-- what pg would write of them
+local function text_of_floats(pages, log)
+  local out = { string.format("pages %d cost 0 width %s", #pages, width_of(log)) }
+  local function list(numbers) return #numbers > 0 and table.concat(numbers, ",") or "-" end
+  for number, page in ipairs(pages) do
+    out[#out + 1] = string.format("page %d side S run 0 wide %s", number, list(page.wide))
+    out[#out + 1] = string.format("column 1 from 0 0 0 to 0 0 0 top %s bottom - picks -", list(page.columns[1].above))
+    out[#out + 1] = "without text demerits 0"
+  end
+  return table.concat(out, "\n") .. "\n"
+end
+-- styles like the document's, but for the side of the first page, the columns, and how long floats may wait
+local function new_styles(style)
+  local files = {}
+  return function(first, columns, is_longer)
+    if first == style.first and columns == style.columns and not is_longer then return style.file end
+    local which = first .. columns .. (is_longer and " longer" or "")
+    if not files[which] then
+      files[which] = temporary_name()
       local text = style.text:gsub("(\n%s*first%s*=%s*)\"%a+\"", "%1\"" .. first .. "\"", 1)
       text = text:gsub("(\n%s*columns%s*=%s*)%d+", "%1" .. columns, 1)
-      if longer then text = text:gsub("(distance = %[0, [%d, ]+)", "%1" .. string.rep(", 100000000", 4)) end
-      write_file(styles[which], text)
+      if is_longer then text = text:gsub("(distance = %[0, [%d, ]+)", "%1" .. string.rep(", 100000000", 5)) end
+      write_file(files[which], text)
     end
-    return styles[which]
+    return files[which]
   end
+end
+local function tell_illegal(part, which, blocks, style, style_file, log)
+  for _, line in ipairs(explain(part, blocks, style, log)) do complain("%s", line) end
+  local block, pages = least_illegal_front(part, blocks, style_file, log)
+  local item = block and (block.item or block.versions[1][1])
+  stop("no legal pagination%s: %d pages can be made, and nothing behind %s:%d%s", which, pages, log.file, item and item.at or 0,
+    item and " [" .. item.line .. "]" or "")
+end
+-- what pg writes of a part that has text
+local function text_of_part(part, which, number, blocks, style, styles, log)
+  local galley, output = temporary_name(), temporary_name()
+  local text, read = galley_text(part.shown, blocks, log.root)
+  write_file(galley, text)
+  local first = style.first ~= "single" and (number % 2 == 1 and "right" or "left") or style.first
+  local function run(style_file)
+    local out, said = run_pg("run " .. quoted(style_file) .. " " .. quoted(galley), output)
+    if not out then stop("%s", in_words(said, style.file, log, read)) end
+    return out
+  end
+  local out = run(styles(first, part.columns))
+  -- in a style of pg.sty a float may wait three pages; where many come together, eight
+  if out:match("^no legal pagination") and style.text:match("^# written by pg.sty") then
+    out = run(styles(first, part.columns, true))
+  end
+  if out:match("^no legal pagination") then tell_illegal(part, which, blocks, style, styles(first, part.columns), log) end
+  return out
+end
+local function paginate(parts, blocks, style, log)
+  local number, styles = integer(log.page or "1"), new_styles(style)
   for k, part in ipairs(parts) do
     show_to_pg(part, blocks)
     number = number_at(part, blocks, number)
     if part.floats_alone then
       local pages, item = pages_of_floats(part, blocks, style)
-      if not pages then stop("no legal pagination: %s:%d: a float is %s high", log.file, item.at, points(item.size)) end
-      part.pages = pages
+      if not pages then
+        stop("no legal pagination: %s:%d: a %s is %s high", log.file, item.at, log.words[item.class] or "float", points(item.size))
+      end
+      part.pages, part.text = pages, text_of_floats(pages, log)
     else
-      local text, read = galley_text(part.shown, blocks, log.root)
-      write_file(galley, text)
-      local first = style.first ~= "single" and (number % 2 == 1 and "right" or "left") or style.first
-      local out, said = run_pg("run " .. quoted(style_for(first, part.columns)) .. " " .. quoted(galley), output)
-      if not out then stop("%s", in_words(said, style.file, log, read)) end
-      -- in a style of pg.sty a float may wait four pages; where many come together, eight
-      if out:match("^no legal pagination") and style.text:match("^# written by pg.sty") then
-        out, said = run_pg("run " .. quoted(style_for(first, part.columns, true)) .. " " .. quoted(galley), output)
-        if not out then stop("%s", in_words(said, style.file, log, read)) end
-      end
-      if out:match("^no legal pagination") then
-        for _, line in ipairs(explain(part, blocks, style, log)) do complain("%s", line) end
-        local block, pages = least_illegal_front(part, blocks, style_for(first, part.columns), log)
-        local item = block and (block.item or block.versions[1][1])
-        stop("no legal pagination%s: %d pages can be made, and nothing behind %s:%d%s", #parts > 1 and " of part " .. k or "", pages,
-          log.file, item and item.at or 0, item and " [" .. item.line .. "]" or "")
-      end
-      part.pages = read_pages(out)
+      part.text = text_of_part(part, #parts > 1 and " of part " .. k or "", number, blocks, style, styles, log)
+      part.pages = read_pages(part.text)
     end
     number = number + #part.pages
   end
@@ -627,152 +669,180 @@ local function described_items(flat, starts)
   return table.concat(out, "\n") .. "\n"
 end
 
----------------------------------------------------------------- NAME.pgx
-local function write_commands(parts, blocks, style, log, sum)
-  local flat, picked = flatten(parts, blocks)
-  local pieces = count_pieces(flat)
-  local out = {}
-  local function put(...) out[#out + 1] = string.format(...) end
-
-  local sizes, dealt = {}, {}
-  for _, class in ipairs(style.floats) do sizes[class.number], dealt[class.number] = {}, 0 end
+---------------------------------------------------------------- the floats
+-- Each class has its floats in the order of their calls, and gives them away one by one.
+local function new_deck(flat, style)
+  local deck = { classes = style.floats, sizes = {}, dealt = {} }
+  for _, class in ipairs(style.floats) do deck.sizes[class.number], deck.dealt[class.number] = {}, 0 end
   for _, item in ipairs(flat) do
-    if item.kind == "insert" and sizes[item.class] then table.insert(sizes[item.class], item.size) end
+    if item.kind == "insert" and deck.sizes[item.class] then table.insert(deck.sizes[item.class], item.size) end
   end
-  for _, class in ipairs(style.floats) do
-    for n, size in ipairs(sizes[class.number]) do put("\\pg@size{%d}{%d}{%d}", class.number, n, size) end
+  return deck
+end
+-- the next floats of each class: as commands, their heights added up, and how many they are
+local function deal(deck, numbers)
+  local list, height = {}, 0
+  for k, class in ipairs(deck.classes) do
+    for _ = 1, numbers[k] or 0 do
+      local at = deck.dealt[class.number] + 1
+      deck.dealt[class.number] = at
+      list[#list + 1] = string.format("\\pg@place{%d}{%d}", class.number, at)
+      height = height + deck.sizes[class.number][at]
+    end
   end
+  return table.concat(list), height, #list
+end
+-- as commands, how many floats of each class are called behind the first items and not behind the last
+local function calls_between(deck, flat, first, last)
+  local numbers, list = {}, {}
+  for k = first + 1, last do
+    local class = flat[k].kind == "insert" and flat[k].class
+    if class then numbers[class] = (numbers[class] or 0) + 1 end
+  end
+  for _, class in ipairs(deck.classes) do
+    local number = numbers[class.number]
+    if number then list[#list + 1] = string.format("\\pg@call{%d}{%d}", class.number, number) end
+  end
+  return table.concat(list)
+end
+
+---------------------------------------------------------------- the end of each column
+-- how far in the list a place of pg's is
+local function offset_of(place, part, blocks)
+  local b = part.shown[place[1] + 1]
+  if not b then return part.finish end
+  local block, n = blocks[b], place[3]
+  if not block.versions then return block.offset end
+  for k, item in ipairs(block.versions[block.pick + 1]) do
+    if not item.marker then
+      if n == 0 then return block.offset + k - 1 end
+      n = n - 1
+    end
+  end
+  return block.offset + #block.versions[block.pick + 1]
+end
+-- the last text of a part goes to the end of its last piece; box_end is the first end behind its last box
+local function find_ends(part, blocks, pieces)
+  for _, page in ipairs(part.pages) do
+    for _, column in ipairs(page.columns) do if column.goal then part.last_text = column end end
+  end
+  part.box_end, part.last_end = part.finish, part.finish
+  if part.last_box > 0 then
+    local block = blocks[part.last_box]
+    part.box_end = block.offset + (block.versions and #block.versions[block.pick + 1] or 1)
+    while not pieces[part.box_end] do part.box_end = part.box_end + 1 end
+  end
+  while not pieces[part.last_end] do part.last_end = part.last_end - 1 end
+end
+-- a break behind a break with no box between: what TeX drops at the first one is put back, but for so many items
+local function taken_off(flat, from, to, log)
+  local number, place = 0, from
+  while flat[place + 1] and flat[place + 1].kind ~= "box" do
+    local item = flat[place + 1]
+    if is_discardable(item) then if place >= to then number = number + 1 end
+    elseif place < to then complain("%s:%d: this item may come out on the page behind", log.file, item.at) end
+    place = place + 1
+  end
+  return number
+end
+-- the items up to the end of a column; how many pieces at its end stand behind glue that is dropped; what is taken off
+local function end_of(column, part, list, log)
+  local to, pieces = offset_of(column.to, part, list.blocks), list.pieces
+  local at, from, tail = to, nil, 0
+  if column == part.last_text then
+    at, from = part.last_end, part.box_end
+    tail = pieces[at] - pieces[from]
+  else
+    while not pieces[at] do at = at - 1 end
+    from = at
+  end
+  return at, tail, from < to and tail == 0 and taken_off(list.flat, from, to, log) or -1
+end
+
+---------------------------------------------------------------- NAME.pgx
+local function put_sizes(put, deck)
+  for _, class in ipairs(deck.classes) do
+    for n, size in ipairs(deck.sizes[class.number]) do put("\\pg@size{%d}{%d}{%d}", class.number, n, size) end
+  end
+end
+local function put_picks(put, picked)
   local by_hand = 0
   for _, block in ipairs(picked) do
-    if not block.paragraph then by_hand = by_hand + 1 block.number = by_hand end
+    if not block.paragraph then by_hand = by_hand + 1 end
     if block.pick ~= 0 then
       if block.paragraph then put("\\pg@length{%d}{%d}", block.paragraph, block.versions[block.pick + 1].looseness)
-      else put("\\pg@choice{%d}{%d}", block.number, block.pick) end
+      else put("\\pg@choice{%d}{%d}", by_hand, block.pick) end
     end
   end
-  -- the next floats of each class: their list, heights and number
-  local function deal(numbers)
-    local list, height, n = {}, 0, 0
-    for k, class in ipairs(style.floats) do
-      for _ = 1, numbers[k] or 0 do
-        local at = dealt[class.number] + 1
-        dealt[class.number] = at
-        list[#list + 1] = string.format("\\pg@place{%d}{%d}", class.number, at)
-        height, n = height + sizes[class.number][at], n + 1
-      end
-    end
-    return table.concat(list), height, n
-  end
-
-  local page_number, columns, done, starts = 0, 0, 0, {}
+end
+local function put_column(put, column, part, list, log)
+  local above, _, how_many = deal(list.deck, column.above)
+  local below = deal(list.deck, column.below)
+  if not column.goal then put("\\pg@floatcolumn{%s}{%d}", above, how_many) return end
+  local start = offset_of(column.from, part, list.blocks)
+  list.starts[start] = list.starts[start] or list.page
+  local at, tail, back = end_of(column, part, list, log)
+  local set = (column ~= part.last_text or column.is_set) and 1 or 0
+  put("\\pg@measures{%d}{%d}{%s}", column.total, column.notes, calls_between(list.deck, list.flat, list.done, at))
+  put("\\pg@column{%d}{%d}{%d}{%d}{%d}{%s}{%s}", list.pieces[at] - list.pieces[list.done], tail, back, column.goal, set, above, below)
+  list.done, list.columns = at, list.columns + 1
+end
+local function put_page(put, page, part, list, style, log)
+  list.page = list.page + 1
+  local wide, height, n = deal(list.deck, page.wide)
+  if n > 0 then height = height + (n - 1) * size_of(style.wide, "sep") + size_of(style.wide, "gap") end
+  local extra = size_of(style.runs[page.run + 1], "extra")
+  put("\\pg@page{%d}{%d}{%s}{%d}{%d}", list.page, extra, wide, height, size_of(style, "height") + extra - height)
+  for _, column in ipairs(page.columns) do put_column(put, column, part, list, log) end
+end
+local function write_commands(parts, blocks, style, log, sum)
+  local flat, picked = flatten(parts, blocks)
+  -- the list with its pieces; how much of it is done, the page and the columns so far, and behind which items a page starts
+  local list = { flat = flat, blocks = blocks, pieces = count_pieces(flat), deck = new_deck(flat, style),
+    done = 0, page = 0, columns = 0, starts = {} }
+  local out = {}
+  local function put(...) out[#out + 1] = string.format(...) end
+  put_sizes(put, list.deck)
+  put_picks(put, picked)
   for _, part in ipairs(parts) do
     put("\\pg@part{%s}{%s}", part.before or "", part.columns)
-    local finish = part.finish
-    local box_end = finish
-    if part.last_box > 0 then
-      local block = blocks[part.last_box]
-      box_end = block.offset + (block.versions and #block.versions[block.pick + 1] or 1)
-      while not pieces[box_end] do box_end = box_end + 1 end
-    end
-    while not pieces[finish] do finish = finish - 1 end
-    local last
-    for _, page in ipairs(part.pages) do
-      for _, column in ipairs(page.columns) do if column.goal then last = column end end
-    end
-    -- how far in the list a place of pg's is
-    local function offset(place)
-      local b = part.shown[place[1] + 1]
-      if not b then return part.finish end
-      local block, n = blocks[b], place[3]
-      if not block.versions then return block.offset end
-      for k, item in ipairs(block.versions[block.pick + 1]) do
-        if not item.marker then
-          if n == 0 then return block.offset + k - 1 end
-          n = n - 1
-        end
-      end
-      return block.offset + #block.versions[block.pick + 1]
-    end
-    for _, page in ipairs(part.pages) do
-      page_number = page_number + 1
-      local wide, height, n = deal(page.wide)
-      if n > 0 then height = height + (n - 1) * size_of(style.wide, "sep") + size_of(style.wide, "gap") end
-      put("\\pg@page{%d}{%d}{%s}{%d}", page_number, size_of(style.runs[page.run + 1], "extra"), wide, height)
-      for _, column in ipairs(page.columns) do
-        local above, _, how_many = deal(column.above)
-        local below = deal(column.below)
-        if column.goal then
-          columns = columns + 1
-          local to, tail, back, set = offset(column.to), 0, -1, 1
-          local from_item = offset(column.from)
-          starts[from_item] = starts[from_item] or page_number
-          local at
-          if column == last then
-            at = finish
-            tail = pieces[finish] - pieces[box_end]
-            if column.total <= column.goal then set = 0 end
-          else
-            at = to
-            while not pieces[at] do at = at - 1 end
-          end
-          local from = column == last and box_end or at
-          if from < to and tail == 0 then
-            -- a break behind a break with no box between: what TeX drops at the first one is put back
-            back = 0
-            local place = from
-            while flat[place + 1] and flat[place + 1].kind ~= "box" do
-              local item = flat[place + 1]
-              if is_discardable(item) then if place >= to then back = back + 1 end
-              elseif place < to then
-                complain("%s:%d: this item may come out on the page behind", log.file, item.at)
-              end
-              place = place + 1
-            end
-          end
-          put("\\pg@column{%d}{%d}{%d}{%d}{%d}{%d}{%d}{%s}{%s}", pieces[at] - done, tail, back, column.goal, column.total, set,
-            column.notes, above, below)
-          done = pieces[at]
-        else
-          put("\\pg@floatcolumn{%s}{%d}", above, how_many)
-        end
-      end
-    end
+    find_ends(part, blocks, list.pieces)
+    for _, page in ipairs(part.pages) do put_page(put, page, part, list, style, log) end
   end
-  if log.engine == "lualatex" then write_file(name .. ".pgi", described_items(flat, starts)) end
-  local text = string.format("%% the pages of %s for pg.sty, made by pgtex %s\n", name, VERSION) ..
-    string.format("\\pg@pages{%d}{%s}{%d}{%d}\n", FORMAT, sum, page_number, columns) ..
+  if log.engine == "lualatex" then write_file(name .. ".pgi", described_items(flat, list.starts)) end
+  write_file(name .. ".pgx", string.format("%% the pages of %s for pg.sty, made by pgtex %s\n", name, VERSION) ..
+    string.format("\\pg@pages{%d}{%s}{%d}{%d}\n", FORMAT, sum, list.page, list.columns) ..
     string.format("\\pg@layout{%d}{%d}{%d}\n", size_of(style, "height"), size_of(style, "topskip"), size_of(style, "maxdepth")) ..
-    table.concat(out, "\n") .. "\n\\endinput\n"
-  write_file(name .. ".pgx", text)
-  return page_number
+    table.concat(out, "\n") .. "\n\\endinput\n")
+  return list.page
 end
 
 ---------------------------------------------------------------- the page text of all parts
 local function joined_pages(parts, log)
   local out, number, block, cost = {}, 0, 0, 0
   for _, part in ipairs(parts) do
-    cost = cost + (tonumber(part.pages.cost) or 0)
-    for _, page in ipairs(part.pages) do
-      number = number + 1
-      if #page.text == 0 then
-        local function list(t) return #t > 0 and table.concat(t, ",") or "-" end
-        local column = page.columns[1]
-        out[#out + 1] = string.format("page %d side S run 0 wide %s", number, list(page.wide))
-        out[#out + 1] = string.format("column 1 from %d 0 0 to %d 0 0 top %s bottom - picks -", block, block, list(column.above))
-        out[#out + 1] = "without text demerits 0"
-      end
-      for _, line in ipairs(page.text) do
-        if line:sub(1, 1) ~= "." then
-          line = line:gsub("^page %d+", "page " .. number)
-          line = line:gsub("^(column %d+ from )(%d+)( %d+ %d+ to )(%d+)", function(a, from, b, to)
-            return a .. integer(from) + block .. b .. integer(to) + block end)
-        end
-        out[#out + 1] = line
-      end
+    cost = cost + integer(part.text:match("^pages %d+ cost (-?%d+)"))
+    for line in part.text:gmatch("[^\n]+") do
+      line = line:gsub("^page (%d+)", function(n) return "page " .. integer(n) + number end)
+      line = line:gsub("^(column %d+ from )(%d+)( %d+ %d+ to )(%d+)", function(a, from, b, to)
+        return a .. integer(from) + block .. b .. integer(to) + block end)
+      if not line:match("^pages ") then out[#out + 1] = line end
     end
-    block = block + #part.shown
+    number, block = number + #part.pages, block + #part.shown
   end
-  return string.format("pages %d cost %d width %s\n", number, cost, log.root:match("x(-?[%d.]+)")) .. table.concat(out, "\n") .. "\n"
+  return string.format("pages %d cost %d width %s\n", number, cost, width_of(log)) .. table.concat(out, "\n") .. "\n"
+end
+local function keep_texts(parts, blocks, log)
+  local all = {}
+  for k, part in ipairs(parts) do
+    for _, b in ipairs(part.shown) do all[#all + 1] = b end
+    write_file(name .. "-" .. k .. ".pgg", (galley_text(part.shown, blocks, log.root)))
+    write_file(name .. "-" .. k .. ".pages", part.text)
+  end
+  local more = #parts + 1
+  while os.remove(name .. "-" .. more .. ".pages") do os.remove(name .. "-" .. more .. ".pgg") more = more + 1 end
+  write_file(name .. ".pgg", (galley_text(all, blocks, log.root)))
+  write_file(name .. ".pages", joined_pages(parts, log))
 end
 
 ---------------------------------------------------------------- paragraphs in several lengths
@@ -782,7 +852,7 @@ local function draft_run(log, looseness)
   local folder = temporary_name()
   lfs.mkdir(folder)
   local program_of_engine = latex or log.engine
-  local without_pdf = log.engine == "xelatex" and "-no-pdf" or "-draftmode"
+  local without_pdf = log.machine == "xe" and "-no-pdf" or "-draftmode"
   local base = name:match("[^/\\]*$")
   local command = string.format("%s %s -interaction=batchmode -output-directory=%s -jobname=%s %s", program_of_engine, without_pdf,
     quoted(folder), quoted(base), quoted(string.format("\\def\\pgloose{%d}\\input{%s}", looseness, name)))
@@ -844,7 +914,8 @@ local function fitted(version, own)
   copy[last] = with_line(copy[last], (copy[last].line:gsub("^(\\hbox%(%-?[%d.]+%+)%-?[%d.]+%)", "%1" .. depth .. ")")))
   return copy
 end
-local function blocks_of_runs(log, drafts)
+-- where each paragraph of the drafts has its first line
+local function places_of_paragraphs(drafts)
   local places = {}
   for looseness, draft in pairs(drafts) do
     places[looseness] = {}
@@ -853,35 +924,42 @@ local function blocks_of_runs(log, drafts)
       if n then places[looseness][integer(n)] = i - 1 end
     end
   end
-  local items, singles, i = log.items, {}, 1
-  local out = {}
+  return places
+end
+-- the paragraph in the other lengths that have the same inserts
+local function other_versions(n, own, lines, drafts, places)
+  local versions = {}
+  for _, looseness in ipairs { -1, 1, -2, 2 } do
+    local draft = drafts[looseness]
+    local first = draft and places[looseness][n]
+    if first and draft.paragraphs[n] == lines + looseness then
+      local version = paragraph_at(draft.items, first, draft.paragraphs[n])
+      if version and is_line(version[1]) and inserts(version) == inserts(own) then
+        local price = math.max(0, math.min(100000000, demerits(version) - demerits(own)))
+        version = fitted(version, own)
+        version.looseness, version.marker = looseness, string.format("\\special{pg:variant %d %d}", looseness, price)
+        versions[#versions + 1] = version
+      end
+    end
+  end
+  return versions
+end
+local function blocks_of_runs(log, drafts)
+  local items, places, out, singles, i = log.items, places_of_paragraphs(drafts), {}, {}, 1
   local function flush()
     for _, block in ipairs(make_blocks(singles)) do out[#out + 1] = block end
     singles = {}
   end
-  local by_hand = false -- within \lengths there are no choices
+  local is_by_hand = false -- within \lengths there are no choices
   while items[i] do
     local behind = items[i + 1]
     local n = integer(behind and behind.marker and behind.marker:match("^paragraph (%d+)$") or "")
     local lines = n and log.paragraphs[n]
+    if items[i].line == "\\special{pg:choice}" then is_by_hand = true
+    elseif items[i].line == "\\special{pg:end}" then is_by_hand = false end
     local own, last
-    if items[i].line == "\\special{pg:choice}" then by_hand = true
-    elseif items[i].line == "\\special{pg:end}" then by_hand = false end
-    if lines and not by_hand and is_line(items[i]) then own, last = paragraph_at(items, i, lines) end
-    local versions = {}
-    for _, looseness in ipairs { -1, 1, -2, 2 } do
-      local draft = own and drafts[looseness]
-      local first = draft and places[looseness][n]
-      if first and draft.paragraphs[n] == lines + looseness then
-        local version = paragraph_at(draft.items, first, draft.paragraphs[n])
-        if version and is_line(version[1]) and inserts(version) == inserts(own) then
-          local price = math.max(0, math.min(100000000, demerits(version) - demerits(own)))
-          version = fitted(version, own)
-          version.looseness, version.marker = looseness, string.format("\\special{pg:variant %d %d}", looseness, price)
-          versions[#versions + 1] = version
-        end
-      end
-    end
+    if lines and not is_by_hand and is_line(items[i]) then own, last = paragraph_at(items, i, lines) end
+    local versions = own and other_versions(n, own, lines, drafts, places) or {}
     if #versions > 0 then
       flush()
       own.looseness, own.marker = 0, "\\special{pg:variant 0 0}"
@@ -930,11 +1008,6 @@ if old and old:match("\\pg@pages{%d+}{(%x+)}") == sum and not keep then
 end
 paginate(parts, blocks, style, log)
 local how_many = write_commands(parts, blocks, style, log, sum)
-if keep then
-  local all = {}
-  for _, part in ipairs(parts) do for _, b in ipairs(part.shown) do all[#all + 1] = b end end
-  write_file(name .. ".pgg", (galley_text(all, blocks, log.root)))
-  write_file(name .. ".pages", joined_pages(parts, log))
-end
+if keep then keep_texts(parts, blocks, log) end
 for _, file in ipairs(temporary) do os.remove(file) end
 say("%s.pgx has %d pages; run LaTeX again", name, how_many)

@@ -1,9 +1,9 @@
 #!/usr/bin/env python3
 """Does the page text have all that the galley has, once and in order?
 
-    tex/check/galley.py PAGES LOG
+    tex/check/galley.py PAGES.. LOG
 
-PAGES is what `pg run` wrote of the galley in LOG, or of its parts. The boxes and rules of the texts, from the first column to the
+PAGES are what `pg run` wrote of the parts of the galley in LOG, in order. The boxes and rules of the texts, from the first column to the
 last, are those of the galley's list; between two of a column stand the same glue, kerns and penalties; the inserts are those of
 the notes and floats, and marks and whatsits are all there. It prints what is not, and ends with 1 then."""
 
@@ -11,7 +11,7 @@ import sys
 from collections import Counter
 
 from listing import Node, add_line, inner_lines, lines_of
-from page_text import read_pages
+from page_text import read_parts
 
 
 def galley_items(path):
@@ -58,10 +58,10 @@ class Flow:
             self.carries[node.line] += 1
 
 
-def flow_of_pages(path):
-    """The flow of a page text, and which boxes begin a column."""
+def flow_of_pages(paths):
+    """The flow of page texts, and which boxes begin a column."""
     flow, first = Flow(), set()
-    for page in read_pages(path):
+    for page in read_parts(paths):
         for node in page.wide:
             flow.add(node)
         for column in page.columns:
@@ -103,9 +103,9 @@ def compare(pages, log):
 
 
 def main():
-    if len(sys.argv) != 3:
+    if len(sys.argv) < 3:
         raise SystemExit(__doc__)
-    faults = compare(*sys.argv[1:])
+    faults = compare(sys.argv[1:-1], sys.argv[-1])
     print("\n".join(faults) or "all of the galley, in order")
     return 1 if faults else 0
 

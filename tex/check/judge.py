@@ -24,6 +24,7 @@ class Document:
         self.warning, self.error = heads.get("warning"), heads.get("error")
         self.may_differ = heads.get("words", "").split()
         self.rounds = int(heads.get("rounds", 4))
+        self.foot = float(heads.get("foot", 0))
         self.is_off = "off" in heads
         self.is_plain = "plain" in heads
         options = runs.LOAD.search(self.text)
@@ -50,13 +51,13 @@ def pages_of(folder, name):
     return int(found[-1]) if found else 0
 
 
-def frame_of(folder, name):
-    """Where the text stands between head and foot, in big points from the top of the page."""
+def frame_of(folder, name, more=0):
+    """Where the text stands between head and foot, in big points from the top of the page; pages may be longer by so much."""
     found = re.search(r"^text frame ([\d.]+)pt ([\d.]+)pt", runs.read(folder, f"{name}.log") or "", re.MULTILINE)
     if not found:
         return None
     top, height = float(found[1]) * POINTS_TO_BIG, float(found[2]) * POINTS_TO_BIG
-    return top, top + height + 6
+    return top, top + height + 6 + more
 
 
 def said(text, kind):
@@ -102,12 +103,13 @@ def check_references(row, folder, log):
 
 
 def check_shipped(row, folder):
-    """Compares what was shipped out with the page text that pgtex kept, and that with the galley in the log."""
-    paths = [os.path.join(folder, row.document.name + ending) for ending in (".pages", ".log", ".toml")]
-    counts, off, faults = shipped.compare(*paths, row.document.by_lengths, row.document.is_ragged)
+    """Compares what was shipped out with what pg wrote of each part, and that with the galley in the log."""
+    texts = runs.texts_of_parts(folder, row.document.name)
+    log, style = (os.path.join(folder, row.document.name + ending) for ending in (".log", ".toml"))
+    counts, off, faults = shipped.compare(texts, log, style, row.document.by_lengths, row.document.is_ragged)
     row.numbers.update(counts, off=off)
     if not row.document.by_lengths:
-        faults += galley.compare(paths[0], paths[1])
+        faults += galley.compare(texts, log)
     row.faults += faults[:4] + ([f"and {len(faults) - 4} more"] if len(faults) > 4 else [])
     if not counts["columns"]:
         row.faults.append("no column was found")
@@ -117,7 +119,7 @@ def check_words(row, alone, paged):
     """Compares the words of the two PDFs."""
     name = row.document.name
     pdfs = [os.path.join(folder, f"{name}.pdf") for folder in (alone, paged)]
-    lost, more = words.differences(*pdfs, frame_of(alone, name), row.document.may_differ)
+    lost, more = words.differences(*pdfs, frame_of(alone, name, row.document.foot), row.document.may_differ)
     if lost or more:
         row.faults.append(f"words: only LaTeX alone has {words.told(lost) or 'none'}; only pg has {words.told(more) or 'none'}")
 

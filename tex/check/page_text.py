@@ -2,8 +2,9 @@
 
 import re
 import tomllib
+from collections import Counter
 
-from listing import Node, add_line, lines_of, units
+from listing import Node, add_line, elastic, lines_of, units
 
 AREAS = ("wide", "top", "text", "bottom", "notes")
 
@@ -28,17 +29,25 @@ class Page:
 class Item:
     """An item of a text: a node, the width of its glue on this page, and its place below the start of the text."""
 
-    def __init__(self, node, start, is_natural):
+    def __init__(self, node, start, is_natural, more=0):
         self.node = node
         line, comma, width = node.line.rpartition(", set ")
         is_set = comma and node.kind == "glue"
         self.line = line if is_set else node.line
-        size = units(width) if is_set and not is_natural else node.width
+        size = more + (units(width) if is_set and not is_natural else node.width)
         if node.is_box():
             self.base, self.end = start + node.height, start + node.height + node.depth
         else:
             self.base = self.end = start + (size if node.kind in ("glue", "kern") else 0)
         self.size = size
+
+
+def read_parts(paths):
+    """The pages of the page texts of all parts, numbered through."""
+    pages = [page for path in paths for page in read_pages(path)]
+    for number, page in enumerate(pages, 1):
+        page.number = number
+    return pages
 
 
 def read_pages(path):
@@ -66,12 +75,30 @@ def read_pages(path):
 
 
 def items_of(column, is_natural=False):
-    """The items of a column's text, each with its place: as its glue is set, or of its own width."""
-    items, end = [], 0
+    """The items of a column's text, each with its place: as its glue is set, or of its own width. A text that pg left short is
+    stretched to its goal where it has glue for that without bound."""
+    items, end, given, before = [], 0, 0, 0
+    room, order, amount = left_to_fill(column)
     for node in column.areas["text"]:
-        items.append(Item(node, end, is_natural))
-        end = items[-1].end
+        stretch = elastic(node)[0] if node.kind == "glue" and order else (0, 0)
+        given += stretch[0] if stretch[1] == order else 0
+        after = round(given * room / amount) if order else 0
+        items.append(Item(node, end, is_natural, after - before))
+        end, before = items[-1].end, after
     return items
+
+
+def left_to_fill(column):
+    """How much a text is too short for its goal, the highest order of its glue without bound, and how much of that it has."""
+    amounts = Counter()
+    for node in column.areas["text"]:
+        if node.kind == "glue":
+            amount, order = elastic(node)[0]
+            amounts[order] += amount
+            if ", set " in node.line and units(node.line.rpartition(", set ")[2]) != node.width:
+                return 0, 0, 1
+    order = max((order for order, amount in amounts.items() if order and amount), default=0)
+    return max(0, column.goal - column.total), order, amounts[order] or 1
 
 
 class Style:

@@ -19,7 +19,7 @@ FRAME = (
 )
 TRACE = r"\AddToHook{begindocument/before}{\tracingoutput=1 \showboxbreadth=1000000 \showboxdepth=1000000 }"
 PLAIN_FRAME = r"\immediate\write-1{text frame 72.27pt \the\vsize}"
-PLAIN_TRACE = r"\tracingoutput=1 \showboxbreadth=1000000 \showboxdepth=1000000 "
+PLAIN_TRACE = r"\global\tracingoutput=1 \global\showboxbreadth=1000000 \global\showboxdepth=1000000 "
 # what LaTeX reads again in its next run
 READ_AGAIN = (".aux", ".toc", ".lof", ".lot", ".lop", ".out")
 
@@ -96,7 +96,17 @@ def with_trace(text, options="full"):
     def load(found):
         return f"\\usepackage[{','.join(filter(None, (options, found[1])))}]{{pg}}{FRAME}{TRACE}"
 
-    return LOAD_PLAIN.sub(lambda found: f"{found[0]} {PLAIN_FRAME}{PLAIN_TRACE}", LOAD.sub(load, text, count=1), count=1)
+    text = LOAD_PLAIN.sub(lambda found: f"\\def\\pgoptions{{{options}}}{found[0]} {PLAIN_FRAME}{PLAIN_TRACE}", text, count=1)
+    return LOAD.sub(load, text, count=1)
+
+
+def texts_of_parts(folder, name):
+    """The files of page texts that pgtex kept of a document, in order."""
+    paths, number = [], 1
+    while os.path.exists(os.path.join(folder, f"{name}-{number}.pages")):
+        paths.append(os.path.join(folder, f"{name}-{number}.pages"))
+        number += 1
+    return paths
 
 
 def state(folder, name):

@@ -1,9 +1,9 @@
 #!/usr/bin/env python3
 """Are the pages that TeX shipped out those of the page text?
 
-    tex/check/shipped.py [--lengths] [--ragged] PAGES LOG STYLE
+    tex/check/shipped.py [--lengths] [--ragged] PAGES.. LOG STYLE
 
-PAGES is what `pg run` wrote, STYLE the style that it was made with, LOG the log of the run that made the pages, with
+PAGES are what `pg run` wrote of the parts of the galley, in order, STYLE the style that it was made with, LOG the log of the run that made the pages, with
 `\\tracingoutput=1`, all levels and items shown, and lines of any length (`max_print_line`). Item by item: the boxes of each
 column of text stand one after another in one list of the page, of the same sizes and with the same lines within them, where
 the galley shows these; between them stand the same glue, kerns and penalties, and each box is within a unit of its place; the
@@ -14,7 +14,8 @@ text that is shorter than its goal has its own height.
 
 One thing may differ: marks, destinations and other whatsits stand behind the glue and the penalties in front of a box, not
 among them. It is counted as `moved`. A penalty may have become 10000, as TeX's page builder leaves one at which it cut; it takes
-no room. A page that has nothing between head and foot may stand in front of any other.
+no room. The last text of a part, which pg leaves short, is stretched to its foot where it has a \\vfil or the like. A page that has
+nothing between head and foot may stand in front of any other.
 It prints a line of counts and a line for each fault, and ends with 1 where there is one."""
 
 import sys
@@ -22,7 +23,7 @@ from collections import Counter
 from itertools import zip_longest
 
 from listing import all_nodes, first_difference, letters, place, shipped_boxes, shipped_count
-from page_text import Style, insert_size, items_of, read_pages
+from page_text import Style, insert_size, items_of, read_parts
 
 COUNTS = ("pages", "blank", "columns", "items", "glue", "bodies", "notes", "floats", "moved")
 POINT = 65536
@@ -350,18 +351,18 @@ def shown_instead(box, spots):
     return behind[0] if behind else "the end of the list"
 
 
-def compare(pages_path, log_path, style_path, by_lengths=False, is_ragged=False):
+def compare(pages_paths, log_path, style_path, by_lengths=False, is_ragged=False):
     """The counts, how far the farthest box is off, and the faults."""
     check = Check(Style(style_path), by_lengths, is_ragged)
-    check.pages(read_pages(pages_path), map(Sheet, shipped_boxes(log_path)), shipped_count(log_path))
+    check.pages(read_parts(pages_paths), map(Sheet, shipped_boxes(log_path)), shipped_count(log_path))
     return check.counts, check.off, check.faults
 
 
 def main():
     words = [word for word in sys.argv[1:] if word not in ("--lengths", "--ragged")]
-    if len(words) != 3:
+    if len(words) < 3:
         raise SystemExit(__doc__)
-    counts, off, faults = compare(*words, "--lengths" in sys.argv, "--ragged" in sys.argv)
+    counts, off, faults = compare(words[:-2], *words[-2:], "--lengths" in sys.argv, "--ragged" in sys.argv)
     told = " ".join(f"{name} {counts[name]}" for name in COUNTS)
     print(f"{told} off {off} faults {len(faults)}")
     for fault in faults[:20]:

@@ -38,33 +38,33 @@ listed : (P : Label → Type 0) (labels : List Label) (number : ℕ) (first : Is
 listed P labels number first = contains_at labels first.index first.label first.at
 
 module _ (g : GalleyValue) (s : StyleValue) where
-  broken : (shown : Shown) (rule column : ℕ) → KeepsRules g s shown → BreaksRule g s shown rule column → ⊥
+  pub broken : (shown : Shown) (rule column : ℕ) → KeepsRules g s shown → BreaksRule g s shown rule column → ⊥
   broken (Pages plan n) rule column keeps breaks = absurd (none_some (sym keeps ∙ breaks))
     where
       none_some : {A : Type 0} {x : A} → None ≡ Some x → ⊥
       none_some e = absurd cc
   broken NoLegal rule column keeps breaks = breaks
 
-  costs : (shown : Shown) (printed judged : ℤ) → HasCost g s shown → HasOtherCost g s shown printed judged → ⊥
+  pub costs : (shown : Shown) (printed judged : ℤ) → HasCost g s shown → HasOtherCost g s shown printed judged → ⊥
   costs (Pages plan n) printed judged has other = other.differ (other.is_shown ∙ has ∙ sym other.is_due)
   costs NoLegal printed judged has other = other
 
-  texts : (text : List ℕ) (shown : Shown) (line : ℕ) → HasText g s text shown → HasOtherLine g s text shown line → ⊥
+  pub texts : (text : List ℕ) (shown : Shown) (line : ℕ) → HasText g s text shown → HasOtherLine g s text shown line → ⊥
   texts text (Pages plan n) line has other = no_difference 1 (parts_of 10 text) line
       (subst (λ (t : List ℕ). first_difference 1 (parts_of 10 text) (parts_of 10 t) ≡ Some line) (sym has) other)
   texts text NoLegal line has other = other
 
-  states : (doc : Document) (labels : List Label) (number : ℕ) → AreStates doc labels →
+  pub states : (doc : Document) (labels : List Label) (number : ℕ) → AreStates doc labels →
       IsFirst (IsNoState doc) labels number → ⊥
   states doc labels number are first = first.holds (are first.label (listed _ labels number first))
 
-  steps : (doc : Document) (labels : List Label) (number : ℕ) → CoversSteps (Follow doc) labels →
+  pub steps : (doc : Document) (labels : List Label) (number : ℕ) → CoversSteps (Follow doc) labels →
       (first : IsFirst (HasGap (Follow doc) labels) labels number) → ⊥
   steps doc labels number covers first = first.holds.gap.uncovered
       (covers first.label first.holds.gap.move first.holds.gap.next first.holds.gap.cost
       (listed _ labels number first) first.holds.gap.follow)
 
-  bounds : (doc : Document) (labels : List Label) (shown : Shown) (number : ℕ) (pays : ℤ) →
+  pub bounds : (doc : Document) (labels : List Label) (shown : Shown) (number : ℕ) (pays : ℤ) →
       NoneUndercuts doc labels shown → Undercuts doc labels shown number pays → ⊥
   bounds doc labels (Pages plan n) number pays none cut =
       let cheaper : cut.first.label.cost <ℤ n = cut.first.holds.cheaper in
@@ -73,7 +73,7 @@ module _ (g : GalleyValue) (s : StyleValue) where
       omega (arith, ints)
   bounds doc labels NoLegal number pays none cut = cut
 
-  finals : (doc : Document) (labels : List Label) (shown : Shown) (number : ℕ) → NoneIsFinal doc labels shown →
+  pub finals : (doc : Document) (labels : List Label) (shown : Shown) (number : ℕ) → NoneIsFinal doc labels shown →
       IsFinalInNone doc labels shown number → ⊥
   finals doc labels (Pages plan n) number none first = first
   finals doc labels NoLegal number none first = none first.label (listed _ labels number first) first.holds

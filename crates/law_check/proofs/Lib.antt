@@ -4,5 +4,6 @@ pub mod Order
 pub mod Complete
 mod Sound
 mod Passing
-mod Failing
+pub mod Failing
+pub mod OneFault
 mod BestPicks

@@ -76,6 +76,11 @@ abbrev pub FaultsFail : GalleyValue → StyleValue → Type 0
 FaultsFail galley style = (output : Output) (fault : No) → IsFirstFault galley style output fault →
     PassesAll galley style output → ⊥
 
+-- of the faults one at most is the first
+abbrev pub FirstFaultIsOne : GalleyValue → StyleValue → Type 0
+FirstFaultIsOne galley style = (output : Output) (one other : No) → IsFirstFault galley style output one →
+    IsFirstFault galley style output other → one ≡ other
+
 -- ---- best picks
 
 -- the test of closure passes with all columns exactly where it passes with best picks alone

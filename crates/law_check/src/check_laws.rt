@@ -1,7 +1,9 @@
 //! Each law is the contract of a function that does nothing. Its premise is what the types of a galley and of a style
 //! keep.
+ghost use Rattle.pg_list.specs.GalleyValue.{GalleyValue};
 ghost use Rattle.pg_rules.specs.Ranges.{AreInRange};
-ghost use Rattle.law_check.specs.CheckLaws.{PassedTestsProve, BestShownPasses, NoneShownPasses, FaultsFail, BestPicksPass, BestPicksFault};
+ghost use Rattle.pg_style.specs.Values.{StyleValue};
+ghost use Rattle.law_check.specs.CheckLaws.{PassedTestsProve, BestShownPasses, NoneShownPasses, FaultsFail, FirstFaultIsOne, BestPicksPass, BestPicksFault};
 
 use pg_list::Galley;
 use pg_style::Style;
@@ -24,6 +26,11 @@ pub fn frontier_passes(galley: &Galley, style: &Style)
 /// Where a test is the first that fails, not all pass.
 pub fn faults_fail(galley: &Galley, style: &Style)
     ensures { FaultsFail galley.now style.now }
+{}
+
+/// Of the faults of an output text one at most is the first, with its values: what a check answers is determined.
+pub fn first_fault_is_one()
+    ensures { (galley : GalleyValue) (style : StyleValue) → FirstFaultIsOne galley style }
 {}
 
 /// Whether each column that may follow a label leads to what a label covers, and where the first that does not ends, is

@@ -9,7 +9,8 @@
 //! `specs/Faults`. Proved: where all tests pass, the shown pagination is legal, has the shown cost and its own page text,
 //! and no legal one costs less, or none is legal where that is shown; the labels need be no states of real beginnings.
 //! What shows a best pagination, or that none is legal, with the frontier behind it, passes all tests. A test that
-//! fails first and all tests that pass exclude each other. The statements are in `specs/CheckLaws`.
+//! fails first and all tests that pass exclude each other, and one test at most fails first, with one set of values. The
+//! statements are in `specs/CheckLaws`.
 //!
 //! There is no code here but the types of the answers.
 #![tactic(auto)]
@@ -19,5 +20,7 @@ mod check_laws;
 mod label_laws;
 
 pub use answers::{No, Proved};
-pub use check_laws::{best_picks_decide, faults_fail, frontier_passes, passed_tests_prove};
+pub use check_laws::{
+    best_picks_decide, faults_fail, first_fault_is_one, frontier_passes, passed_tests_prove,
+};
 pub use label_laws::{best_picks_close, closed_labels_bound, frontier_closes};

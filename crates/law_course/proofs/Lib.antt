@@ -1,5 +1,6 @@
 mod FittingColumns
 mod FlatMarks
-mod OneBest
+pub mod OneBest
+pub mod OneFrontier
 pub mod FewPages
 pub mod ShortFits

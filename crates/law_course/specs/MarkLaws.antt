@@ -7,7 +7,9 @@ use Rattle.pg_list.specs.Flat.{flat}
 use Rattle.pg_plan.specs.Order.{columns}
 use Rattle.pg_plan.specs.declared.pages.Pagination.{Pagination}
 use Rattle.pg_style.specs.Values.{StyleValue}
+use Rattle.pg_plan.specs.declared.states.Label.{Label}
 use Rattle.pg_rules.specs.Best.{Best}
+use Rattle.pg_rules.specs.Frontier.{Frontier}
 use Rattle.pg_rules.specs.Legal.{Legal}
 use Rattle.law_texts.specs.Texts.{is_kept, picks_of}
 use Rattle.pg_marks.specs.Carries.{is_label}
@@ -43,3 +45,8 @@ LegalColumnsFit galley style = (plan : Pagination) → Legal galley style plan �
 -- the pages that are written for a galley are determined by it
 abbrev pub BestIsOne : GalleyValue → StyleValue → Type 0
 BestIsOne galley style = (p q : Pagination) → Best galley style p → Best galley style q → p ≡ q
+
+-- the labels that are written for a galley are determined by it
+abbrev pub FrontierIsOne : GalleyValue → StyleValue → Type 0
+FrontierIsOne galley style =
+    (one other : List Label) → Frontier galley style one → Frontier galley style other → one ≡ other

@@ -1,7 +1,9 @@
-//! The laws, each the contract of a function that does nothing. Their premise is what the types of a galley and of a
-//! style keep.
+//! The laws, each the contract of a function that does nothing. Their premise, where they have one, is what the types of a
+//! galley and of a style keep.
+ghost use Rattle.pg_list.specs.GalleyValue.{GalleyValue};
 ghost use Rattle.pg_rules.specs.Ranges.{AreInRange};
-ghost use Rattle.law_course.specs.MarkLaws.{BestIsOne, LegalColumnsFit, MarksAreFlat};
+ghost use Rattle.pg_style.specs.Values.{StyleValue};
+ghost use Rattle.law_course.specs.MarkLaws.{BestIsOne, FrontierIsOne, LegalColumnsFit, MarksAreFlat};
 
 use pg_list::Galley;
 use pg_style::Style;
@@ -23,6 +25,10 @@ pub fn marks_are_those_of_the_flat_list(galley: &Galley, style: &Style)
 /// At most one pagination is best. So whatever is told of a best pagination of a galley is told of the pages that are
 /// written for it.
 pub fn best_pagination_is_one(galley: &Galley, style: &Style)
-    requires { AreInRange galley.now style.now }
     ensures { BestIsOne galley.now style.now }
+{}
+
+/// The frontier of a galley under a style is one list of labels.
+pub fn frontier_is_one()
+    ensures { (galley : GalleyValue) (style : StyleValue) → FrontierIsOne galley style }
 {}

@@ -13,7 +13,7 @@ use Rattle.law_check.specs.CheckLaws.{ShowsSolution, ShowsTruth}
 use Rattle.law_check.specs.declared.answers.No.{No}
 use Rattle.law_check.specs.declared.answers.No.TheVariants as fails
 use Rattle.law_check.specs.declared.answers.Proved.{Proved}
-use Rattle.pg_outside.specs.Outside.{Held, OverSink, Rose, over_sink}
+use Rattle.pg_outside.specs.Outside.{Held, OverOutput, Rose, Sent, output_over}
 use Rattle.pg_command.specs.declared.ending.Ending.{Ending}
 use Rattle.pg_command.specs.declared.ending.Ending.TheVariants as ending
 use Rattle.pg_command.specs.declared.status.Status.{Status}
@@ -36,9 +36,9 @@ use Rattle.pg_lemmas.proofs.Numbers.{true_le}
 -- ---- the answer of a check
 
 -- a no ends the course without a text
-told_no : (style : StyleValue) (galley : GalleyValue) (output : Output) (old : Option (List ℕ)) (before : ℕ)
+told_no : (style : StyleValue) (galley : GalleyValue) (output : Output) (old : Sent) (before : ℕ)
     (fault : No) → IsFirstFault galley style output fault → (ShowsSolution galley style output → ⊥) →
-    Writes (CheckOutput style galley output) (over_sink old old before before) (ending.NotProved fault)
+    Writes (CheckOutput style galley output) (output_over old old before before) (ending.NotProved fault)
 told_no style galley output old before fault first unsolved = record {
   settled =
       record {
@@ -54,10 +54,10 @@ told_no style galley output old before fault first unsolved = record {
 }
 
 -- a no that is not want of memory names the first test that fails
-pub not_proved : (style : StyleValue) (galley : GalleyValue) (output : Output) (old : Option (List ℕ)) (before : ℕ)
+pub not_proved : (style : StyleValue) (galley : GalleyValue) (output : Output) (old : Sent) (before : ℕ)
     (fault : No) → Checked galley style output (Err fault) →
     (ShowsSolution galley style output → IsYesOrMemory (Err fault)) →
-    Writes (CheckOutput style galley output) (over_sink old old before before) (no_ending fault)
+    Writes (CheckOutput style galley output) (output_over old old before before) (no_ending fault)
 not_proved style galley output old before (fails.Broken rule column) h s =
     told_no style galley output old before (fails.Broken rule column) h s
 not_proved style galley output old before (fails.CostDiffers printed judged) h s =
@@ -84,7 +84,7 @@ not_proved style galley output old before fails.Memory h s = record {
 }
 
 -- a yes is written
-pub proved_writes : (style : StyleValue) (galley : GalleyValue) (output : Output) (proved : Proved) (out : OverSink)
+pub proved_writes : (style : StyleValue) (galley : GalleyValue) (output : Output) (proved : Proved) (out : OverOutput)
     (end : Ending) → IsProved galley style output proved → ShowsTruth galley style output proved.cost →
     Writes (OneText (yes_line proved) Done) out end → Writes (CheckOutput style galley output) out end
 proved_writes style galley output proved out end passes truth writes =
@@ -188,7 +188,7 @@ earlier_line command told before between after last line less (inr ends) = inr e
 
 -- the same from an earlier moment of the shelf on
 pub goes_earlier : (command : Option Command) (told mid : Option Held) (before between after : ℕ)
-    (last : Option (List ℕ)) (out : OverSink) (end : Ending) → mid ≡ told → before ≤ between →
+    (last : Option (List ℕ)) (out : OverOutput) (end : Ending) → mid ≡ told → before ≤ between →
     Goes command (over_shelf mid between after last) out end → Goes command (over_shelf told before after last) out end
 goes_earlier command told mid before between after last out end same less goes =
     subst (λ (t : Option Held). Goes command (over_shelf t before after last) out end) same (record {
@@ -210,7 +210,7 @@ module _ (style galley output : List ℕ) (wrap : Option ℕ) where
   This = Some (check style galley output wrap)
 
   -- what was done of the output text is done by the command, where it leads to the command's course
-  pub goes_on : (C : Held → List (List ℕ) → Status → List ℕ → Type 0) (shelf : OverShelf) (out : OverSink)
+  pub goes_on : (C : Held → List (List ℕ) → Status → List ℕ → Type 0) (shelf : OverShelf) (out : OverOutput)
       (end : Ending) →
       IfSome shelf.told (λ held. (texts : List (List ℕ)) (status : Status) (line : List ℕ) →
       C held texts status line → Course This held texts status line) →
@@ -234,7 +234,7 @@ module _ (style galley output : List ℕ) (wrap : Option ℕ) where
   }
 
   -- a galley that the style takes, and what was done of the output text
-  pub taken_goes : (s : StyleValue) (g : GalleyValue) (shelf : OverShelf) (out : OverSink) (end : Ending) →
+  pub taken_goes : (s : StyleValue) (g : GalleyValue) (shelf : OverShelf) (out : OverOutput) (end : Ending) →
       unknown_class g.blocks s ≡ None → float_total g.blocks s ≤ 2 ^ 12 →
       IfSome shelf.told (AreRead style galley wrap s g) →
       GoesOn (λ held. CheckText s g (opened_output output (held output))) output shelf out end →
@@ -247,7 +247,7 @@ module _ (style galley output : List ℕ) (wrap : Option ℕ) where
       (if_some shelf.told (λ held (of_style, of_galley) none.
       rw (of_style, of_galley, known, test, none) (refl, refl, refl)) read) goes
 
-  refused_settled : (s : StyleValue) (g : GalleyValue) (told : Option Held) (old : Option (List ℕ)) (faults : ℕ)
+  refused_settled : (s : StyleValue) (g : GalleyValue) (told : Option Held) (old : Sent) (faults : ℕ)
       (fault : FloatFault) → MakesList (Err fault) g.blocks s → IfSome told (AreRead style galley wrap s g) →
       OnSettled (status_of (ending_of fault)) (IfSome told (λ held.
       Ended This held old old (status_of (ending_of fault)) (line_of (ending_of fault))))
@@ -261,9 +261,9 @@ module _ (style galley output : List ℕ) (wrap : Option ℕ) where
 
   -- a galley that the style does not take, before the output text is read
   pub refused_goes : (s : StyleValue) (g : GalleyValue) (told : Option Held) (before : ℕ) (last : Option (List ℕ))
-      (old : Option (List ℕ)) (faults : ℕ) (fault : FloatFault) → MakesList (Err fault) g.blocks s →
+      (old : Sent) (faults : ℕ) (fault : FloatFault) → MakesList (Err fault) g.blocks s →
       IfSome told (AreRead style galley wrap s g) →
-      Goes This (over_shelf told before before last) (over_sink old old faults faults) (ending_of fault)
+      Goes This (over_shelf told before before last) (output_over old old faults faults) (ending_of fault)
   refused_goes s g told before last old faults fault none read =
       let end = ending_of fault in
       let writes = λ (held : Held). no_floats (CheckText s g (opened_output output (held output))) s g old faults fault
@@ -284,7 +284,7 @@ module _ (style galley output : List ℕ) (wrap : Option ℕ) where
       opened galley wrap (held galley) ≡ Err said → Course This held [] said.status said.line
   stopped_course s held said of_style ends = rw (of_style, ends) (refl, refl, refl)
 
-  stopped_ends : (s : StyleValue) (old : Option (List ℕ)) (end : Ending) (held : Held) →
+  stopped_ends : (s : StyleValue) (old : Sent) (end : Ending) (held : Held) →
       opened_style (named style) held ≡ Ok s →
       opened galley wrap (held galley) ≡ Err (stop (status_of end) (line_of end)) →
       EndsBy (Course This held) old old (status_of end) (line_of end)
@@ -301,10 +301,10 @@ module _ (style galley output : List ℕ) (wrap : Option ℕ) where
       (ap (read_by (λ bytes. said_galley galley (galley_of bytes wrap))) none)
 
   -- a galley that is not read
-  pub stopped_goes : (s : StyleValue) (shelf : OverShelf) (old : Option (List ℕ)) (faults : ℕ) (end : Ending) →
+  pub stopped_goes : (s : StyleValue) (shelf : OverShelf) (old : Sent) (faults : ℕ) (end : Ending) →
       IfSome shelf.told (λ held. opened_style (named style) held ≡ Ok s) →
       Stopped (λ held. opened galley wrap (held galley)) (NoFile galley) shelf end →
-      Goes This shelf (over_sink old old faults faults) end
+      Goes This shelf (output_over old old faults faults) end
   stopped_goes s shelf old faults end read stopped = record {
     settled =
         on_settled (status_of end) (if_both shelf.told (stopped_ends s old end) read) stopped.settled;

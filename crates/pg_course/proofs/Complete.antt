@@ -13,7 +13,7 @@ use Rattle.law_check.specs.CheckLaws.{ShowsSolution}
 use Rattle.law_check.specs.declared.answers.No.{No}
 use Rattle.law_check.specs.declared.answers.Proved.{Proved}
 use Rattle.law_read_back.specs.RecheckLaws.{BestTextTells, NoneTextTells, TellsSolution, TellsWithLabels}
-use Rattle.pg_outside.specs.Outside.{Held, OverSink, Rose}
+use Rattle.pg_outside.specs.Outside.{Held, OverOutput, Rose}
 use Rattle.pg_command.specs.declared.ending.Ending.{Ending}
 use Rattle.pg_command.specs.declared.status.Status.{Status}
 use Rattle.pg_command.specs.declared.status.Status.TheVariants.{Done, NoLegal, Usage, Refused, ReadFault, WriteFault}
@@ -175,7 +175,7 @@ module _ (style galley output : List ℕ) (wrap : Option ℕ) where
         text_answered g s output it.text (held output) texts status line tells it.short it.is_held tested
 
     -- what was done of a galley that was read
-    pub goes_complete : (shelf : OverShelf) (out : OverSink) (end : Ending) →
+    pub goes_complete : (shelf : OverShelf) (out : OverOutput) (end : Ending) →
         IfSome shelf.told (AreRead style galley wrap s g) → Goes This shelf out end →
         IsComplete This shelf out (status_of end)
     goes_complete shelf out end are goes no_read no_write =
@@ -195,7 +195,7 @@ module _ (style galley output : List ℕ) (wrap : Option ℕ) where
   -- ---- the style or the galley was not read
 
   pub stopped_complete : {A : Type 0} (said : Held → Result A Stop) (name : List ℕ) (shelf : OverShelf)
-      (out : OverSink) (end : Ending) → ((held : Held) (why : Stop) → said held ≡ Err why → Holds held → ⊥) →
+      (out : OverOutput) (end : Ending) → ((held : Held) (why : Stop) → said held ≡ Err why → Holds held → ⊥) →
       ((held : Held) (why : Stop) → fetched name (held name) ≡ Err why → said held ≡ Err why) →
       Stopped said (NoFile name) shelf end → IsComplete This shelf out (status_of end)
   stopped_complete said name shelf out end refutes not_said stopped no_read no_write =
@@ -212,7 +212,7 @@ module _ (style galley output : List ℕ) (wrap : Option ℕ) where
       stopped.settled (on_read_fault status (file_told name shelf line) stopped.read) stopped.no_write no_read
       (λ none. none)
 
-  pub no_style_complete : (shelf : OverShelf) (out : OverSink) (end : Ending) →
+  pub no_style_complete : (shelf : OverShelf) (out : OverOutput) (end : Ending) →
       Stopped (opened_style (named style)) (NoFile style) shelf end → IsComplete This shelf out (status_of end)
   no_style_complete shelf out end stopped =
       stopped_complete (opened_style (named style)) style shelf out end
@@ -221,7 +221,7 @@ module _ (style galley output : List ℕ) (wrap : Option ℕ) where
       StyledCourse (Pages true) r (opened galley wrap (held galley)) (it.text ∷ []) it.end it.line) is it.written))
       (λ held why none. ap (read_by (λ bytes. said_style style (style_of_text bytes))) none) stopped
 
-  pub no_galley_complete : (shelf : OverShelf) (out : OverSink) (end : Ending) →
+  pub no_galley_complete : (shelf : OverShelf) (out : OverOutput) (end : Ending) →
       Stopped (λ held. opened galley wrap (held galley)) (NoFile galley) shelf end →
       IsComplete This shelf out (status_of end)
   no_galley_complete shelf out end stopped =
@@ -233,7 +233,7 @@ module _ (style galley output : List ℕ) (wrap : Option ℕ) where
 
   -- ---- the same from an earlier moment of the shelf on
 
-  pub complete_earlier : (told mid : Option Held) (before between after : ℕ) (last : Option (List ℕ)) (out : OverSink)
+  pub complete_earlier : (told mid : Option Held) (before between after : ℕ) (last : Option (List ℕ)) (out : OverOutput)
       (status : Status) → mid ≡ told → before ≤ between →
       IsComplete This (over_shelf mid between after last) out status →
       IsComplete This (over_shelf told before after last) out status

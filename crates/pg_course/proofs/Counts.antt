@@ -13,7 +13,10 @@ use Rattle.pg_outside.specs.Outside.{Held}
 use Rattle.pg_command.specs.declared.status.Status.{Status}
 use Rattle.pg_command.specs.declared.status.Status.TheVariants.{Done, NoLegal, Usage, Refused, ReadFault, WriteFault}
 use Rattle.pg_command.specs.declared.status.Status.TheVariants.{Memory, NotProved}
-use Rattle.pg_course.specs.Counted.{CountsEdit, CountsRun, CountsScript, IsShown, UnlessMemory, taken_shows}
+use Rattle.pg_course.specs.Counted.{CountsEdit, CountsRun, CountsScript, IsShown, UnlessMemory, made_shows, taken_shows}
+use Rattle.pg_greedy.specs.Faults.{greedy_fault}
+use Rattle.pg_course.specs.declared.product.Product.{Product}
+use Rattle.pg_course.specs.declared.product.Product.TheVariants.{Comparison}
 use Rattle.pg_course.specs.Course.{Stop}
 use Rattle.pg_course.proofs.Checks.{if_both}
 use Rattle.pg_lemmas.proofs.Numbers.{true_le}
@@ -43,10 +46,12 @@ whatever NotProved p = p
 pub still_counted : (style : StyleValue) (shown : List Show) (n : ℕ) → AreCounted style shown n n
 still_counted style shown n = record { count = 0; firsts = none_counted style n }
 
-pub still_run : (style : Result StyleValue Stop) (galley : Result GalleyValue Stop) (n : ℕ) → CountsRun style galley n n
-still_run (Err stop) galley n = refl
-still_run (Ok style) (Err stop) n = refl
-still_run (Ok style) (Ok galley) n = still_counted style (taken_shows style galley (one_show galley)) n
+pub still_run : (product : Product) (style : Result StyleValue Stop) (galley : Result GalleyValue Stop) (n : ℕ) →
+    CountsRun product style galley n n
+still_run product (Err stop) galley n = refl
+still_run product (Ok style) (Err stop) n = refl
+still_run product (Ok style) (Ok galley) n =
+    still_counted style (taken_shows style galley (made_shows product style galley (one_show galley))) n
 
 pub still_script : (style : StyleValue) (at : Show) (script : Result (List ScriptStep) Stop) (n : ℕ) →
     CountsScript style at script n n
@@ -95,12 +100,27 @@ shown_counted old new before after shown =
     (show_counted old.style [] old shown.number before before after refl (none_counted old.style before) shown.counts
     shown.bounded)
 
+-- also for a comparison, where it has a first fit
+pub fitted_counted : (old new : SessionValue) (before after : ℕ) → greedy_fault old.style old.galley.blocks ≡ None →
+    IsShown old new before after →
+    AreCounted old.style (made_shows Comparison old.style old.galley (show_of old ∷ [])) before after
+fitted_counted old new before after fits shown = rw fits (shown_counted old new before after shown)
+
 -- what is counted of a new session's galley
 pub new_counted : (galley : GalleyValue) (style : StyleValue) (made : SessionValue) (before after : ℕ) →
     IsNew galley style made → AreCounted made.style (show_of made ∷ []) before after →
     AreCounted style (one_show galley) before after
 new_counted galley style made before after is counted =
     subst (λ (session : SessionValue). AreCounted session.style (show_of session ∷ []) before after) is.is counted
+
+-- and of what is made of it
+pub new_made : (product : Product) (galley : GalleyValue) (style : StyleValue) (made : SessionValue)
+    (before after : ℕ) → IsNew galley style made →
+    AreCounted made.style (made_shows product made.style made.galley (show_of made ∷ [])) before after →
+    AreCounted style (made_shows product style galley (one_show galley)) before after
+new_made product galley style made before after is counted =
+    subst (λ (session : SessionValue). AreCounted session.style
+    (made_shows product session.style session.galley (show_of session ∷ [])) before after) is.is counted
 
 -- a new session was solved or paginated once
 pub shown_once : (galley : GalleyValue) (style : StyleValue) (made new : SessionValue) (before after : ℕ) →

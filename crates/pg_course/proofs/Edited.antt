@@ -6,7 +6,7 @@ use Rattle.std.specs.List.{concat}
 use Rattle.std.specs.Io.KnownBytes.{Appends}
 use Rattle.std.proofs.Math.Bool.{and-true}
 use Rattle.std.proofs.Math.Seq.{take-append_seam}
-use Rattle.std.proofs.lemmas.List.{length-take-le, take-append-drop}
+use Rattle.std.proofs.lemmas.List.{length-append, length-take-le, take-append-drop}
 use Rattle.std.proofs.lemmas.List.Folds.{concat-append}
 use Rattle.pg_list.specs.GalleyValue.{GalleyValue}
 use Rattle.pg_list.specs.declared.galley.Edit.{Edit}
@@ -19,7 +19,7 @@ use Rattle.pg_session.specs.SessionValue.{SessionValue}
 use Rattle.pg_session.specs.Sessions.{IsEdited}
 use Rattle.pg_session.specs.Shows.{AreCounted, Show, after_edit, after_show, show_of, shows_from}
 use Rattle.pg_session.proofs.Counted.{firsts_counted, none_counted, show_counted}
-use Rattle.pg_outside.specs.Outside.{AppendsFront, OverSink, over_sink}
+use Rattle.pg_outside.specs.Outside.{AppendsFront, OverOutput, Sends, SendsFront, Sent, advanced, next_number, output_over}
 use Rattle.pg_command.specs.declared.ending.Ending.{Ending}
 use Rattle.pg_command.specs.declared.status.Status.{Status}
 use Rattle.pg_command.specs.declared.status.Status.TheVariants.{Done, Refused}
@@ -34,7 +34,7 @@ use Rattle.pg_course.proofs.Checks.{earlier_rose}
 use Rattle.pg_course.proofs.Runs.{appends_none}
 use Rattle.pg_course.proofs.Shown.{shown_next}
 
-pub none_made : (labels : Bool) (first : SessionValue) (old : Option (List ℕ)) (before : ℕ) →
+pub none_made : (labels : Bool) (first : SessionValue) (old : Sent) (before : ℕ) →
     AreMade labels first [] first true old old before before
 none_made labels first old before = record {
   style = refl;
@@ -60,10 +60,41 @@ texts_more : (texts : List (List ℕ)) (text : List ℕ) → concat (texts ++ te
 texts_more texts text =
     concat-append texts (text ∷ []) ∙ ap (λ (xs : List ℕ). concat texts ++ xs) (append-nil text)
 
+-- one write more for one text more
+writes_more : (texts : List (List ℕ)) (text : List ℕ) (a b c : ℕ) → b ≡ advanced (length texts) a → c ≡ next_number b →
+    c ≡ advanced (length (texts ++ text ∷ [])) a
+writes_more texts text a b c first second =
+    let count : length (texts ++ text ∷ []) ≡ suc (length texts) =
+    omega (arith, length-append texts (text ∷ [])) in
+    second ∙ (ap next_number first ∙ ap (λ (n : ℕ). advanced n a) (sym count))
+
+sends_more : (old mid new : Sent) (texts : List (List ℕ)) (text : List ℕ) → Sends old mid texts →
+    Sends mid new (text ∷ []) → Sends old new (texts ++ text ∷ [])
+sends_more old mid new texts text first second = record {
+  bytes = subst (Appends old.bytes new.bytes) (sym (texts_more texts text))
+      (appends_both old.bytes mid.bytes new.bytes (concat texts) text first.bytes
+      (subst (Appends mid.bytes new.bytes) (append-nil text) second.bytes));
+  writes = writes_more texts text old.writes mid.writes new.writes first.writes second.writes;
+}
+
+-- a front of one text more
+front_more : (old mid new : Sent) (texts : List (List ℕ)) (text : List ℕ) → Sends old mid texts →
+    SendsFront mid new (text ∷ []) → SendsFront old new (texts ++ text ∷ [])
+front_more old mid new texts text first second = record {
+  bytes = subst (AppendsFront old.bytes new.bytes) (sym (texts_more texts text))
+      (front_after old.bytes mid.bytes new.bytes (concat texts) text first.bytes
+      (subst (AppendsFront mid.bytes new.bytes) (append-nil text) second.bytes));
+  writes = writes_more texts text old.writes mid.writes new.writes first.writes second.writes;
+}
+
+-- a sink that does not tell its bytes
+untold : Sent → Sent
+untold it = record { bytes = None; writes = it.writes }
+
 module _ (labels : Bool) (first : SessionValue) where
   -- a change was made
   accepted_made : (now new : SessionValue) (made : List ScriptStep) (edit : Edit) (legal : Bool)
-      (old mid : Option (List ℕ)) (before after : ℕ) → AreMade labels first made now legal old mid before after →
+      (old mid : Sent) (before after : ℕ) → AreMade labels first made now legal old mid before after →
       edit_fault now.galley now.style edit ≡ None → IsEdited now edit new →
       AreMade labels first (made ++ Change edit ∷ []) new legal old mid before after
   accepted_made now new made edit legal old mid before after m none e = record {
@@ -103,7 +134,7 @@ module _ (labels : Bool) (first : SessionValue) where
       rest_is rest = ap (λ (at : Show). shows_from at first.style rest) (sym next_is)
 
   change_made : (now new : SessionValue) (made : List ScriptStep) (edit : Edit) (legal shown : Bool)
-      (old mid newest : Option (List ℕ)) (before middle after : ℕ) →
+      (old mid newest : Sent) (before middle after : ℕ) →
       AreMade labels first made now legal old mid before middle →
       IsChange edit now new shown mid newest middle after →
       AreMade labels first (made ++ Change edit ∷ []) new (legal && shown) old newest before after
@@ -111,13 +142,13 @@ module _ (labels : Bool) (first : SessionValue) where
       let all = made ++ Change edit ∷ [] in
       let stays : legal ≡ (legal && shown) = sym (ap (λ (b : Bool). legal && b) s.legal_is ∙ and-true legal) in
       subst (λ (b : Bool). AreMade labels first all new b old newest before after) stays
-      (subst (λ (w : Option (List ℕ)). AreMade labels first all new legal old w before after) (sym s.keeps)
+      (subst (λ (w : Sent). AreMade labels first all new legal old w before after) (sym s.keeps)
       (subst (λ (n : ℕ). AreMade labels first all new legal old mid before n) (sym s.still)
       (accepted_made now new made edit legal old mid before middle m s.accepted s.edited)))
 
   -- the galley was shown
   show_made : (now new : SessionValue) (made : List ScriptStep) (legal shown : Bool)
-      (old mid newest : Option (List ℕ)) (before middle after : ℕ) →
+      (old mid newest : Sent) (before middle after : ℕ) →
       AreMade labels first made now legal old mid before middle → IsShow labels now new shown mid newest middle after →
       AreMade labels first (made ++ AShow ∷ []) new (legal && shown) old newest before after
   show_made now new made legal shown old mid newest before middle after m s = record {
@@ -137,9 +168,7 @@ module _ (labels : Bool) (first : SessionValue) where
               count (subst (λ (g : GalleyValue). EditSteps labels first.style g (length (made ++ AShow ∷ []) + 1)
               (shown_end (legal && shown)) rest later last line) galley_is steps)),
         ));
-    written =
-        subst (Appends old newest) (sym (texts_more m.texts s.text))
-        (appends_both old mid newest (concat m.texts) s.text m.written s.appends);
+    written = sends_more old mid newest m.texts s.text m.written s.sends;
     shown = m.shown ++ show_of now ∷ [];
     shows_on = λ rest.
         ap (λ (xs : List ScriptStep). shows_from (show_of first) first.style xs)
@@ -152,7 +181,7 @@ module _ (labels : Bool) (first : SessionValue) where
   }
     where
       out : RunOut labels now.galley first.style s.text (shown_end shown)
-      out = subst (λ (style : StyleValue). RunOut labels now.galley style s.text (shown_end shown)) m.style s.out
+      out = subst (λ (style : StyleValue). RunOut labels now.galley style s.text (shown_end shown)) m.style s.is
 
       galley_is : new.galley ≡ now.galley
       galley_is = s.shown.galley
@@ -168,7 +197,7 @@ module _ (labels : Bool) (first : SessionValue) where
       rest_is rest = ap (λ (at : Show). shows_from at first.style rest) (sym next_is)
 
   one_made : (now new : SessionValue) (made : List ScriptStep) (step : ScriptStep) (legal shown : Bool)
-      (old mid newest : Option (List ℕ)) (before middle after : ℕ) →
+      (old mid newest : Sent) (before middle after : ℕ) →
       AreMade labels first made now legal old mid before middle →
       IsStep labels step now new shown mid newest middle after →
       AreMade labels first (made ++ step ∷ []) new (legal && shown) old newest before after
@@ -178,7 +207,7 @@ module _ (labels : Bool) (first : SessionValue) where
       show_made now new made legal shown old mid newest before middle after m s
 
   -- all steps were made
-  all_made : (now : SessionValue) (made : List ScriptStep) (legal : Bool) (old new : Option (List ℕ))
+  all_made : (now : SessionValue) (made : List ScriptStep) (legal : Bool) (old new : Sent)
       (before after : ℕ) (m : AreMade labels first made now legal old new before after) →
       EditSteps labels first.style first.galley 1 Done made m.texts (shown_end legal) []
   all_made now made legal old new before after m =
@@ -189,7 +218,7 @@ module _ (labels : Bool) (first : SessionValue) where
       []) (append-nil m.texts) all)
 
   -- a front of the course
-  front_made : (now : SessionValue) (made rest : List ScriptStep) (legal : Bool) (old new : Option (List ℕ))
+  front_made : (now : SessionValue) (made rest : List ScriptStep) (legal : Bool) (old new : Sent)
       (before after : ℕ) (m : AreMade labels first made now legal old new before after) →
       EditFront labels first.style first.galley (made ++ rest) m.texts (shown_end legal) []
   front_made now made rest legal old new before after m = (
@@ -199,7 +228,7 @@ module _ (labels : Bool) (first : SessionValue) where
   )
 
   -- and the steps that were taken
-  made_counted : (now : SessionValue) (made rest : List ScriptStep) (legal : Bool) (old new : Option (List ℕ))
+  made_counted : (now : SessionValue) (made rest : List ScriptStep) (legal : Bool) (old new : Sent)
       (before after : ℕ) → AreMade labels first made now legal old new before after →
       AreCounted first.style (shows_from (show_of first) first.style (made ++ rest)) before after
   made_counted now made rest legal old new before after m =
@@ -208,7 +237,7 @@ module _ (labels : Bool) (first : SessionValue) where
 
   -- the next change is refused
   refused_made : (now : SessionValue) (made rest : List ScriptStep) (edit : Edit) (fault : EditFault) (legal : Bool)
-      (old new : Option (List ℕ)) (before after : ℕ) (m : AreMade labels first made now legal old new before after) →
+      (old new : Sent) (before after : ℕ) (m : AreMade labels first made now legal old new before after) →
       edit_fault now.galley now.style edit ≡ Some fault →
       EditSteps labels first.style first.galley 1 Done (made ++ Change edit ∷ rest) m.texts Refused
       (edit_line (length made + 1) fault)
@@ -221,19 +250,19 @@ module _ (labels : Bool) (first : SessionValue) where
       cause = subst (λ (s : StyleValue). edit_fault now.galley s edit ≡ Some fault) m.style is
 
   -- how it ends behind some steps of all
-  abbrev pub EndsSo : List ScriptStep → OverSink → ℕ → ℕ → Ending → Type 0
+  abbrev pub EndsSo : List ScriptStep → OverOutput → ℕ → ℕ → Ending → Type 0
   EndsSo all out before after end =
       WritesOn (EditSteps labels first.style first.galley 1 Done all) (EditFront labels first.style first.galley all)
       out end
       × UnlessMemory (status_of end) (AreCounted first.style (shows_from (show_of first) first.style all) before after)
 
   -- memory ran out in a step
-  forgotten : (now : SessionValue) (made rest : List ScriptStep) (legal : Bool) (old mid newest : Option (List ℕ))
+  forgotten : (now : SessionValue) (made rest : List ScriptStep) (legal : Bool) (old mid newest : Sent)
       (f0 f1 f2 before middle after : ℕ) (end : Ending) → AreMade labels first made now legal old mid before middle →
-      IsForgotten (over_sink mid newest f1 f2) end →
-      EndsSo (made ++ rest) (over_sink old newest f0 f2) before after end
+      IsForgotten (output_over mid newest f1 f2) end →
+      EndsSo (made ++ rest) (output_over old newest f0 f2) before after end
   forgotten now made rest legal old mid newest f0 f1 f2 before middle after end m f =
-      subst (EndsSo (made ++ rest) (over_sink old newest f0 f2) before after) (sym f.ends) (
+      subst (EndsSo (made ++ rest) (output_over old newest f0 f2) before after) (sym f.ends) (
         record {
           settled = tt;
           write = tt;
@@ -244,7 +273,7 @@ module _ (labels : Bool) (first : SessionValue) where
             record {
               texts = m.texts;
               course = front_made now made rest legal old mid before middle m;
-              written = subst (λ (w : Option (List ℕ)). Appends old w (concat m.texts)) (sym f.keeps) m.written;
+              written = subst (λ (w : Sent). Sends old w m.texts) (sym f.keeps) m.written;
             },
           );
           no_read = tt;
@@ -255,12 +284,12 @@ module _ (labels : Bool) (first : SessionValue) where
 
   -- a change was refused
   refused : (now : SessionValue) (made rest : List ScriptStep) (edit : Edit) (number : ℕ) (legal : Bool)
-      (old mid newest : Option (List ℕ)) (f0 f1 f2 before middle after : ℕ) (end : Ending) →
+      (old mid newest : Sent) (f0 f1 f2 before middle after : ℕ) (end : Ending) →
       AreMade labels first made now legal old mid before middle → number ≡ length made + 1 →
-      IsRefused edit number now (over_sink mid newest f1 f2) middle after end →
-      EndsSo (made ++ Change edit ∷ rest) (over_sink old newest f0 f2) before after end
+      IsRefused edit number now (output_over mid newest f1 f2) middle after end →
+      EndsSo (made ++ Change edit ∷ rest) (output_over old newest f0 f2) before after end
   refused now made rest edit number legal old mid newest f0 f1 f2 before middle after end m is r =
-      subst (EndsSo (made ++ Change edit ∷ rest) (over_sink old newest f0 f2) before after) (sym r.ends) (
+      subst (EndsSo (made ++ Change edit ∷ rest) (output_over old newest f0 f2) before after) (sym r.ends) (
         record {
           settled = record {
             texts = m.texts;
@@ -268,7 +297,7 @@ module _ (labels : Bool) (first : SessionValue) where
                 subst (λ (n : ℕ). EditSteps labels first.style first.galley 1 Done (made ++ Change edit ∷ rest) m.texts
                 Refused (edit_line n r.fault)) (sym is)
                 (refused_made now made rest edit r.fault legal old mid before middle m r.cause);
-            written = subst (λ (w : Option (List ℕ)). Appends old w (concat m.texts)) (sym r.keeps) m.written;
+            written = subst (λ (w : Sent). Sends old w m.texts) (sym r.keeps) m.written;
           };
           write = tt;
           front = tt;
@@ -281,24 +310,29 @@ module _ (labels : Bool) (first : SessionValue) where
       )
 
   -- the output failed
-  unwritten : (now new : SessionValue) (made rest : List ScriptStep) (legal : Bool) (old mid newest : Option (List ℕ))
+  unwritten : (now new : SessionValue) (made rest : List ScriptStep) (legal : Bool) (old mid newest : Sent)
       (f0 f1 f2 before middle after : ℕ) (end : Ending) → AreMade labels first made now legal old mid before middle →
-      f0 ≤ f1 → IsUnwritten labels now new (over_sink mid newest f1 f2) middle after end →
-      EndsSo (made ++ AShow ∷ rest) (over_sink old newest f0 f2) before after end
-  unfolding show_made
+      f0 ≤ f1 → IsUnwritten labels now new (output_over mid newest f1 f2) middle after end →
+      EndsSo (made ++ AShow ∷ rest) (output_over old newest f0 f2) before after end
+  unfolding show_made untold
   unwritten now new made rest legal old mid newest f0 f1 f2 before middle after end m less u =
-      let all : AreMade labels first (made ++ AShow ∷ []) new (legal && u.legal) None None before after =
-      show_made now new made legal u.legal None None None before middle after
+      let all : AreMade labels first (made ++ AShow ∷ []) new (legal && u.legal) (untold old) (untold newest) before after =
+      show_made now new made legal u.legal (untold old) (untold mid) (untold newest) before middle after
       (record {
         style = m.style;
         texts = m.texts;
         goes_on = m.goes_on;
-        written = tt;
+        written = record { bytes = tt; writes = m.written.writes };
         shown = m.shown;
         shows_on = m.shows_on;
         counted = m.counted;
-      }) (record { text = u.text; out = u.is; appends = tt; shown = u.shown }) in
-      subst (EndsSo (made ++ AShow ∷ rest) (over_sink old newest f0 f2) before after) (sym u.ends) (
+      }) (record {
+        text = u.text;
+        is = u.is;
+        sends = record { bytes = tt; writes = u.front.writes };
+        shown = u.shown;
+      }) in
+      subst (EndsSo (made ++ AShow ∷ rest) (output_over old newest f0 f2) before after) (sym u.ends) (
         record {
           settled = tt;
           write = earlier_rose f0 f1 f2 less u.rose;
@@ -309,10 +343,8 @@ module _ (labels : Bool) (first : SessionValue) where
             course =
                 subst (λ (xs : List ScriptStep). EditFront labels first.style first.galley xs (m.texts ++ u.text ∷ [])
                 (shown_end (legal && u.legal)) []) (append_assoc made (AShow ∷ []) rest)
-                (front_made new (made ++ AShow ∷ []) rest (legal && u.legal) None None before after all);
-            front =
-                subst (AppendsFront old newest) (sym (texts_more m.texts u.text))
-                (front_after old mid newest (concat m.texts) u.text m.written u.front);
+                (front_made new (made ++ AShow ∷ []) rest (legal && u.legal) (untold old) (untold newest) before after all);
+            front = front_more old mid newest m.texts u.text m.written u.front;
           };
           memory = tt;
           no_read = tt;
@@ -320,14 +352,14 @@ module _ (labels : Bool) (first : SessionValue) where
         },
         subst (λ (xs : List ScriptStep). AreCounted first.style (shows_from (show_of first) first.style xs) before after)
             (append_assoc made (AShow ∷ []) rest)
-            (made_counted new (made ++ AShow ∷ []) rest (legal && u.legal) None None before after all),
+            (made_counted new (made ++ AShow ∷ []) rest (legal && u.legal) (untold old) (untold newest) before after all),
       )
 
   not_made : (now new : SessionValue) (made rest : List ScriptStep) (step : ScriptStep) (number : ℕ) (legal : Bool)
-      (old mid newest : Option (List ℕ)) (f0 f1 f2 before middle after : ℕ) (end : Ending) →
+      (old mid newest : Sent) (f0 f1 f2 before middle after : ℕ) (end : Ending) →
       AreMade labels first made now legal old mid before middle → f0 ≤ f1 → number ≡ length made + 1 →
-      IsNoStep labels step number now new (over_sink mid newest f1 f2) middle after end →
-      EndsSo (made ++ step ∷ rest) (over_sink old newest f0 f2) before after end
+      IsNoStep labels step number now new (output_over mid newest f1 f2) middle after end →
+      EndsSo (made ++ step ∷ rest) (output_over old newest f0 f2) before after end
   not_made now new made rest (Change edit) number legal old mid newest f0 f1 f2 before middle after end m less is
       (inl f) =
       forgotten now made (Change edit ∷ rest) legal old mid newest f0 f1 f2 before middle after end m f
@@ -343,7 +375,7 @@ module _ (labels : Bool) (first : SessionValue) where
 
   -- one step more was made
   pub step_made : (now new : SessionValue) (script : List ScriptStep) (i : ℕ) (step : ScriptStep) (legal shown : Bool)
-      (old mid newest : Option (List ℕ)) (before middle after : ℕ) → i < length script → get_or script i step ≡ step →
+      (old mid newest : Sent) (before middle after : ℕ) → i < length script → get_or script i step ≡ step →
       AreMade labels first (take i script) now legal old mid before middle →
       IsStep labels step now new shown mid newest middle after →
       AreMade labels first (take (i + 1) script) new (legal && shown) old newest before after
@@ -356,13 +388,13 @@ module _ (labels : Bool) (first : SessionValue) where
 
   -- the next step was not made
   pub step_failed : (now new : SessionValue) (script : List ScriptStep) (i : ℕ) (step : ScriptStep) (number : ℕ)
-      (legal : Bool) (old mid newest : Option (List ℕ)) (f0 f1 f2 before middle after : ℕ) (end : Ending) →
+      (legal : Bool) (old mid newest : Sent) (f0 f1 f2 before middle after : ℕ) (end : Ending) →
       i < length script → get_or script i step ≡ step → number ≡ i →
       AreMade labels first (take i script) now legal old mid before middle → f0 ≤ f1 →
-      IsNoStep labels step (number + 1) now new (over_sink mid newest f1 f2) middle after end →
-      EndsSo script (over_sink old newest f0 f2) before after end
+      IsNoStep labels step (number + 1) now new (output_over mid newest f1 f2) middle after end →
+      EndsSo script (output_over old newest f0 f2) before after end
   step_failed now new script i step number legal old mid newest f0 f1 f2 before middle after end less at is m later s =
-      subst (λ (xs : List ScriptStep). EndsSo xs (over_sink old newest f0 f2) before after end) whole
+      subst (λ (xs : List ScriptStep). EndsSo xs (output_over old newest f0 f2) before after end) whole
       (not_made now new (take i script) (drop (suc i) script) step (number + 1) legal old mid newest f0 f1 f2 before
       middle after end m later (ap (λ (n : ℕ). n + 1) (is ∙ sym (length-take-le i script (omega (arith, less))))) s)
     where
@@ -373,7 +405,7 @@ module _ (labels : Bool) (first : SessionValue) where
           ∙ ap (λ (xs : List ScriptStep). xs ++ drop (suc i) script) (sym (take-suc script i step less))
           ∙ take-append-drop (suc i) script
 
-  counts_all : (now : SessionValue) (script : List ScriptStep) (legal : Bool) (old new : Option (List ℕ))
+  counts_all : (now : SessionValue) (script : List ScriptStep) (legal : Bool) (old new : Sent)
       (before after : ℕ) → AreMade labels first script now legal old new before after →
       AreCounted first.style (shows_from (show_of first) first.style script) before after
   counts_all now script legal old new before after m =
@@ -381,9 +413,9 @@ module _ (labels : Bool) (first : SessionValue) where
       (append-nil script) (made_counted now script [] legal old new before after m)
 
   -- all were made
-  pub made_writes : (now : SessionValue) (script : List ScriptStep) (legal : Bool) (old new : Option (List ℕ))
+  pub made_writes : (now : SessionValue) (script : List ScriptStep) (legal : Bool) (old new : Sent)
       (f0 f2 before after : ℕ) → AreMade labels first script now legal old new before after →
-      EndsSo script (over_sink old new f0 f2) before after (ending_of_made legal)
+      EndsSo script (output_over old new f0 f2) before after (ending_of_made legal)
   made_writes now script true old new f0 f2 before after m = (
     record {
       settled = record { texts = m.texts; course = all_made now script true old new before after m; written = m.written };

@@ -2,7 +2,7 @@
 use Rattle.std.proofs.Common.{◌≡◌, ◌∙◌, inl, inr, ℕ, List, [], ◌++◌, Option, length, refl, ap, sym, arith}
 use Rattle.std.specs.Prelude.{None, Some, ℤ, ◌-ℤ◌}
 use Rattle.std.proofs.lemmas.Int.{ints}
-use Rattle.pg_outside.specs.Outside.{OverSink, over_sink}
+use Rattle.pg_outside.specs.Outside.{OverOutput, Sent, output_over}
 use Rattle.pg_list.specs.GalleyValue.{GalleyValue}
 use Rattle.pg_plan.specs.declared.pages.Pagination.{Pagination}
 use Rattle.pg_style.specs.Values.{StyleValue}
@@ -24,9 +24,9 @@ use Rattle.pg_course.proofs.Runs.{appends_none, keeps_all, writes_as}
 -- ---- a galley without a first fit
 
 -- its fault ends the course without a text
-told_fault : (style : StyleValue) (galley : GalleyValue) (old : Option (List ℕ)) (before : ℕ) (fault : GreedyFault) →
+told_fault : (style : StyleValue) (galley : GalleyValue) (old : Sent) (before : ℕ) (fault : GreedyFault) →
     greedy_fault style galley.blocks ≡ Some fault →
-    Writes (CompareGalley style galley) (over_sink old old before before) (ending.NoFirstFit fault)
+    Writes (CompareGalley style galley) (output_over old old before before) (ending.NoFirstFit fault)
 told_fault style galley old before fault is = record {
   settled = record { texts = []; course = rw is (refl, refl, refl); written = appends_none old };
   write = tt;
@@ -37,9 +37,9 @@ told_fault style galley old before fault is = record {
 }
 
 -- or memory ran out
-pub no_fit_writes : (style : StyleValue) (galley : GalleyValue) (old : Option (List ℕ)) (before : ℕ)
+pub no_fit_writes : (style : StyleValue) (galley : GalleyValue) (old : Sent) (before : ℕ)
     (fault : GreedyFault) → Causes style galley.blocks fault →
-    Writes (CompareGalley style galley) (over_sink old old before before) (fit_ending fault)
+    Writes (CompareGalley style galley) (output_over old old before before) (fit_ending fault)
 no_fit_writes style galley old before fits.Columns (inl is) = told_fault style galley old before fits.Columns is
 no_fit_writes style galley old before fits.Columns (inr (memory, none)) = absurd (cc)
 no_fit_writes style galley old before (fits.Choice block) (inl is) =
@@ -66,7 +66,7 @@ other_fit fits.Memory other = absurd (other refl)
 
 -- ---- a galley with one
 
-pub compared_writes : (style : StyleValue) (galley : GalleyValue) (out : OverSink) (end : Ending) →
+pub compared_writes : (style : StyleValue) (galley : GalleyValue) (out : OverOutput) (end : Ending) →
     greedy_fault style galley.blocks ≡ None → Writes (WritesOne CompareOut style galley) out end →
     Writes (CompareGalley style galley) out end
 compared_writes style galley out end none w =

@@ -1,7 +1,7 @@
 -- What the command `lines` promises, by what was found for its paragraphs.
 use Rattle.std.proofs.Common.{◌≡◌, ℕ, List, [], refl}
 use Rattle.std.specs.Prelude.{Option, None, Ok, Err}
-use Rattle.pg_outside.specs.Outside.{OverSink}
+use Rattle.pg_outside.specs.Outside.{OverOutput, Sent}
 use Rattle.pg_list.specs.GalleyValue.{GalleyValue}
 use Rattle.pg_showbox.specs.Reading.{galley_of}
 use Rattle.pg_showbox.specs.Text.{galley_text}
@@ -19,7 +19,7 @@ use Rattle.pg_course.specs.Course.{EndsBy, LinesCourse, ShowGalley}
 use Rattle.pg_course.proofs.Runs.{appends_none, writes_as}
 
 -- what writes the galley of paragraphs, which reads back, does what their course says
-pub lines_write : (rule : LineRule) (name : List ℕ) (paras : List (List HItem)) (galley : GalleyValue) (out : OverSink)
+pub lines_write : (rule : LineRule) (name : List ℕ) (paras : List (List HItem)) (galley : GalleyValue) (out : OverOutput)
     (end : Ending) → Broken rule paras (Ok galley) → galley_of (galley_text galley) None ≡ Ok galley →
     Writes (ShowGalley galley) out end → Writes (LinesCourse rule name (Ok paras)) out end
 lines_write rule name paras galley out end broken back writes =
@@ -28,7 +28,7 @@ lines_write rule name paras galley out end broken back writes =
 
 -- a fault that is not want of memory ends their course without a text
 pub lines_stop : (rule : LineRule) (name : List ℕ) (paras : List (List HItem)) (why : LineFault)
-    (old : Option (List ℕ)) → AnswersLines rule paras (Err why) → (why ≡ fault.Memory → ⊥) →
+    (old : Sent) → AnswersLines rule paras (Err why) → (why ≡ fault.Memory → ⊥) →
     EndsBy (LinesCourse rule name (Ok paras)) old old Refused (paragraph_line name why)
 lines_stop rule name paras (fault.NoBreak paragraph) old broken other = record {
   texts = [];

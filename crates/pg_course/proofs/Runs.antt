@@ -9,7 +9,7 @@ use Rattle.pg_style.specs.Values.{StyleValue}
 use Rattle.pg_floats.specs.AreFloats.{MakesList, unknown_class, float_total}
 use Rattle.pg_floats.specs.declared.fault.FloatFault.{FloatFault}
 use Rattle.pg_floats.specs.declared.fault.FloatFault.TheVariants as float_fault
-use Rattle.pg_outside.specs.Outside.{AppendsFront, Held, OverSink, Rose, over_sink}
+use Rattle.pg_outside.specs.Outside.{Held, OverOutput, Sends, SendsNothing, Sent, output_over}
 use Rattle.pg_command.specs.declared.ending.Ending.{Ending}
 use Rattle.pg_command.specs.declared.ending.Ending.TheVariants as ending
 use Rattle.pg_command.specs.declared.status.Status.{Status}
@@ -55,7 +55,7 @@ on_read_fault Memory f p = tt
 on_read_fault NotProved f p = tt
 
 -- what ends one course ends another that follows from it
-pub ends_as : (C D : List (List ℕ) → Status → List ℕ → Type 0) (old new : Option (List ℕ)) (end : Status)
+pub ends_as : (C D : List (List ℕ) → Status → List ℕ → Type 0) (old new : Sent) (end : Status)
     (said : List ℕ) →
     ((texts : List (List ℕ)) (status : Status) (line : List ℕ) → C texts status line → D texts status line) →
     EndsBy C old new end said → EndsBy D old new end said
@@ -63,7 +63,7 @@ ends_as C D old new end said f e =
     record { texts = e.texts; course = f e.texts end said e.course; written = e.written }
 
 -- and so does what begins it
-pub begins_as : (C D : List (List ℕ) → Status → List ℕ → Type 0) (old new : Option (List ℕ)) →
+pub begins_as : (C D : List (List ℕ) → Status → List ℕ → Type 0) (old new : Sent) →
     ((texts : List (List ℕ)) (status : Status) (line : List ℕ) → C texts status line → D texts status line) →
     BeginsBy C old new → BeginsBy D old new
 begins_as C D old new f b = record {
@@ -75,7 +75,7 @@ begins_as C D old new f b = record {
 }
 
 -- what does one course does another that follows from it
-pub writes_as : (C D : List (List ℕ) → Status → List ℕ → Type 0) (out : OverSink) (end : Ending) →
+pub writes_as : (C D : List (List ℕ) → Status → List ℕ → Type 0) (out : OverOutput) (end : Ending) →
     ((texts : List (List ℕ)) (status : Status) (line : List ℕ) → C texts status line → D texts status line) →
     Writes C out end → Writes D out end
 writes_as C D out end f w = record {
@@ -87,22 +87,28 @@ writes_as C D out end f w = record {
   no_usage = w.no_usage;
 }
 
-pub appends_none : (old : Option (List ℕ)) → Appends old old []
-appends_none None = tt
-appends_none (Some xs) = sym (append-nil xs)
+appends_no_byte : (old : Option (List ℕ)) → Appends old old []
+appends_no_byte None = tt
+appends_no_byte (Some xs) = sym (append-nil xs)
 
-pub keeps_all : (old : Option (List ℕ)) → Keeps old old
-keeps_all None = tt
-keeps_all (Some xs) = refl
+pub appends_none : (old : Sent) → Sends old old []
+appends_none old = record { bytes = appends_no_byte old.bytes; writes = refl }
+
+keeps_bytes : (old : Option (List ℕ)) → Keeps old old
+keeps_bytes None = tt
+keeps_bytes (Some xs) = refl
+
+pub keeps_all : (old : Sent) → SendsNothing old old
+keeps_all old = record { bytes = keeps_bytes old.bytes; writes = refl }
 
 many_test : (a b : ℕ) → b < a → nat_le a b ≡ false
 many_test a b many = grind (arith, nat_tests)
 
 -- a galley without a list of floats is refused, whatever is done with others, or memory ran out
 pub no_floats : (C : List (List ℕ) → Status → List ℕ → Type 0) (style : StyleValue) (galley : GalleyValue)
-    (old : Option (List ℕ)) (before : ℕ) (fault : FloatFault) → MakesList (Err fault) galley.blocks style →
+    (old : Sent) (before : ℕ) (fault : FloatFault) → MakesList (Err fault) galley.blocks style →
     Writes (λ texts end line. OnTaken style galley texts end line (C texts end line))
-    (over_sink old old before before) (ending_of fault)
+    (output_over old old before before) (ending_of fault)
 no_floats C style galley old before (float_fault.Class number) unknown = record {
   settled = record { texts = []; course = rw unknown (refl, refl, refl); written = appends_none old };
   write = tt;
@@ -139,7 +145,7 @@ no_floats C style galley old before float_fault.Memory known = record {
 }
 
 -- what is made of a galley whose classes the style has and whose floats are few
-pub taken_writes : (product : Product) (style : StyleValue) (galley : GalleyValue) (out : OverSink) (end : Ending) →
+pub taken_writes : (product : Product) (style : StyleValue) (galley : GalleyValue) (out : OverOutput) (end : Ending) →
     unknown_class galley.blocks style ≡ None → float_total galley.blocks style ≤ 2 ^ 12 →
     Writes (MakesGalley product style galley) out end → Writes (RunGalley product style galley) out end
 taken_writes product style galley out end known few w =
@@ -155,7 +161,7 @@ when_said F None said x says h = tt
 when_said F (Some held) said x says h = subst F (sym says) h
 
 styled : (told : Option Held) (chosen : StyleName) (style : StyleValue) (name : List ℕ) (product : Product)
-    (wrap : Option ℕ) (old new : Option (List ℕ)) → IfSome told (λ held. opened_style chosen held ≡ Ok style) →
+    (wrap : Option ℕ) (old new : Sent) → IfSome told (λ held. opened_style chosen held ≡ Ok style) →
     IfSome told (λ held. BeginsBy (RunCourse product style (opened name wrap (held name))) old new) →
     IfSome told (λ held.
     BeginsBy (StyledCourse product (opened_style chosen held) (opened name wrap (held name))) old new)
@@ -166,7 +172,7 @@ styled (Some held) chosen style name product wrap old new says h =
 
 -- the style of a file, and a galley of whose text a front was written
 pub styled_begins : (told mid : Option Held) (chosen : StyleName) (style : StyleValue) (name : List ℕ)
-    (product : Product) (wrap : Option ℕ) (old new : Option (List ℕ)) (status : Status) →
+    (product : Product) (wrap : Option ℕ) (old new : Sent) (status : Status) →
     IfSome told (λ held. opened_style chosen held ≡ Ok style) → mid ≡ told →
     OnWriteFault status (IfSome mid (λ held.
     BeginsBy (RunCourse product style (opened name wrap (held name))) old new)) →

@@ -8,7 +8,7 @@ use Rattle.pg_stylefile.specs.Style.{style_of_text}
 use Rattle.pg_edits.specs.declared.script.ScriptStep.{ScriptStep}
 use Rattle.pg_floats.specs.AreFloats.{MakesList, unknown_class, float_total}
 use Rattle.pg_floats.specs.declared.fault.FloatFault.{FloatFault}
-use Rattle.pg_outside.specs.Outside.{Held, OverSink, over_sink}
+use Rattle.pg_outside.specs.Outside.{Held, OverOutput, Sent, output_over}
 use Rattle.pg_command.specs.declared.ending.Ending.{Ending}
 use Rattle.pg_command.specs.declared.status.Status.{Status}
 use Rattle.pg_command.specs.declared.status.Status.TheVariants.{Done, NoLegal, Usage, Refused, ReadFault, WriteFault}
@@ -37,7 +37,7 @@ when_memory Refused f p = tt
 when_memory NotProved f p = tt
 
 -- whole texts of one course are those of another that follows from it
-texts_as : (C D : List (List ℕ) → Status → List ℕ → Type 0) (old new : Option (List ℕ)) →
+texts_as : (C D : List (List ℕ) → Status → List ℕ → Type 0) (old new : Sent) →
     ((texts : List (List ℕ)) (status : Status) (line : List ℕ) → C texts status line → D texts status line) →
     WritesTexts C old new → WritesTexts D old new
 texts_as C D old new f (end, line, e) = (end, line, ends_as C D old new end line f e)
@@ -46,7 +46,7 @@ texts_as C D old new f (end, line, e) = (end, line, ends_as C D old new end line
 
 -- the script was read, and its steps were made
 pub script_goes : (labels : Bool) (style : StyleValue) (galley : GalleyValue) (name : List ℕ)
-    (told : Option Held) (script : List ScriptStep) (before after : ℕ) (last : Option (List ℕ)) (out : OverSink)
+    (told : Option Held) (script : List ScriptStep) (before after : ℕ) (last : Option (List ℕ)) (out : OverOutput)
     (end : Ending) → IfSome told (λ held. opened_script name (held name) ≡ Ok script) →
     WritesOn (EditSteps labels style galley 1 Done script) (EditFront labels style galley script) out end →
     GoesThrough (λ held. EditScript labels style galley (opened_script name (held name)))
@@ -79,11 +79,11 @@ none_written labels style galley (Ok steps) = (Done, [], (0, (refl, refl, refl))
 
 -- the script was not read
 pub script_stops : (labels : Bool) (style : StyleValue) (galley : GalleyValue) (name : List ℕ) (shelf : OverShelf)
-    (old : Option (List ℕ)) (faults : ℕ) (end : Ending) →
+    (old : Sent) (faults : ℕ) (end : Ending) →
     Stopped (λ held. opened_script name (held name)) (NoFile name) shelf end →
     GoesThrough (λ held. EditScript labels style galley (opened_script name (held name)))
     (λ held. ScriptFront labels style galley (opened_script name (held name))) name shelf
-    (over_sink old old faults faults) end
+    (output_over old old faults faults) end
 script_stops labels style galley name shelf old faults end stopped = record {
   settled = on_settled (status_of end) (if_some shelf.told ends) stopped.settled;
   read = stopped.read;
@@ -150,15 +150,15 @@ module _ (style galley script : List ℕ) (labels : Bool) (wrap : Option ℕ) wh
   This = Some (edit style galley script labels wrap)
 
   -- nothing was written, and that is a front of its course
-  nothing_wrote : (told : Option Held) (old : Option (List ℕ)) (before after : ℕ) →
-      WroteWhole This told (over_sink old old before after)
+  nothing_wrote : (told : Option Held) (old : Sent) (before after : ℕ) →
+      WroteWhole This told (output_over old old before after)
   nothing_wrote told old before after = all_told told (λ held.
       let (end, line, course) = none_made labels (opened_style (named style) held) (opened galley wrap (held galley))
       (opened_script script (held script)) in
       (end, line, record { texts = []; course = (0, course); written = appends_none old }))
 
   -- what was done of the script is done by the command, where it leads to the command's course
-  goes_through : (C D : Held → List (List ℕ) → Status → List ℕ → Type 0) (shelf : OverShelf) (out : OverSink)
+  goes_through : (C D : Held → List (List ℕ) → Status → List ℕ → Type 0) (shelf : OverShelf) (out : OverOutput)
       (end : Ending) →
       IfSome shelf.told (λ held. (texts : List (List ℕ)) (status : Status) (line : List ℕ) →
       C held texts status line → Course This held texts status line) →
@@ -186,7 +186,7 @@ module _ (style galley script : List ℕ) (labels : Bool) (wrap : Option ℕ) wh
   }
 
   -- a galley that the style takes, and what was done of the script
-  pub taken_goes : (s : StyleValue) (g : GalleyValue) (shelf : OverShelf) (out : OverSink) (end : Ending) →
+  pub taken_goes : (s : StyleValue) (g : GalleyValue) (shelf : OverShelf) (out : OverOutput) (end : Ending) →
       unknown_class g.blocks s ≡ None → float_total g.blocks s ≤ 2 ^ 12 →
       IfSome shelf.told (AreRead style galley wrap s g) →
       GoesThrough (λ held. EditScript labels s g (opened_script script (held script)))
@@ -204,7 +204,7 @@ module _ (style galley script : List ℕ) (labels : Bool) (wrap : Option ℕ) wh
       (if_some shelf.told (λ held (of_style, of_galley) none.
       rw (of_style, of_galley, known, test, none) (refl, refl, refl)) read) goes
 
-  refused_settled : (s : StyleValue) (g : GalleyValue) (told : Option Held) (old : Option (List ℕ)) (faults : ℕ)
+  refused_settled : (s : StyleValue) (g : GalleyValue) (told : Option Held) (old : Sent) (faults : ℕ)
       (fault : FloatFault) → MakesList (Err fault) g.blocks s → IfSome told (AreRead style galley wrap s g) →
       OnSettled (status_of (ending_of fault)) (IfSome told (λ held.
       Ended This held old old (status_of (ending_of fault)) (line_of (ending_of fault))))
@@ -218,9 +218,9 @@ module _ (style galley script : List ℕ) (labels : Bool) (wrap : Option ℕ) wh
 
   -- a galley that the style does not take, before the script is read
   pub refused_goes : (s : StyleValue) (g : GalleyValue) (told : Option Held) (before : ℕ) (last : Option (List ℕ))
-      (old : Option (List ℕ)) (faults : ℕ) (fault : FloatFault) → MakesList (Err fault) g.blocks s →
+      (old : Sent) (faults : ℕ) (fault : FloatFault) → MakesList (Err fault) g.blocks s →
       IfSome told (AreRead style galley wrap s g) →
-      Goes This (over_shelf told before before last) (over_sink old old faults faults) (ending_of fault)
+      Goes This (over_shelf told before before last) (output_over old old faults faults) (ending_of fault)
   refused_goes s g told before last old faults fault none read =
       let end = ending_of fault in
       let writes = λ (held : Held). no_floats (EditScript labels s g (opened_script script (held script))) s g old faults
@@ -241,7 +241,7 @@ module _ (style galley script : List ℕ) (labels : Bool) (wrap : Option ℕ) wh
       opened galley wrap (held galley) ≡ Err said → Course This held [] said.status said.line
   galley_course s held said of_style ends = rw (of_style, ends) (refl, refl, refl)
 
-  galley_ends : (s : StyleValue) (old : Option (List ℕ)) (end : Ending) (held : Held) →
+  galley_ends : (s : StyleValue) (old : Sent) (end : Ending) (held : Held) →
       opened_style (named style) held ≡ Ok s →
       opened galley wrap (held galley) ≡ Err (stop (status_of end) (line_of end)) →
       EndsBy (Course This held) old old (status_of end) (line_of end)
@@ -258,10 +258,10 @@ module _ (style galley script : List ℕ) (labels : Bool) (wrap : Option ℕ) wh
       (ap (read_by (λ bytes. said_galley galley (galley_of bytes wrap))) none)
 
   -- a galley that is not read
-  pub stopped_goes : (s : StyleValue) (shelf : OverShelf) (old : Option (List ℕ)) (faults : ℕ) (end : Ending) →
+  pub stopped_goes : (s : StyleValue) (shelf : OverShelf) (old : Sent) (faults : ℕ) (end : Ending) →
       IfSome shelf.told (λ held. opened_style (named style) held ≡ Ok s) →
       Stopped (λ held. opened galley wrap (held galley)) (NoFile galley) shelf end →
-      Goes This shelf (over_sink old old faults faults) end
+      Goes This shelf (output_over old old faults faults) end
   stopped_goes s shelf old faults end read stopped = record {
     settled =
         on_settled (status_of end) (if_both shelf.told (galley_ends s old end) read) stopped.settled;
@@ -281,9 +281,9 @@ module _ (style galley script : List ℕ) (labels : Bool) (wrap : Option ℕ) wh
   style_course held said ends = rw ends (refl, refl, refl)
 
   -- a style that is not read
-  pub unstyled_goes : (shelf : OverShelf) (old : Option (List ℕ)) (faults : ℕ) (end : Ending) →
+  pub unstyled_goes : (shelf : OverShelf) (old : Sent) (faults : ℕ) (end : Ending) →
       Stopped (opened_style (named style)) (NoFile style) shelf end →
-      Goes This shelf (over_sink old old faults faults) end
+      Goes This shelf (output_over old old faults faults) end
   unstyled_goes shelf old faults end stopped = record {
     settled =
         on_settled (status_of end) (if_some shelf.told (λ held ends. record {

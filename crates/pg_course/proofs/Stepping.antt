@@ -1,8 +1,7 @@
 -- One step of a script.
-use Rattle.std.proofs.Common.{◌≡◌, inl, inr, refl, subst, ℕ, Bool, List, Option}
+use Rattle.std.proofs.Common.{◌≡◌, inl, inr, refl, subst, ℕ, Bool, List, [], ◌∷◌}
 use Rattle.std.specs.Prelude.{Err}
-use Rattle.std.specs.Io.KnownBytes.{Appends}
-use Rattle.pg_outside.specs.Outside.{OverSink}
+use Rattle.pg_outside.specs.Outside.{Sends, Sent}
 use Rattle.pg_list.specs.declared.galley.Edit.{Edit}
 use Rattle.pg_edits.specs.declared.fault.EditFault.{EditFault}
 use Rattle.pg_edits.specs.declared.fault.EditFault.TheVariants.{Class, Floats, Limit, Memory, Range}
@@ -17,12 +16,12 @@ use Rattle.pg_course.specs.Out.{RunOut}
 use Rattle.pg_course.specs.Steps.{IsNoStep, IsShow, shown_end}
 
 -- a galley was shown
-pub text_shown : (labels legal : Bool) (old new : SessionValue) (written now : Option (List ℕ)) (before after : ℕ)
+pub text_shown : (labels legal : Bool) (old new : SessionValue) (written now : Sent) (before after : ℕ)
     (text : List ℕ) (end : Status) → RunOut labels old.galley old.style text end → end ≡ shown_end legal →
-    Appends written now text → IsShown old new before after → IsShow labels old new legal written now before after
-text_shown labels legal old new written now before after text end out is appends shown = record {
+    Sends written now (text ∷ []) → IsShown old new before after → IsShow labels old new legal written now before after
+text_shown labels legal old new written now before after text end out is sends shown = record {
   text = text;
-  out = subst (RunOut labels old.galley old.style text) is out;
-  appends = appends;
+  is = subst (RunOut labels old.galley old.style text) is out;
+  sends = sends;
   shown = shown;
 }

@@ -1,6 +1,5 @@
 -- What the function of a command promises, over any shelf and any sink.
 use Rattle.std.specs.Prelude.{◌≡◌, ◌≢◌, ◌↔◌, ℕ, List, Option, Some, None, Result, Ok, Err, IfSome}
-use Rattle.std.specs.Io.KnownBytes.{Keeps}
 use Rattle.pg_floats.specs.declared.fault.FloatFault.{FloatFault}
 use Rattle.pg_floats.specs.declared.fault.FloatFault.TheVariants as fault
 use Rattle.pg_list.specs.GalleyValue.{GalleyValue}
@@ -13,7 +12,7 @@ use Rattle.pg_greedy.specs.declared.fault.GreedyFault.{GreedyFault}
 use Rattle.pg_greedy.specs.declared.fault.GreedyFault.TheVariants as fits
 use Rattle.pg_hlist.specs.declared.item.HItem.{HItem}
 use Rattle.pg_hlist.specs.Reading.{paras_of}
-use Rattle.pg_outside.specs.Outside.{Held, OverSink, Rose}
+use Rattle.pg_outside.specs.Outside.{Held, OverOutput, Rose, SendsNothing, Sent}
 use Rattle.pg_command.specs.declared.ending.Ending.{Ending}
 use Rattle.pg_command.specs.declared.ending.Ending.TheVariants as ending
 use Rattle.pg_command.specs.declared.status.Status.{Status}
@@ -36,24 +35,24 @@ pub record OverShelf : Type 0 where
 abbrev pub over_shelf : Option Held → ℕ → ℕ → Option (List ℕ) → OverShelf
 over_shelf told before after last = record { told = told; before = before; after = after; last = last }
 
--- a course has whole texts that were written
-abbrev pub WritesTexts : (List (List ℕ) → Status → List ℕ → Type 0) → Option (List ℕ) → Option (List ℕ) → Type 0
+-- a course has whole texts that were written, each in one write
+abbrev pub WritesTexts : (List (List ℕ) → Status → List ℕ → Type 0) → Sent → Sent → Type 0
 WritesTexts C old new = (end : Status) × (line : List ℕ) × EndsBy C old new end line
 
 -- the texts that are written before memory runs out: none of a command that writes one text. Of an edit they are the
 -- whole texts of the shows before
-abbrev pub WroteWhole : Option Command → Option Held → OverSink → Type 0
-WroteWhole None told out = Keeps out.old out.new
-WroteWhole (Some (run style galley labels wrap)) told out = Keeps out.old out.new
+abbrev pub WroteWhole : Option Command → Option Held → OverOutput → Type 0
+WroteWhole None told out = SendsNothing out.old out.new
+WroteWhole (Some (run style galley labels wrap)) told out = SendsNothing out.old out.new
 WroteWhole (Some (edit style galley script labels wrap)) told out = IfSome told (λ held.
     WritesTexts (CourseFront (Some (edit style galley script labels wrap)) held) out.old out.new)
-WroteWhole (Some (show galley wrap)) told out = Keeps out.old out.new
-WroteWhole (Some (make count)) told out = Keeps out.old out.new
-WroteWhole (Some (check style galley output wrap)) told out = Keeps out.old out.new
-WroteWhole (Some (lines width tolerance around file)) told out = Keeps out.old out.new
-WroteWhole (Some (heads style galley wrap)) told out = Keeps out.old out.new
-WroteWhole (Some (compare style galley wrap)) told out = Keeps out.old out.new
-WroteWhole (Some (fold style galley folds nest wrap)) told out = Keeps out.old out.new
+WroteWhole (Some (show galley wrap)) told out = SendsNothing out.old out.new
+WroteWhole (Some (make count)) told out = SendsNothing out.old out.new
+WroteWhole (Some (check style galley output wrap)) told out = SendsNothing out.old out.new
+WroteWhole (Some (lines width tolerance around file)) told out = SendsNothing out.old out.new
+WroteWhole (Some (heads style galley wrap)) told out = SendsNothing out.old out.new
+WroteWhole (Some (compare style galley wrap)) told out = SendsNothing out.old out.new
+WroteWhole (Some (fold style galley folds nest wrap)) told out = SendsNothing out.old out.new
 
 -- words that name no file: they are no command, or one that makes its galley
 abbrev pub NamesNoFile : Option Command → Type 0
@@ -116,17 +115,17 @@ abbrev pub AreSaid : List (List HItem) → Type 0
 AreSaid paras = (text : List ℕ) × (paras_of text ≡ Ok paras)
 
 -- the promise of a function that writes what a course says of files that were read, by its ending
-pub record Writes (C : List (List ℕ) → Status → List ℕ → Type 0) (out : OverSink) (ending : Ending) : Type 0 where
+pub record Writes (C : List (List ℕ) → Status → List ℕ → Type 0) (out : OverOutput) (ending : Ending) : Type 0 where
   pub settled : OnSettled (status_of ending) (EndsBy C out.old out.new (status_of ending) (line_of ending))
   pub write : OnWriteFault (status_of ending) (Rose out.before out.after)
   pub front : OnWriteFault (status_of ending) (BeginsBy C out.old out.new)
-  pub memory : OnMemory (status_of ending) (Keeps out.old out.new)
+  pub memory : OnMemory (status_of ending) (SendsNothing out.old out.new)
   pub no_read : OnReadFault (status_of ending) ⊥
   pub no_usage : status_of ending ≢ Usage
 
 -- the promise of a function that writes the texts of a course one after another, by its ending: where it fails a front
 -- of the texts of a front of the course was written, and where memory runs out, whole ones
-pub record WritesOn (C D : List (List ℕ) → Status → List ℕ → Type 0) (out : OverSink) (ending : Ending) : Type 0 where
+pub record WritesOn (C D : List (List ℕ) → Status → List ℕ → Type 0) (out : OverOutput) (ending : Ending) : Type 0 where
   pub settled : OnSettled (status_of ending) (EndsBy C out.old out.new (status_of ending) (line_of ending))
   pub write : OnWriteFault (status_of ending) (Rose out.before out.after)
   pub front : OnWriteFault (status_of ending) (BeginsBy D out.old out.new)
@@ -136,38 +135,38 @@ pub record WritesOn (C D : List (List ℕ) → Status → List ℕ → Type 0) (
 
 -- the promise of a function that fetches the file of a name and does what a course says of it, by its ending
 pub record GoesOn (C : Held → List (List ℕ) → Status → List ℕ → Type 0) (name : List ℕ) (shelf : OverShelf)
-    (out : OverSink) (ending : Ending) : Type 0 where
+    (out : OverOutput) (ending : Ending) : Type 0 where
   pub settled : OnSettled (status_of ending) (IfSome shelf.told (λ held.
       EndsBy (C held) out.old out.new (status_of ending) (line_of ending)))
   pub read : OnReadFault (status_of ending) (NoFile name shelf (line_of ending))
-  pub read_keeps : OnReadFault (status_of ending) (Keeps out.old out.new)
+  pub read_keeps : OnReadFault (status_of ending) (SendsNothing out.old out.new)
   pub write : OnWriteFault (status_of ending) (Rose out.before out.after)
   pub front : OnWriteFault (status_of ending) (IfSome shelf.told (λ held. BeginsBy (C held) out.old out.new))
-  pub memory : OnMemory (status_of ending) (Keeps out.old out.new)
+  pub memory : OnMemory (status_of ending) (SendsNothing out.old out.new)
   pub no_usage : status_of ending ≢ Usage
 
 -- the promise of a function that fetches the file of a name and writes the texts of a course one after another, by its
 -- ending
 pub record GoesThrough (C D : Held → List (List ℕ) → Status → List ℕ → Type 0) (name : List ℕ) (shelf : OverShelf)
-    (out : OverSink) (ending : Ending) : Type 0 where
+    (out : OverOutput) (ending : Ending) : Type 0 where
   pub settled : OnSettled (status_of ending) (IfSome shelf.told (λ held.
       EndsBy (C held) out.old out.new (status_of ending) (line_of ending)))
   pub read : OnReadFault (status_of ending) (NoFile name shelf (line_of ending))
-  pub read_keeps : OnReadFault (status_of ending) (Keeps out.old out.new)
+  pub read_keeps : OnReadFault (status_of ending) (SendsNothing out.old out.new)
   pub write : OnWriteFault (status_of ending) (Rose out.before out.after)
   pub front : OnWriteFault (status_of ending) (IfSome shelf.told (λ held. BeginsBy (D held) out.old out.new))
   pub memory : OnMemory (status_of ending) (IfSome shelf.told (λ held. WritesTexts (D held) out.old out.new))
   pub no_usage : status_of ending ≢ Usage
 
 -- the promise of the function of a command, by its ending
-pub record Goes (command : Option Command) (shelf : OverShelf) (out : OverSink) (ending : Ending) : Type 0 where
+pub record Goes (command : Option Command) (shelf : OverShelf) (out : OverOutput) (ending : Ending) : Type 0 where
   -- where it ended by itself, it wrote exactly the texts of the course and ended as the course does
   pub settled : OnSettled (status_of ending) (IfSome shelf.told (λ held.
       Ended command held out.old out.new (status_of ending) (line_of ending)))
   -- a file could not be read, with a cause, and nothing was written
   pub read : OnReadFault (status_of ending)
       (ReadLine command shelf.told shelf.before shelf.after shelf.last (line_of ending))
-  pub read_keeps : OnReadFault (status_of ending) (Keeps out.old out.new)
+  pub read_keeps : OnReadFault (status_of ending) (SendsNothing out.old out.new)
   -- the output failed, and a front of the texts was written
   pub write : OnWriteFault (status_of ending) (Rose out.before out.after)
   pub front : OnWriteFault (status_of ending) (IfSome shelf.told (λ held. EndedBefore command held out.old out.new))
@@ -175,4 +174,4 @@ pub record Goes (command : Option Command) (shelf : OverShelf) (out : OverSink) 
   pub memory : OnMemory (status_of ending) (WroteWhole command shelf.told out)
   -- words that are no command, and they alone, are answered so
   pub usage : (status_of ending ≡ Usage) ↔ (command ≡ None)
-  pub usage_keeps : command ≡ None → Keeps out.old out.new
+  pub usage_keeps : command ≡ None → SendsNothing out.old out.new

@@ -1,6 +1,6 @@
 -- A check of what a run with labels writes.
 use Rattle.std.specs.Prelude.{◌≡◌, ◌≤◌, ◌^◌, ℕ, ⊤, true, List, [], ◌∷◌, length, Option, Some, IfSome}
-use Rattle.pg_outside.specs.Outside.{Held, OverSink, Rose}
+use Rattle.pg_outside.specs.Outside.{Held, OverOutput, Rose}
 use Rattle.pg_command.specs.declared.status.Status.{Status}
 use Rattle.pg_command.specs.declared.status.Status.TheVariants.{Done, Memory}
 use Rattle.pg_command.specs.Words.{Command, check, named, run}
@@ -24,7 +24,7 @@ IsDoneOrMemory status = ⊥
 
 -- a check of a file that holds what a run with labels writes for the same files ends well, where neither count rose, or
 -- memory runs out; of other commands nothing is said
-abbrev pub IsComplete : Option Command → OverShelf → OverSink → Status → Type 0
+abbrev pub IsComplete : Option Command → OverShelf → OverOutput → Status → Type 0
 IsComplete (Some (check style galley output wrap)) shelf out status =
     (Rose shelf.before shelf.after → ⊥) → (Rose out.before out.after → ⊥) →
     IfSome shelf.told (λ held. HoldsRun style galley output wrap held → IsDoneOrMemory status)

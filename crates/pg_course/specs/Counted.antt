@@ -16,6 +16,9 @@ use Rattle.pg_command.specs.declared.status.Status.{Status}
 use Rattle.pg_command.specs.declared.status.Status.TheVariants.{Memory}
 use Rattle.pg_command.specs.Words.{Command, named, run, edit, show, make, check}
 use Rattle.pg_command.specs.Words.{lines, heads, compare, fold}
+use Rattle.pg_greedy.specs.Faults.{greedy_fault}
+use Rattle.pg_course.specs.declared.product.Product.{Product}
+use Rattle.pg_course.specs.declared.product.Product.TheVariants.{Pages, Heads, Comparison, Sheets}
 use Rattle.pg_course.specs.Course.{Stop, opened, opened_script, opened_style}
 
 -- the shows of a galley that is taken; one that is refused is not shown
@@ -23,12 +26,17 @@ abbrev pub taken_shows : StyleValue → GalleyValue → List Show → List Show
 taken_shows style galley shown = option_map_or (λ _. []) (unknown_class galley.blocks style)
     (if nat_le (float_total galley.blocks style) (2 ^ 12) then shown else [])
 
--- a run shows its galley once
-abbrev pub CountsRun : Result StyleValue Stop → Result GalleyValue Stop → ℕ → ℕ → Type 0
-CountsRun (Err stop) galley before after = after ≡ before
-CountsRun (Ok style) (Err stop) before after = after ≡ before
-CountsRun (Ok style) (Ok galley) before after =
-    AreCounted style (taken_shows style galley (one_show galley)) before after
+-- the shows of a galley of which this is made; one without a first fit is not shown for a comparison
+abbrev pub made_shows : Product → StyleValue → GalleyValue → List Show → List Show
+made_shows Comparison style galley shown = option_map_or (λ _. []) (greedy_fault style galley.blocks) shown
+made_shows product style galley shown = shown
+
+-- the galley of which something is made is shown once
+abbrev pub CountsRun : Product → Result StyleValue Stop → Result GalleyValue Stop → ℕ → ℕ → Type 0
+CountsRun product (Err stop) galley before after = after ≡ before
+CountsRun product (Ok style) (Err stop) before after = after ≡ before
+CountsRun product (Ok style) (Ok galley) before after =
+    AreCounted style (taken_shows style galley (made_shows product style galley (one_show galley))) before after
 
 -- a galley that is taken is shown at each show of a script
 abbrev pub CountsScript : StyleValue → Show → Result (List ScriptStep) Stop → ℕ → ℕ → Type 0
@@ -48,7 +56,7 @@ CountsEdit (Ok style) (Ok galley) script before after = CountsScript style (unse
 abbrev pub IsCounted : Option Command → Option Held → ℕ → ℕ → Type 0
 IsCounted None told before after = after ≡ before
 IsCounted (Some (run style galley labels wrap)) told before after = IfSome told (λ held.
-    CountsRun (opened_style style held) (opened galley wrap (held galley)) before after)
+    CountsRun (Pages labels) (opened_style style held) (opened galley wrap (held galley)) before after)
 IsCounted (Some (edit style galley script labels wrap)) told before after = IfSome told (λ held.
     CountsEdit (opened_style (named style) held) (opened galley wrap (held galley))
     (opened_script script (held script)) before after)
@@ -57,11 +65,11 @@ IsCounted (Some (make count)) told before after = AreCounted made_style (one_sho
 IsCounted (Some (check style galley output wrap)) told before after = after ≡ before
 IsCounted (Some (lines width tolerance around file)) told before after = after ≡ before
 IsCounted (Some (heads style galley wrap)) told before after = IfSome told (λ held.
-    CountsRun (opened_style (named style) held) (opened galley wrap (held galley)) before after)
+    CountsRun Heads (opened_style (named style) held) (opened galley wrap (held galley)) before after)
 IsCounted (Some (compare style galley wrap)) told before after = IfSome told (λ held.
-    CountsRun (opened_style (named style) held) (opened galley wrap (held galley)) before after)
+    CountsRun Comparison (opened_style (named style) held) (opened galley wrap (held galley)) before after)
 IsCounted (Some (fold style galley folds nest wrap)) told before after = IfSome told (λ held.
-    CountsRun (opened_style (named style) held) (opened galley wrap (held galley)) before after)
+    CountsRun (Sheets folds nest) (opened_style (named style) held) (opened galley wrap (held galley)) before after)
 
 -- unless memory ran out
 abbrev pub UnlessMemory : Status → Type 0 → Type 0

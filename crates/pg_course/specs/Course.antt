@@ -2,8 +2,6 @@
 -- line for the user.
 use Rattle.std.specs.Prelude.{◌≡◌, ◌^◌, ◌+◌, ℕ, Bool, List, [], ◌∷◌, length, take, ◌⊎◌, nat_lt, nat_le, ⊤, Option, Some, None, ℤ}
 use Rattle.std.specs.Prelude.{Result, Ok, Err, MatchBool, MatchOption, IsSomeAnd, if◌then◌else◌}
-use Rattle.std.specs.List.{concat}
-use Rattle.std.specs.Io.KnownBytes.{Appends}
 use Rattle.pg_list.specs.GalleyValue.{GalleyValue}
 use Rattle.pg_style.specs.Values.{StyleValue}
 use Rattle.pg_style.specs.Plain as plain_values
@@ -21,7 +19,7 @@ use Rattle.pg_edits.specs.declared.script.ScriptStep.TheVariants.{Change, Show}
 use Rattle.pg_session.specs.Edits.{edit_fault, edited}
 use Rattle.law_check.specs.declared.answers.No.{No}
 use Rattle.law_check.specs.declared.answers.Proved.{Proved}
-use Rattle.pg_outside.specs.Outside.{Held, Rose, AppendsFront}
+use Rattle.pg_outside.specs.Outside.{Held, Rose, Sends, SendsFront, Sent}
 use Rattle.pg_command.specs.declared.status.Status.{Status}
 use Rattle.pg_command.specs.declared.status.Status.TheVariants.{Done, Usage, Refused, ReadFault, WriteFault, Memory}
 use Rattle.pg_command.specs.declared.status.Status.TheVariants.{NotProved}
@@ -348,27 +346,27 @@ OnMemory status P = ⊤
 
 -- ---- how a call went
 
--- a course ends with this status and line, and its texts are what was written
-pub record EndsBy (C : List (List ℕ) → Status → List ℕ → Type 0) (old new : Option (List ℕ)) (status : Status)
+-- a course ends with this status and line, and its texts are what was written, each in one write
+pub record EndsBy (C : List (List ℕ) → Status → List ℕ → Type 0) (old new : Sent) (status : Status)
     (line : List ℕ) : Type 0 where
   pub texts : List (List ℕ)
   pub course : C texts status line
-  pub written : Appends old new (concat texts)
+  pub written : Sends old new texts
 
--- a course has texts of which a front was written
-pub record BeginsBy (C : List (List ℕ) → Status → List ℕ → Type 0) (old new : Option (List ℕ)) : Type 0 where
+-- a course has texts of which a front was written, in as many writes as they are
+pub record BeginsBy (C : List (List ℕ) → Status → List ℕ → Type 0) (old new : Sent) : Type 0 where
   pub texts : List (List ℕ)
   pub end : Status
   pub line : List ℕ
   pub course : C texts end line
-  pub front : AppendsFront old new (concat texts)
+  pub front : SendsFront old new texts
 
 -- the command's course ends so
-abbrev pub Ended : Option Command → Held → Option (List ℕ) → Option (List ℕ) → Status → List ℕ → Type 0
+abbrev pub Ended : Option Command → Held → Sent → Sent → Status → List ℕ → Type 0
 Ended command held old new status line = EndsBy (Course command held) old new status line
 
 -- the command's course begins so: a front of the texts of a front of it was written
-abbrev pub EndedBefore : Option Command → Held → Option (List ℕ) → Option (List ℕ) → Type 0
+abbrev pub EndedBefore : Option Command → Held → Sent → Sent → Type 0
 EndedBefore command held old new = BeginsBy (CourseFront command held) old new
 
 -- a name is the file of a style

@@ -10,17 +10,20 @@ use Rattle.pg_rules.specs.Frontier.{Frontier}
 use Rattle.pg_rules.specs.Legal.{Legal}
 use Rattle.pg_pages.specs.PageText.{page_text, none_text}
 use Rattle.pg_labels.specs.LabelText.{label_text}
+use Rattle.law_page_text.specs.PageLaws.{ShowsEachOnce}
 use Rattle.law_texts.specs.Texts.{EachOnce}
 use Rattle.pg_command.specs.declared.status.Status.{Status}
 use Rattle.pg_command.specs.declared.status.Status.TheVariants.{Done, NoLegal}
 use Rattle.pg_course.specs.declared.paginate.PageText.{PageText}
 use Rattle.pg_course.specs.declared.paginate.PageText.TheVariants as page
 
--- the page text of the best pagination, with its cost; that pagination has each box, note and float once
+-- the page text of the best pagination, with its cost; that pagination has each box, note and float once, and the areas
+-- of that text show each note and float once
 pub record IsBestText (galley : GalleyValue) (style : StyleValue) (text : List ℕ) : Type 0 where
   pub plan : Pagination
   pub best : Best galley style plan
   pub once : EachOnce galley style plan
+  pub areas : ShowsEachOnce galley style plan
   pub written : text ≡ page_text galley style plan (cost galley style plan)
 
 -- the line for none, where no pagination is legal

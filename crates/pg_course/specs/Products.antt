@@ -75,8 +75,9 @@ CompareOut galley style text Done = IsSavedText galley style text
 CompareOut galley style text NoLegal = IsUnsavedText galley style text
 CompareOut galley style text end = ⊥
 
--- sheets from which, folded and put into each other, pages are read in their order, each once
+-- sheets, folded 1 to 4 times, from which, put into each other, pages are read in their order, each once
 pub record AreSheets (folds nest : ℕ) (plan : Pagination) (text : List ℕ) : Type 0 where
+  pub folded : IsFolds folds
   pub sheets : List Sheet
   pub reads : ReadsInOrder folds nest (length plan.pages) sheets
   pub written : text ≡ fold_text folds nest (length plan.pages) sheets

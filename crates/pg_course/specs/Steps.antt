@@ -1,7 +1,5 @@
 -- What a step of a script does over a session.
-use Rattle.std.specs.Prelude.{◌≡◌, ◌+◌, ◌⊎◌, ◌++◌, ℕ, Bool, true, false, List, length, Option, Some, None}
-use Rattle.std.specs.List.{concat}
-use Rattle.std.specs.Io.KnownBytes.{Appends}
+use Rattle.std.specs.Prelude.{◌≡◌, ◌+◌, ◌⊎◌, ◌++◌, ℕ, Bool, true, false, List, [], ◌∷◌, length, Some, None}
 use Rattle.pg_list.specs.declared.galley.Edit.{Edit}
 use Rattle.pg_edits.specs.declared.fault.EditFault.{EditFault}
 use Rattle.pg_edits.specs.declared.script.ScriptStep.{ScriptStep}
@@ -10,7 +8,7 @@ use Rattle.pg_session.specs.Edits.{edit_fault}
 use Rattle.pg_session.specs.SessionValue.{SessionValue}
 use Rattle.pg_session.specs.Sessions.{IsEdited}
 use Rattle.pg_session.specs.Shows.{AreAllCounted, Show, show_of, shows_from}
-use Rattle.pg_outside.specs.Outside.{AppendsFront, OverSink, Rose}
+use Rattle.pg_outside.specs.Outside.{OverOutput, Rose, Sends, SendsFront, Sent}
 use Rattle.pg_command.specs.declared.ending.Ending.{Ending}
 use Rattle.pg_command.specs.declared.ending.Ending.TheVariants as ending
 use Rattle.pg_command.specs.declared.status.Status.{Status}
@@ -30,36 +28,35 @@ ending_of_made true = ending.Done
 ending_of_made false = ending.NoLegal
 
 -- a change was accepted, and nothing was written
-pub record IsChange (edit : Edit) (old new : SessionValue) (legal : Bool) (written now : Option (List ℕ))
-    (before after : ℕ) : Type 0 where
+pub record IsChange (edit : Edit) (old new : SessionValue) (legal : Bool) (written now : Sent) (before after : ℕ)
+    : Type 0 where
   pub accepted : edit_fault old.galley old.style edit ≡ None
   pub edited : IsEdited old edit new
   pub legal_is : legal ≡ true
   pub keeps : now ≡ written
   pub still : after ≡ before
 
--- what a run writes for the galley as it stands was written
-pub record IsShow (labels : Bool) (old new : SessionValue) (legal : Bool) (written now : Option (List ℕ))
-    (before after : ℕ) : Type 0 where
+-- what a run writes for the galley as it stands was written, in one write
+pub record IsShow (labels : Bool) (old new : SessionValue) (legal : Bool) (written now : Sent) (before after : ℕ)
+    : Type 0 where
   pub text : List ℕ
-  pub out : RunOut labels old.galley old.style text (shown_end legal)
-  pub appends : Appends written now text
+  pub is : RunOut labels old.galley old.style text (shown_end legal)
+  pub sends : Sends written now (text ∷ [])
   pub shown : IsShown old new before after
 
 -- a step was made; a galley that was shown had a legal pagination, or not
-abbrev pub IsStep : Bool → ScriptStep → SessionValue → SessionValue → Bool → Option (List ℕ) → Option (List ℕ) → ℕ → ℕ
-    → Type 0
+abbrev pub IsStep : Bool → ScriptStep → SessionValue → SessionValue → Bool → Sent → Sent → ℕ → ℕ → Type 0
 IsStep labels (Change edit) old new legal written now before after =
     IsChange edit old new legal written now before after
 IsStep labels AShow old new legal written now before after = IsShow labels old new legal written now before after
 
 -- memory ran out in a step, and nothing was written
-pub record IsForgotten (out : OverSink) (end : Ending) : Type 0 where
+pub record IsForgotten (out : OverOutput) (end : Ending) : Type 0 where
   pub ends : end ≡ ending.Memory
   pub keeps : out.new ≡ out.old
 
 -- a change was refused, and nothing was written
-pub record IsRefused (edit : Edit) (number : ℕ) (old : SessionValue) (out : OverSink) (before after : ℕ) (end : Ending)
+pub record IsRefused (edit : Edit) (number : ℕ) (old : SessionValue) (out : OverOutput) (before after : ℕ) (end : Ending)
     : Type 0 where
   pub fault : EditFault
   pub cause : edit_fault old.galley old.style edit ≡ Some fault
@@ -67,19 +64,19 @@ pub record IsRefused (edit : Edit) (number : ℕ) (old : SessionValue) (out : Ov
   pub keeps : out.new ≡ out.old
   pub still : after ≡ before
 
--- the output failed, and a front of what a run writes for the galley as it stands was written
-pub record IsUnwritten (labels : Bool) (old new : SessionValue) (out : OverSink) (before after : ℕ) (end : Ending)
+-- the output failed, and a front of what a run writes for the galley as it stands was written, in one write
+pub record IsUnwritten (labels : Bool) (old new : SessionValue) (out : OverOutput) (before after : ℕ) (end : Ending)
     : Type 0 where
   pub ends : end ≡ ending.WriteFault
   pub rose : Rose out.before out.after
   pub text : List ℕ
   pub legal : Bool
   pub is : RunOut labels old.galley old.style text (shown_end legal)
-  pub front : AppendsFront out.old out.new text
+  pub front : SendsFront out.old out.new (text ∷ [])
   pub shown : IsShown old new before after
 
 -- why a step was not made
-abbrev pub IsNoStep : Bool → ScriptStep → ℕ → SessionValue → SessionValue → OverSink → ℕ → ℕ → Ending → Type 0
+abbrev pub IsNoStep : Bool → ScriptStep → ℕ → SessionValue → SessionValue → OverOutput → ℕ → ℕ → Ending → Type 0
 IsNoStep labels (Change edit) number old new out before after end =
     IsForgotten out end ⊎ IsRefused edit number old out before after end
 IsNoStep labels AShow number old new out before after end =
@@ -88,13 +85,13 @@ IsNoStep labels AShow number old new out before after end =
 -- some steps of a script were made from the first session on: what the rest does from here is what all do from there,
 -- and so it is with the shows and with what is written
 pub record AreMade (labels : Bool) (first : SessionValue) (made : List ScriptStep) (now : SessionValue) (legal : Bool)
-    (old new : Option (List ℕ)) (before after : ℕ) : Type 0 where
+    (old new : Sent) (before after : ℕ) : Type 0 where
   pub style : now.style ≡ first.style
   pub texts : List (List ℕ)
   pub goes_on : (rest : List ScriptStep) (later : List (List ℕ)) (last : Status) (line : List ℕ) →
       EditSteps labels first.style now.galley (length made + 1) (shown_end legal) rest later last line →
       EditSteps labels first.style first.galley 1 Done (made ++ rest) (texts ++ later) last line
-  pub written : Appends old new (concat texts)
+  pub written : Sends old new texts
   pub shown : List Show
   pub shows_on : (rest : List ScriptStep) → shows_from (show_of first) first.style (made ++ rest)
       ≡ shown ++ shows_from (show_of now) first.style rest

@@ -1,6 +1,6 @@
 //! The command `check`.
 ghost use Rattle.std.specs.Prelude.{◌≡◌, ℕ, List, Option, Ok, Some, IfSome};
-ghost use Rattle.pg_outside.specs.Outside.{over_sink};
+ghost use Rattle.pg_outside.specs.Outside.{over_output};
 ghost use Rattle.pg_floats.specs.AreFloats.{AreFloats};
 ghost use Rattle.pg_labels.specs.Reading.{IsFew};
 ghost use Rattle.pg_command.specs.declared.status.Status.TheVariants.{Done};
@@ -27,7 +27,7 @@ use std::alloc::Global;
 // Writes the line of a yes in one piece.
 fn write_yes<'a, O: Sink>(alloc: Global, proved: Proved, out: &mut O) -> Ending<'a>
     ensures writes { Writes (OneText (yes_line proved) Done)
-        (over_sink (O.written out.old) (O.written out.new) (O.faults out.old) (O.faults out.new)) result }
+        (over_output O.written O.writes O.faults out.old out.new) result }
 {
     match yes_line_of(alloc, proved) {
         Err(_) => Ending::Memory,
@@ -60,7 +60,7 @@ fn check_output<'a, O: Sink>(
     requires floats { AreFloats galley.now.blocks style.now floats.now }
     requires few { IsFew output.now }
     ensures writes { Writes (CheckOutput style.now galley.now output.now)
-        (over_sink (O.written out.old) (O.written out.new) (O.faults out.old) (O.faults out.new)) result }
+        (over_output O.written O.writes O.faults out.old out.new) result }
 {
     match check(alloc, galley, style, floats, output) {
         Err(fault) => ending_of_no(fault),
@@ -81,7 +81,7 @@ fn check_file<'a, H: Shelf, O: Sink>(
     requires { AreFloats galley.now.blocks style.now floats.now }
     ensures goes { GoesOn (λ held. CheckText style.now galley.now (opened_output name.now (held name.now))) name.now
         (over_shelf (H.held shelf.old) (H.faults shelf.old) (H.faults shelf.new) (H.last_failed shelf.new))
-        (over_sink (O.written out.old) (O.written out.new) (O.faults out.old) (O.faults out.new)) result }
+        (over_output O.written O.writes O.faults out.old out.new) result }
 {
     match open_output(alloc, name, shelf) {
         Err(ending) => ending,
@@ -102,12 +102,12 @@ fn check_galley<'a, H: Shelf, O: Sink>(
         IfSome (H.held shelf.old) (AreRead style_file galley_file wrap style.now galley.now) →
         Goes (Some (check_command style_file galley_file name.now wrap))
         (over_shelf (H.held shelf.old) (H.faults shelf.old) (H.faults shelf.new) (H.last_failed shelf.new))
-        (over_sink (O.written out.old) (O.written out.new) (O.faults out.old) (O.faults out.new)) result }
+        (over_output O.written O.writes O.faults out.old out.new) result }
     ensures complete { (style_file galley_file : List ℕ) (wrap : Option ℕ) →
         IfSome (H.held shelf.old) (AreRead style_file galley_file wrap style.now galley.now) →
         IsComplete (Some (check_command style_file galley_file name.now wrap))
         (over_shelf (H.held shelf.old) (H.faults shelf.old) (H.faults shelf.new) (H.last_failed shelf.new))
-        (over_sink (O.written out.old) (O.written out.new) (O.faults out.old) (O.faults out.new)) (status_of result) }
+        (over_output O.written O.writes O.faults out.old out.new) (status_of result) }
 {
     labelled_texts_tell(galley, style);
     match FloatList::of(alloc, galley, style) {
@@ -130,12 +130,12 @@ fn check_styled<'a, H: Shelf, O: Sink>(
         IfSome (H.held shelf.old) (λ held. opened_style (named style_file) held ≡ Ok style.now) →
         Goes (Some (check_command style_file galley.now output.now wrap))
         (over_shelf (H.held shelf.old) (H.faults shelf.old) (H.faults shelf.new) (H.last_failed shelf.new))
-        (over_sink (O.written out.old) (O.written out.new) (O.faults out.old) (O.faults out.new)) result }
+        (over_output O.written O.writes O.faults out.old out.new) result }
     ensures complete { (style_file : List ℕ) →
         IfSome (H.held shelf.old) (λ held. opened_style (named style_file) held ≡ Ok style.now) →
         IsComplete (Some (check_command style_file galley.now output.now wrap))
         (over_shelf (H.held shelf.old) (H.faults shelf.old) (H.faults shelf.new) (H.last_failed shelf.new))
-        (over_sink (O.written out.old) (O.written out.new) (O.faults out.old) (O.faults out.new)) (status_of result) }
+        (over_output O.written O.writes O.faults out.old out.new) (status_of result) }
 {
     match open_galley(alloc, galley, wrap, shelf) {
         Err(ending) => ending,
@@ -157,10 +157,10 @@ pub fn check_course<'a, H: Shelf, O: Sink>(
 ) -> Ending<'a>
     ensures goes { Goes (Some (check_command style.now galley.now output.now wrap))
         (over_shelf (H.held shelf.old) (H.faults shelf.old) (H.faults shelf.new) (H.last_failed shelf.new))
-        (over_sink (O.written out.old) (O.written out.new) (O.faults out.old) (O.faults out.new)) result }
+        (over_output O.written O.writes O.faults out.old out.new) result }
     ensures complete { IsComplete (Some (check_command style.now galley.now output.now wrap))
         (over_shelf (H.held shelf.old) (H.faults shelf.old) (H.faults shelf.new) (H.last_failed shelf.new))
-        (over_sink (O.written out.old) (O.written out.new) (O.faults out.old) (O.faults out.new)) (status_of result) }
+        (over_output O.written O.writes O.faults out.old out.new) (status_of result) }
 {
     match open_style(alloc, StyleWord::Named(style), shelf) {
         Err(ending) => ending,

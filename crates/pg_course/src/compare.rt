@@ -1,6 +1,6 @@
 //! The command `compare`.
 ghost use Rattle.std.specs.Prelude.{◌≡◌, ◌++◌, ◌∷◌, ◌-ℤ◌, [], length, Some, IfOk, OnOk};
-ghost use Rattle.pg_outside.specs.Outside.{over_sink};
+ghost use Rattle.pg_outside.specs.Outside.{over_output};
 ghost use Rattle.pg_plan.specs.declared.pages.Pagination.{Pagination as APagination};
 ghost use Rattle.pg_rules.specs.Best.{Best};
 ghost use Rattle.pg_rules.specs.Cost.{cost as cost_of};
@@ -15,9 +15,10 @@ ghost use Rattle.pg_table.specs.Space.{Small};
 ghost use Rattle.pg_command.specs.Lines.{status_of};
 ghost use Rattle.pg_command.specs.Words.{compare as compare_command};
 ghost use Rattle.pg_course.specs.Calls.{Goes, Writes, fit_ending, over_shelf};
-ghost use Rattle.pg_course.specs.Counted.{IsCounted, IsShown, UnlessMemory};
+ghost use Rattle.pg_course.specs.Counted.{IsCounted, IsShown, UnlessMemory, made_shows};
 ghost use Rattle.pg_course.specs.Course.{CompareGalley, WritesOne};
 ghost use Rattle.pg_course.specs.Out.{bytes_of, end_of};
+ghost use Rattle.pg_course.specs.declared.product.Product.TheVariants.{Comparison};
 ghost use Rattle.pg_course.specs.Products.{BreaksAt, CompareOut, IsSavedText, IsUnsavedText};
 
 use crate::open::open_style;
@@ -213,7 +214,7 @@ fn write_compared<'a, O: Sink, L: Ledger>(
 ) -> Ending<'a>
     requires fit { IsFirstFit session.old.galley session.old.style first.now }
     ensures writes { Writes (WritesOne CompareOut session.old.style session.old.galley)
-        (over_sink (O.written out.old) (O.written out.new) (O.faults out.old) (O.faults out.new)) result }
+        (over_output O.written O.writes O.faults out.old out.new) result }
     ensures shown { UnlessMemory (status_of result) (IsShown session.old session.new steps.old steps.new) }
 {
     match compared_text_of(alloc, session, first, steps) {
@@ -233,7 +234,7 @@ fn no_fit<'a>(fault: GreedyFault) -> Ending<'a>
 }
 
 /// Writes first fit beside the best pages of the galley of a session as it stands in one piece, and answers how that
-/// ends the run. A galley without a first fit is not paginated.
+/// ends the run. A galley without a first fit is not paginated, and takes no step.
 pub fn write_comparison<'a, O: Sink, L: Ledger>(
     alloc: Global,
     session: &mut Session,
@@ -241,9 +242,10 @@ pub fn write_comparison<'a, O: Sink, L: Ledger>(
     steps: &mut Steps<L>,
 ) -> Ending<'a>
     ensures writes { Writes (CompareGalley session.old.style session.old.galley)
-        (over_sink (O.written out.old) (O.written out.new) (O.faults out.old) (O.faults out.new)) result }
+        (over_output O.written O.writes O.faults out.old out.new) result }
     ensures counted { UnlessMemory (status_of result)
-        (AreCounted session.old.style (show_of session.old ∷ []) steps.old steps.new) }
+        (AreCounted session.old.style
+        (made_shows Comparison session.old.style session.old.galley (show_of session.old ∷ [])) steps.old steps.new) }
 {
     match first_fit(alloc, session.galley(), session.style()) {
         Err(fault) => no_fit(fault),
@@ -263,7 +265,7 @@ pub fn compare_course<'a, H: Shelf, O: Sink, L: Ledger>(
 ) -> Ending<'a>
     ensures goes { Goes (Some (compare_command style.now galley.now wrap))
         (over_shelf (H.held shelf.old) (H.faults shelf.old) (H.faults shelf.new) (H.last_failed shelf.new))
-        (over_sink (O.written out.old) (O.written out.new) (O.faults out.old) (O.faults out.new)) result }
+        (over_output O.written O.writes O.faults out.old out.new) result }
     ensures counted { UnlessMemory (status_of result)
         (IsCounted (Some (compare_command style.now galley.now wrap)) (H.held shelf.old) steps.old steps.new) }
 {

@@ -1,6 +1,6 @@
 //! The command `edit`.
 ghost use Rattle.std.specs.Prelude.{◌≡◌, ◌≤◌, ◌^◌, ℕ, List, Option, None, Ok, Some, IfErr, IfOk, IfSome};
-ghost use Rattle.pg_outside.specs.Outside.{over_sink};
+ghost use Rattle.pg_outside.specs.Outside.{over_output, sent};
 ghost use Rattle.pg_command.specs.Lines.{status_of};
 ghost use Rattle.pg_command.specs.Words.{edit as edit_command, named};
 ghost use Rattle.pg_edits.specs.declared.script.ScriptStep.TheVariants.{Show as AShow};
@@ -45,9 +45,9 @@ fn show<'a, O: Sink, L: Ledger>(
     steps: &mut Steps<L>,
 ) -> Result<bool, Ending<'a>>
     ensures made { IfOk result (λ legal. IsStep labels AShow session.old session.new legal
-        (O.written out.old) (O.written out.new) steps.old steps.new) }
+        (sent O.written O.writes out.old) (sent O.written O.writes out.new) steps.old steps.new) }
     ensures not_made { (number : ℕ) → IfErr result (IsNoStep labels AShow number session.old session.new
-        (over_sink (O.written out.old) (O.written out.new) (O.faults out.old) (O.faults out.new)) steps.old steps.new) }
+        (over_output O.written O.writes O.faults out.old out.new) steps.old steps.new) }
     ensures later { O.faults out.old ≤ O.faults out.new }
 {
     match page_text_of(alloc, session, labels, steps) {
@@ -70,9 +70,9 @@ fn make_step<'a, O: Sink, L: Ledger>(
     steps: &mut Steps<L>,
 ) -> Result<bool, Ending<'a>>
     ensures made { IfOk result (λ legal. IsStep labels step.now session.old session.new legal
-        (O.written out.old) (O.written out.new) steps.old steps.new) }
+        (sent O.written O.writes out.old) (sent O.written O.writes out.new) steps.old steps.new) }
     ensures not_made { IfErr result (IsNoStep labels step.now number session.old session.new
-        (over_sink (O.written out.old) (O.written out.new) (O.faults out.old) (O.faults out.new)) steps.old steps.new) }
+        (over_output O.written O.writes O.faults out.old out.new) steps.old steps.new) }
     ensures later { O.faults out.old ≤ O.faults out.new }
 {
     match step {
@@ -94,11 +94,11 @@ fn make_each<'a, O: Sink, L: Ledger>(
     steps: &mut Steps<L>,
 ) -> Result<bool, Ending<'a>>
     ensures made { IfOk result (λ legal. AreMade labels session.old script.now session.new legal
-        (O.written out.old) (O.written out.new) steps.old steps.new) }
+        (sent O.written O.writes out.old) (sent O.written O.writes out.new) steps.old steps.new) }
     ensures ends { IfErr result (λ ending.
         WritesOn (EditSteps labels session.old.style session.old.galley 1 Done script.now)
         (EditFront labels session.old.style session.old.galley script.now)
-        (over_sink (O.written out.old) (O.written out.new) (O.faults out.old) (O.faults out.new)) ending) }
+        (over_output O.written O.writes O.faults out.old out.new) ending) }
     ensures counted { IfErr result (λ ending. UnlessMemory (status_of ending) (AreCounted session.old.style
         (shows_from (show_of session.old) session.old.style script.now) steps.old steps.new)) }
 {
@@ -132,7 +132,7 @@ fn make_steps<'a, O: Sink, L: Ledger>(
 ) -> Ending<'a>
     ensures writes { WritesOn (EditSteps labels session.old.style session.old.galley 1 Done script.now)
         (EditFront labels session.old.style session.old.galley script.now)
-        (over_sink (O.written out.old) (O.written out.new) (O.faults out.old) (O.faults out.new)) result }
+        (over_output O.written O.writes O.faults out.old out.new) result }
     ensures counted { UnlessMemory (status_of result) (AreCounted session.old.style
         (shows_from (show_of session.old) session.old.style script.now) steps.old steps.new) }
 {
@@ -159,7 +159,7 @@ fn edit_file<'a, H: Shelf, O: Sink, L: Ledger>(
         (λ held. ScriptFront labels session.old.style session.old.galley (opened_script name.now (held name.now)))
         name.now
         (over_shelf (H.held shelf.old) (H.faults shelf.old) (H.faults shelf.new) (H.last_failed shelf.new))
-        (over_sink (O.written out.old) (O.written out.new) (O.faults out.old) (O.faults out.new)) result }
+        (over_output O.written O.writes O.faults out.old out.new) result }
     ensures counted { UnlessMemory (status_of result) (IfSome (H.held shelf.old) (λ held.
         CountsScript session.old.style (show_of session.old) (opened_script name.now (held name.now))
         steps.old steps.new)) }
@@ -185,7 +185,7 @@ fn edit_galley<'a, H: Shelf, O: Sink, L: Ledger>(
         IfSome (H.held shelf.old) (AreRead style_file galley_file wrap style galley) →
         Goes (Some (edit_command style_file galley_file name.now labels wrap))
         (over_shelf (H.held shelf.old) (H.faults shelf.old) (H.faults shelf.new) (H.last_failed shelf.new))
-        (over_sink (O.written out.old) (O.written out.new) (O.faults out.old) (O.faults out.new)) result }
+        (over_output O.written O.writes O.faults out.old out.new) result }
     ensures counted { UnlessMemory (status_of result) (IfSome (H.held shelf.old) (λ held.
         CountsEdit (Ok style) (Ok galley) (opened_script name.now (held name.now)) steps.old steps.new)) }
 {
@@ -211,7 +211,7 @@ fn edit_styled<'a, H: Shelf, O: Sink, L: Ledger>(
         IfSome (H.held shelf.old) (λ held. opened_style (named style_file) held ≡ Ok style) →
         Goes (Some (edit_command style_file galley.now script.now labels wrap))
         (over_shelf (H.held shelf.old) (H.faults shelf.old) (H.faults shelf.new) (H.last_failed shelf.new))
-        (over_sink (O.written out.old) (O.written out.new) (O.faults out.old) (O.faults out.new)) result }
+        (over_output O.written O.writes O.faults out.old out.new) result }
     ensures counted { UnlessMemory (status_of result) (IfSome (H.held shelf.old) (λ held.
         CountsEdit (Ok style) (opened galley.now wrap (held galley.now)) (opened_script script.now (held script.now))
         steps.old steps.new)) }
@@ -240,7 +240,7 @@ pub fn edit_course<'a, H: Shelf, O: Sink, L: Ledger>(
 ) -> Ending<'a>
     ensures goes { Goes (Some (edit_command style.now galley.now script.now labels wrap))
         (over_shelf (H.held shelf.old) (H.faults shelf.old) (H.faults shelf.new) (H.last_failed shelf.new))
-        (over_sink (O.written out.old) (O.written out.new) (O.faults out.old) (O.faults out.new)) result }
+        (over_output O.written O.writes O.faults out.old out.new) result }
     ensures counted { UnlessMemory (status_of result)
         (IsCounted (Some (edit_command style.now galley.now script.now labels wrap)) (H.held shelf.old)
         steps.old steps.new) }

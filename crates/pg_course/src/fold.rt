@@ -1,6 +1,6 @@
 //! The command `fold`.
 ghost use Rattle.std.specs.Prelude.{◌≡◌, ◌<◌, ◌≤◌, ◌^◌, List, length, Some, IfOk, OnOk};
-ghost use Rattle.pg_outside.specs.Outside.{over_sink};
+ghost use Rattle.pg_outside.specs.Outside.{over_output};
 ghost use Rattle.pg_floats.specs.AreFloats.{float_total};
 ghost use Rattle.pg_fold.specs.Laws.{ReadsInOrder};
 ghost use Rattle.pg_fold.specs.SheetsText.{fold_text};
@@ -125,7 +125,7 @@ pub fn write_sheets<'a, O: Sink, L: Ledger>(
     requires folds { IsFolds folds }
     requires nest { IsNest nest }
     ensures writes { Writes (WritesOne (SheetsOut folds nest) session.old.style session.old.galley)
-        (over_sink (O.written out.old) (O.written out.new) (O.faults out.old) (O.faults out.new)) result }
+        (over_output O.written O.writes O.faults out.old out.new) result }
     ensures shown { UnlessMemory (status_of result) (IsShown session.old session.new steps.old steps.new) }
 {
     match sheets_text_of(alloc, session, folds, nest, steps) {
@@ -151,7 +151,7 @@ pub fn fold_course<'a, H: Shelf, O: Sink, L: Ledger>(
     requires nest { IsNest nest }
     ensures goes { Goes (Some (fold_command style.now galley.now folds nest wrap))
         (over_shelf (H.held shelf.old) (H.faults shelf.old) (H.faults shelf.new) (H.last_failed shelf.new))
-        (over_sink (O.written out.old) (O.written out.new) (O.faults out.old) (O.faults out.new)) result }
+        (over_output O.written O.writes O.faults out.old out.new) result }
     ensures counted { UnlessMemory (status_of result)
         (IsCounted (Some (fold_command style.now galley.now folds nest wrap)) (H.held shelf.old)
         steps.old steps.new) }

@@ -1,6 +1,6 @@
 //! The command `heads`.
 ghost use Rattle.std.specs.Prelude.{◌≡◌, ◌<◌, ◌^◌, ◌++◌, length, Some, IfOk, OnOk};
-ghost use Rattle.pg_outside.specs.Outside.{over_sink};
+ghost use Rattle.pg_outside.specs.Outside.{over_output};
 ghost use Rattle.law_course.specs.MarkLaws.{LegalColumnsFit};
 ghost use Rattle.pg_marks.specs.Fitting.{AllFit};
 ghost use Rattle.pg_marks.specs.Heads.{heads as the_heads, references as the_references};
@@ -112,7 +112,7 @@ pub fn write_heads<'a, O: Sink, L: Ledger>(
     steps: &mut Steps<L>,
 ) -> Ending<'a>
     ensures writes { Writes (WritesOne HeadsOut session.old.style session.old.galley)
-        (over_sink (O.written out.old) (O.written out.new) (O.faults out.old) (O.faults out.new)) result }
+        (over_output O.written O.writes O.faults out.old out.new) result }
     ensures shown { UnlessMemory (status_of result) (IsShown session.old session.new steps.old steps.new) }
 {
     match heads_text_of(alloc, session, steps) {
@@ -134,7 +134,7 @@ pub fn heads_course<'a, H: Shelf, O: Sink, L: Ledger>(
 ) -> Ending<'a>
     ensures goes { Goes (Some (heads_command style.now galley.now wrap))
         (over_shelf (H.held shelf.old) (H.faults shelf.old) (H.faults shelf.new) (H.last_failed shelf.new))
-        (over_sink (O.written out.old) (O.written out.new) (O.faults out.old) (O.faults out.new)) result }
+        (over_output O.written O.writes O.faults out.old out.new) result }
     ensures counted { UnlessMemory (status_of result)
         (IsCounted (Some (heads_command style.now galley.now wrap)) (H.held shelf.old) steps.old steps.new) }
 {

@@ -1,6 +1,6 @@
 //! The command `lines`.
 ghost use Rattle.std.specs.Prelude.{◌≡◌, Ok, Some};
-ghost use Rattle.pg_outside.specs.Outside.{over_sink};
+ghost use Rattle.pg_outside.specs.Outside.{over_output};
 ghost use Rattle.pg_command.specs.Words.{IsLineRule, lines as lines_command};
 ghost use Rattle.law_lines.specs.ParagraphsLaws.{IsRule};
 ghost use Rattle.pg_lines.specs.Answers.{AnswersLines};
@@ -69,7 +69,7 @@ fn write_lines<'a, O: Sink>(
     requires rule { IsRule rule.now }
     requires said { AreSaid paras.now }
     ensures writes { Writes (LinesCourse rule.now name.now (Ok paras.now))
-        (over_sink (O.written out.old) (O.written out.new) (O.faults out.old) (O.faults out.new)) result }
+        (over_output O.written O.writes O.faults out.old out.new) result }
 {
     lines_read_back(rule);
     match galley_of(alloc, paras, rule) {
@@ -95,7 +95,7 @@ pub fn lines_course<'a, H: Shelf, O: Sink>(
     requires { IsLineRule width tolerance around }
     ensures goes { Goes (Some (lines_command width tolerance around file.now))
         (over_shelf (H.held shelf.old) (H.faults shelf.old) (H.faults shelf.new) (H.last_failed shelf.new))
-        (over_sink (O.written out.old) (O.written out.new) (O.faults out.old) (O.faults out.new)) result }
+        (over_output O.written O.writes O.faults out.old out.new) result }
 {
     let rule = line_rule(width, tolerance, around);
     match open_paras(alloc, file, shelf) {

@@ -1,6 +1,6 @@
 //! The command `make`.
 ghost use Rattle.std.specs.Prelude.{◌≡◌, ◌≤◌, IfOk, OnOk, Some};
-ghost use Rattle.pg_outside.specs.Outside.{over_sink};
+ghost use Rattle.pg_outside.specs.Outside.{over_output};
 ghost use Rattle.pg_command.specs.Lines.{status_of};
 ghost use Rattle.pg_command.specs.Words.{make as make_command};
 ghost use Rattle.pg_make.specs.Generated.{made_galley};
@@ -77,7 +77,7 @@ fn write_line<'a, O: Sink, L: Ledger>(
 ) -> Ending<'a>
     requires { count ≤ 2000 }
     ensures writes { Writes (MakeCourse count)
-        (over_sink (O.written out.old) (O.written out.new) (O.faults out.old) (O.faults out.new)) result }
+        (over_output O.written O.writes O.faults out.old out.new) result }
     ensures counted { UnlessMemory (status_of result)
         (AreCounted made_style (one_show (made_galley count)) steps.old steps.new) }
 {
@@ -97,7 +97,7 @@ pub fn make_course<'a, O: Sink, L: Ledger>(
 ) -> Ending<'a>
     requires { count ≤ 2000 }
     ensures goes { (shelf : OverShelf) → Goes (Some (make_command count)) shelf
-        (over_sink (O.written out.old) (O.written out.new) (O.faults out.old) (O.faults out.new)) result }
+        (over_output O.written O.writes O.faults out.old out.new) result }
     ensures counted { UnlessMemory (status_of result)
         (AreCounted made_style (one_show (made_galley count)) steps.old steps.new) }
 {

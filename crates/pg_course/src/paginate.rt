@@ -2,12 +2,14 @@
 ghost use Rattle.std.specs.Prelude.{◌≡◌, ◌++◌, true, false, IfOk, OnOk};
 ghost use Rattle.pg_floats.specs.AreFloats.{AreFloats};
 ghost use Rattle.pg_space.specs.Solves.{Solves};
+ghost use Rattle.law_page_text.specs.PageLaws.{LegalShowEachOnce};
 ghost use Rattle.law_texts.specs.Texts.{LegalHaveEachOnce};
 ghost use Rattle.pg_labels.specs.LabelText.{label_text};
 ghost use Rattle.pg_course.specs.Counted.{IsShown};
 ghost use Rattle.pg_course.specs.Steps.{shown_end};
 ghost use Rattle.pg_course.specs.Out.{Out, RunOut, bytes_of, end_of, tells_fitness};
 
+use law_page_text::pages_have_each_once;
 use law_texts::legal_plans_have_each_once;
 use pg_floats::FloatList;
 use pg_labels::print_labels;
@@ -49,14 +51,16 @@ impl PageText {
     }
 }
 
-// Each box, note and float stands once in a legal pagination.
+// Each box, note and float stands once in a legal pagination, and each note and float once in the areas of its text.
 fn each_once(galley: &Galley, style: &Style)
-    ensures { LegalHaveEachOnce galley.now style.now }
+    ensures once { LegalHaveEachOnce galley.now style.now }
+    ensures areas { LegalShowEachOnce galley.now style.now }
 {
-    // Both hand on what the types keep, which the law asks for.
+    // Both hand on what the types keep, which the laws ask for.
     style.stays_in_range();
     let _ = galley.blocks().as_slice();
     legal_plans_have_each_once(galley, style);
+    pages_have_each_once(galley, style);
 }
 
 // The text of the best pagination, or the line for none where none is legal.

@@ -1,10 +1,10 @@
 //! What a command makes of a galley.
 ghost use Rattle.std.specs.Prelude.{◌≡◌, ◌<◌, ◌^◌, ◌∷◌, [], length};
-ghost use Rattle.pg_outside.specs.Outside.{over_sink};
+ghost use Rattle.pg_outside.specs.Outside.{over_output};
 ghost use Rattle.pg_session.specs.Shows.{AreCounted, show_of};
 ghost use Rattle.pg_command.specs.Lines.{status_of};
 ghost use Rattle.pg_course.specs.Calls.{Writes};
-ghost use Rattle.pg_course.specs.Counted.{UnlessMemory};
+ghost use Rattle.pg_course.specs.Counted.{UnlessMemory, made_shows};
 ghost use Rattle.pg_course.specs.Course.{MakesGalley};
 ghost use Rattle.pg_course.specs.Products.{IsProduct};
 
@@ -51,9 +51,10 @@ pub fn write_product<'a, O: Sink, L: Ledger>(
 ) -> Ending<'a>
     requires { IsProduct product }
     ensures writes { Writes (MakesGalley product session.old.style session.old.galley)
-        (over_sink (O.written out.old) (O.written out.new) (O.faults out.old) (O.faults out.new)) result }
+        (over_output O.written O.writes O.faults out.old out.new) result }
     ensures counted { UnlessMemory (status_of result)
-        (AreCounted session.old.style (show_of session.old ∷ []) steps.old steps.new) }
+        (AreCounted session.old.style
+        (made_shows product session.old.style session.old.galley (show_of session.old ∷ [])) steps.old steps.new) }
 {
     match product {
         Product::Pages { labels } => write_shown(alloc, session, labels, out, steps),

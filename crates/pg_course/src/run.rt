@@ -1,13 +1,13 @@
 //! The command `run`.
 ghost use Rattle.std.specs.Prelude.{◌≡◌, Some, Ok, IfSome};
-ghost use Rattle.pg_outside.specs.Outside.{over_sink};
+ghost use Rattle.pg_outside.specs.Outside.{over_output};
 ghost use Rattle.pg_session.specs.Shows.{AreCounted, one_show};
 ghost use Rattle.pg_command.specs.Lines.{status_of};
 ghost use Rattle.pg_command.specs.Words.{run as run_command, style_name, IsStyle};
 ghost use Rattle.pg_course.specs.Course.{PaginateGalley, RunGalley, RunCourse, opened};
 ghost use Rattle.pg_course.specs.Products.{IsProduct};
 ghost use Rattle.pg_course.specs.Calls.{Goes, GoesOn, Writes, ending_of, over_shelf};
-ghost use Rattle.pg_course.specs.Counted.{CountsRun, IsCounted, IsShown, UnlessMemory, taken_shows};
+ghost use Rattle.pg_course.specs.Counted.{CountsRun, IsCounted, IsShown, UnlessMemory, made_shows, taken_shows};
 
 use crate::open::{open_galley, open_style};
 use crate::paginate::page_text_of;
@@ -33,7 +33,7 @@ pub fn write_shown<'a, O: Sink, L: Ledger>(
     steps: &mut Steps<L>,
 ) -> Ending<'a>
     ensures writes { Writes (PaginateGalley labels session.old.style session.old.galley)
-        (over_sink (O.written out.old) (O.written out.new) (O.faults out.old) (O.faults out.new)) result }
+        (over_output O.written O.writes O.faults out.old out.new) result }
     ensures shown { UnlessMemory (status_of result) (IsShown session.old session.new steps.old steps.new) }
 {
     match page_text_of(alloc, session, labels, steps) {
@@ -64,9 +64,9 @@ fn run_galley<'a, O: Sink, L: Ledger>(
 ) -> Ending<'a>
     requires { IsProduct product }
     ensures writes { Writes (RunGalley product style galley)
-        (over_sink (O.written out.old) (O.written out.new) (O.faults out.old) (O.faults out.new)) result }
+        (over_output O.written O.writes O.faults out.old out.new) result }
     ensures counted { UnlessMemory (status_of result) (AreCounted style
-        (taken_shows style galley (one_show galley)) steps.old steps.new) }
+        (taken_shows style galley (made_shows product style galley (one_show galley))) steps.old steps.new) }
 {
     match Session::new(alloc, galley, style) {
         Err(fault) => float_ending(fault),
@@ -88,9 +88,9 @@ pub fn run_file<'a, H: Shelf, O: Sink, L: Ledger>(
     requires { IsProduct product }
     ensures goes { GoesOn (λ held. RunCourse product style (opened name.now wrap (held name.now))) name.now
         (over_shelf (H.held shelf.old) (H.faults shelf.old) (H.faults shelf.new) (H.last_failed shelf.new))
-        (over_sink (O.written out.old) (O.written out.new) (O.faults out.old) (O.faults out.new)) result }
+        (over_output O.written O.writes O.faults out.old out.new) result }
     ensures counted { UnlessMemory (status_of result) (IfSome (H.held shelf.old) (λ held.
-        CountsRun (Ok style) (opened name.now wrap (held name.now)) steps.old steps.new)) }
+        CountsRun product (Ok style) (opened name.now wrap (held name.now)) steps.old steps.new)) }
 {
     match open_galley(alloc, name, wrap, shelf) {
         Err(ending) => ending,
@@ -113,7 +113,7 @@ pub fn run_course<'a, H: Shelf, O: Sink, L: Ledger>(
     requires { IsStyle style }
     ensures goes { Goes (Some (run_command (style_name style.entry) name.now labels wrap))
         (over_shelf (H.held shelf.old) (H.faults shelf.old) (H.faults shelf.new) (H.last_failed shelf.new))
-        (over_sink (O.written out.old) (O.written out.new) (O.faults out.old) (O.faults out.new)) result }
+        (over_output O.written O.writes O.faults out.old out.new) result }
     ensures counted { UnlessMemory (status_of result)
         (IsCounted (Some (run_command (style_name style.entry) name.now labels wrap)) (H.held shelf.old)
         steps.old steps.new) }

@@ -1,6 +1,6 @@
 //! The command `show`.
 ghost use Rattle.std.specs.Prelude.{Some};
-ghost use Rattle.pg_outside.specs.Outside.{over_sink};
+ghost use Rattle.pg_outside.specs.Outside.{over_output};
 ghost use Rattle.pg_command.specs.Words.{show as show_command};
 ghost use Rattle.pg_course.specs.Course.{ShowGalley};
 ghost use Rattle.pg_course.specs.Calls.{Goes, Writes, over_shelf};
@@ -15,7 +15,7 @@ use std::alloc::Global;
 /// Writes the text of a galley in one piece, and answers how that ends the run.
 pub fn write_galley<'a, O: Sink>(alloc: Global, galley: &Galley, out: &mut O) -> Ending<'a>
     ensures writes { Writes (ShowGalley galley.now)
-        (over_sink (O.written out.old) (O.written out.new) (O.faults out.old) (O.faults out.new)) result }
+        (over_output O.written O.writes O.faults out.old out.new) result }
 {
     let mut text = Vec::new(alloc);
     match print_galley(galley, &mut text) {
@@ -37,7 +37,7 @@ pub fn show_course<'a, H: Shelf, O: Sink>(
 ) -> Ending<'a>
     ensures goes { Goes (Some (show_command name.now wrap))
         (over_shelf (H.held shelf.old) (H.faults shelf.old) (H.faults shelf.new) (H.last_failed shelf.new))
-        (over_sink (O.written out.old) (O.written out.new) (O.faults out.old) (O.faults out.new)) result }
+        (over_output O.written O.writes O.faults out.old out.new) result }
 {
     match open_galley(alloc, name, wrap, shelf) {
         Err(ending) => ending,

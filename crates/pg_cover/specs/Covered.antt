@@ -1,5 +1,5 @@
 -- Labels that cover states of a space.
-use Rattle.std.specs.Prelude.{◌≡◌, ◌<◌, ◌⊎◌, ◌++◌, ◌&&◌, ℕ, Bool, true, false, if◌then◌else◌, List, Option, Some, None, slice_get, ℤ, ◌+ℤ◌, ◌≤ℤ◌, int_le, Contains}
+use Rattle.std.specs.Prelude.{◌≡◌, ◌<◌, ◌+◌, ◌⊎◌, ◌++◌, ◌&&◌, ℕ, Bool, true, false, if◌then◌else◌, List, Option, Some, None, slice_get, ℤ, ◌+ℤ◌, ◌≤ℤ◌, int_le, Contains}
 use Rattle.std.specs.List.{list_any}
 use Rattle.std.specs.Ordering.{is_lt}
 use Rattle.std.specs.declared.cmp.Ordering.TheVariants.{Less}
@@ -10,6 +10,7 @@ use Rattle.pg_plan.specs.declared.states.Label.{Label}
 use Rattle.pg_plan.specs.declared.states.State.{State}
 use Rattle.pg_table.specs.Space.{Meaning}
 use Rattle.pg_table.specs.declared.step.Step.{Step}
+use Rattle.pg_cover.specs.declared.cover.Open.{Open}
 
 -- each label is a state of the space
 abbrev pub AreOwn : {M K : Type 0} → Meaning State M K → List Label → Type 0
@@ -107,3 +108,8 @@ pub record IsFirstOpen {K : Type 0} (sp : Meaning State PageMove K) (labels : Li
   pub at : slice_get labels index ≡ Some label
   pub is_open : IsOpenOf sp labels label (Some to)
   pub before : NoneOpenBefore sp labels index
+
+-- how many labels were opened: those up to the one that was found, or all
+abbrev pub opened_count : ℕ → Option Open → ℕ
+opened_count all None = all
+opened_count all (Some found) = found.index + 1

@@ -1,5 +1,5 @@
 //! Labels tested whether they are closed.
-ghost use Rattle.std.specs.Prelude.{◌≡◌, true, length, Contains, IfOk, Some, None, ◌+ℤ◌};
+ghost use Rattle.std.specs.Prelude.{◌≡◌, ◌≤◌, ◌+◌, true, length, Contains, IfOk, Some, None, ◌+ℤ◌};
 ghost use Rattle.std.specs.Bool.{Decides};
 ghost use Rattle.pg_plan.specs.declared.states.Label.{Label as ALabel};
 ghost use Rattle.pg_table.specs.Space.{AreWanted};
@@ -7,7 +7,7 @@ ghost use Rattle.pg_table.specs.declared.step.Step.{Step as AStep};
 ghost use Rattle.pg_plan.specs.declared.pages.PageMove.{PageMove as AMove};
 ghost use Rattle.pg_plan.specs.declared.states.State.{State as AState};
 ghost use Rattle.pg_cover.specs.declared.cover.Open.{Open as AnOpen};
-ghost use Rattle.pg_cover.specs.Covered.{AreOwn, CoveredBy, DoesCover, CoversStep, LeastOf, least_with, has_cover, IsOpenOf, NoneOpenBefore, IsFirstOpen};
+ghost use Rattle.pg_cover.specs.Covered.{AreOwn, CoveredBy, DoesCover, CoversStep, LeastOf, least_with, has_cover, IsOpenOf, NoneOpenBefore, IsFirstOpen, opened_count};
 
 use crate::covering::{Covering, is_within};
 use crate::hints::{Hints, hints_of};
@@ -155,8 +155,9 @@ fn steps_of<S: Offering<State = SmallState, Move = SmallMove>, L: Ledger>(
     steps: &mut Steps<L>,
 ) -> Result<StepList<SmallState, SmallMove>, AllocError>
     requires { (S.meaning space.now).Own label.now.state }
-    ensures { IfOk result (AreWanted (S.meaning space.now) label.now.state
+    ensures wanted { IfOk result (AreWanted (S.meaning space.now) label.now.state
         (λ v c. has_cover (S.meaning space.now) labels.now v (label.now.cost +ℤ c))) }
+    ensures counted { steps.new ≡ steps.old + 1 }
 {
     let wants = Covering {
         space,
@@ -177,7 +178,8 @@ fn open_of<S: Offering<State = SmallState, Move = SmallMove>, L: Ledger>(
 ) -> Result<Option<Place>, AllocError>
     requires labels { AreOwn (S.meaning space.now) labels.now }
     requires label { (S.meaning space.now).Own label.now.state }
-    ensures { IfOk result (IsOpenOf (S.meaning space.now) labels.now label.now) }
+    ensures least { IfOk result (IsOpenOf (S.meaning space.now) labels.now label.now) }
+    ensures counted { steps.new ≡ steps.old + 1 }
 {
     let opened = steps_of(space, labels, hints, label, steps)?;
     Ok(least_open(space, labels, hints, label, opened))
@@ -192,7 +194,8 @@ pub struct Open {
 }
 
 /// The first label with a column behind it that leads to what no label covers; None where there is no such label. Each
-/// label up to that one is opened once, and counted as a step. The only refusal is for want of memory.
+/// label up to that one is opened once, and counted as a step; where memory runs out, no more than there are. The only
+/// refusal is for want of memory.
 pub fn first_open<S: Offering<State = SmallState, Move = SmallMove>, L: Ledger>(
     alloc: Global,
     space: &S,
@@ -204,6 +207,8 @@ pub fn first_open<S: Offering<State = SmallState, Move = SmallMove>, L: Ledger>(
         → NoneOpenBefore (S.meaning space.now) labels.now (length labels.now)) }
     ensures some { IfOk result (λ found. (o : AnOpen) → found ≡ Some o
         → IsFirstOpen (S.meaning space.now) labels.now o.index o.to) }
+    ensures counted { IfOk result (λ found. steps.new ≡ steps.old + opened_count (length labels.now) found) }
+    ensures bounded { steps.new ≤ steps.old + length labels.now }
 {
     let hints = hints_of(alloc, space, labels)?;
     for index in 0..labels.len() {

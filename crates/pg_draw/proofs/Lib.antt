@@ -1,1 +1,2 @@
+mod BadStyles
 mod Sayings

@@ -1,60 +1,69 @@
 //! A page, drawn, with its numbers below.
-use crate::frame::{
-    AREA_GAP, Frame, View, area_room, full_width, left_of, page_cost, page_height, share, shorter,
-    units,
-};
-use crate::marks::{Spot, print_line, print_marks, print_strip};
+use crate::marks::{is_notes, print_marks, print_tint};
 use crate::pieces::{Piece, print};
+use crate::shapes::{Spot, print_bare, print_line};
+use crate::tell::{print_count, print_fill, print_place, print_says, print_side};
+use pg_draw_page::{
+    AREA_GAP, Frame, View, area_room, areas_height, column_fill, column_picks, full_width, left_of,
+    page_badness, page_height, units,
+};
 use pg_drawing::{AreaName, DrawnArea, DrawnColumn, DrawnPage, Ends, Numbers, adds_up};
-use pg_plan::Side;
 use std::alloc::AllocError;
 
 // Room around a picture, in units.
-const MARGIN: i128 = 900;
+const MARGIN: i128 = 1150;
 
-// The class of an area.
-fn area_class(name: AreaName) -> &'static str {
+// The tint of an area, and the class of the line at its left.
+fn area_classes(name: AreaName) -> Option<(&'static str, &'static str)> {
     match name {
-        AreaName::Wide => "a wide",
-        AreaName::Top => "a top",
-        AreaName::Text => "a",
-        AreaName::Bottom => "a bottom",
-        AreaName::Notes => "a notes",
-        AreaName::Other => "a",
+        AreaName::Wide => Some(("a wide", "e wide")),
+        AreaName::Top => Some(("a top", "e top")),
+        AreaName::Bottom => Some(("a bottom", "e bottom")),
+        AreaName::Notes => Some(("a notes", "e notes")),
+        AreaName::Text | AreaName::Other => None,
     }
 }
 
 // The goal of a text, and its total where that is another.
 fn print_goal(spot: &Spot, goal: i64, total: i64, out: &mut Vec<u8>) -> Result<(), AllocError> {
-    let left = spot.left.saturating_sub(150);
-    let across = spot.width.saturating_add(300);
+    let left = spot.left.saturating_sub(250);
+    let across = spot.width.saturating_add(500);
     let end = units(spot.top.saturating_add(i128::from(goal)));
     print_line("goal", left, across, end, out)?;
+    print(out, &[Piece::Markup("/>")])?;
     if total != goal {
         let at = units(spot.top.saturating_add(i128::from(total)));
         print_line("total", left, across, at, out)?;
+        print(out, &[Piece::Markup("/>")])?;
     }
     Ok(())
 }
 
-// An area in its place.
-fn print_area(
+// The room behind an area: its tint, or the frame of a text.
+fn print_ground(
     spot: &Spot,
     area: &DrawnArea,
     numbers: Option<Numbers>,
     out: &mut Vec<u8>,
 ) -> Result<(), AllocError> {
     let end = units(spot.top.saturating_add(area_room(area, numbers)));
-    print_strip(
-        area_class(area.name),
-        spot.left,
-        spot.width,
-        units(spot.top),
-        end,
-        out,
-    )?;
-    print(out, &[Piece::Markup("</rect>\n")])?;
-    print_marks(spot, area.marks.as_slice(), out)?;
+    match area_classes(area.name) {
+        Some((tint, edge)) => print_tint(tint, edge, spot, end, out)?,
+        None => print_bare("f", spot.left, spot.width, units(spot.top), end, out)?,
+    }
+    print(out, &[Piece::Markup("\n")])
+}
+
+// An area in its place.
+fn print_area(
+    view: &View<'_>,
+    spot: &Spot,
+    area: &DrawnArea,
+    numbers: Option<Numbers>,
+    out: &mut Vec<u8>,
+) -> Result<(), AllocError> {
+    print_ground(spot, area, numbers, out)?;
+    print_marks(view, spot, area.marks.as_slice(), is_notes(area.name), out)?;
     match (area.name, numbers) {
         (AreaName::Text, Some(Numbers::Set { goal, total, .. })) => {
             print_goal(spot, goal, total, out)
@@ -65,6 +74,7 @@ fn print_area(
 
 // Areas one below the other.
 fn print_areas(
+    view: &View<'_>,
     spot: &Spot,
     areas: &[DrawnArea],
     numbers: Option<Numbers>,
@@ -77,7 +87,7 @@ fn print_areas(
             width: spot.width,
             top,
         };
-        print_area(&here, area, numbers, out)?;
+        print_area(view, &here, area, numbers, out)?;
         top = top
             .saturating_add(area_room(area, numbers))
             .saturating_add(AREA_GAP);
@@ -87,6 +97,7 @@ fn print_areas(
 
 // The columns of a page, side by side below its wide area.
 fn print_columns(
+    view: &View<'_>,
     frame: Frame,
     top: i128,
     columns: &[DrawnColumn],
@@ -99,92 +110,103 @@ fn print_columns(
             width: frame.width,
             top,
         };
-        print_areas(&spot, column.areas.as_slice(), column.numbers, out)?;
+        print_areas(view, &spot, column.areas.as_slice(), column.numbers, out)?;
         index = index.saturating_add(1);
     }
     Ok(())
 }
 
-// The picture of a page.
-fn print_picture(
+// The beginning of the picture of a page, with what it says.
+fn print_picture_head(
+    view: &View<'_>,
     frame: Frame,
     number: usize,
     page: &DrawnPage,
     out: &mut Vec<u8>,
 ) -> Result<(), AllocError> {
-    let across = full_width(frame);
-    let width = across.saturating_add(2 * MARGIN);
+    let width = full_width(frame).saturating_add(2 * MARGIN);
     let height = units(page_height(page)).saturating_add(MARGIN);
-    let left = -MARGIN;
-    let top = -MARGIN / 2;
     print(
         out,
         &[
             Piece::Markup("<svg viewBox=\""),
-            Piece::Number(left),
-            Piece::Markup(" "),
-            Piece::Number(top),
-            Piece::Markup(" "),
+            Piece::Number(-MARGIN),
+            Piece::Markup(" -600 "),
             Piece::Number(width),
             Piece::Markup(" "),
             Piece::Number(height),
-            Piece::Markup("\" role=\"img\" aria-label=\"page "),
-            Piece::Count(number),
-            Piece::Markup("\">\n"),
+            Piece::Markup("\" font-size=\""),
+            Piece::Number(view.lines.size),
+            Piece::Markup("\" role=\"group\" aria-label=\""),
         ],
     )?;
+    print_says(number, page, out)?;
+    print(out, &[Piece::Markup("\">\n")])
+}
+
+// The picture of a page.
+fn print_picture(
+    view: &View<'_>,
+    frame: Frame,
+    number: usize,
+    page: &DrawnPage,
+    out: &mut Vec<u8>,
+) -> Result<(), AllocError> {
+    print_picture_head(view, frame, number, page, out)?;
     let spot = Spot {
         left: 0,
-        width: across,
+        width: full_width(frame),
         top: 0,
     };
-    print_areas(&spot, page.wide.as_slice(), None, out)?;
-    let below = crate::frame::areas_height(page.wide.as_slice(), None);
-    print_columns(frame, below, page.columns.as_slice(), out)?;
+    print_areas(view, &spot, page.wide.as_slice(), None, out)?;
+    let below = areas_height(page.wide.as_slice(), None);
+    print_columns(view, frame, below, page.columns.as_slice(), out)?;
     print(out, &[Piece::Markup("</svg>\n")])
+}
+
+// The name of a fact.
+fn print_name(name: &'static str, out: &mut Vec<u8>) -> Result<(), AllocError> {
+    print(
+        out,
+        &[
+            Piece::Markup("<div><dt>"),
+            Piece::Markup(name),
+            Piece::Markup("</dt><dd>"),
+        ],
+    )
+}
+
+// The end of a fact.
+fn print_fact_end(out: &mut Vec<u8>) -> Result<(), AllocError> {
+    print(out, &[Piece::Markup("</dd></div>\n")])
 }
 
 // A name and a number.
 fn print_fact(name: &'static str, number: i128, out: &mut Vec<u8>) -> Result<(), AllocError> {
-    print(
-        out,
-        &[
-            Piece::Markup("<div><dt>"),
-            Piece::Markup(name),
-            Piece::Markup("</dt><dd>"),
-            Piece::Number(number),
-            Piece::Markup("</dd></div>\n"),
-        ],
-    )
+    print_name(name, out)?;
+    print(out, &[Piece::Number(number)])?;
+    print_fact_end(out)
 }
 
 // A name and a length.
 fn print_length(name: &'static str, length: i64, out: &mut Vec<u8>) -> Result<(), AllocError> {
-    print(
-        out,
-        &[
-            Piece::Markup("<div><dt>"),
-            Piece::Markup(name),
-            Piece::Markup("</dt><dd>"),
-            Piece::Length(length),
-            Piece::Markup("</dd></div>\n"),
-        ],
-    )
+    print_name(name, out)?;
+    print(out, &[Piece::Points(length), Piece::Markup(" points")])?;
+    print_fact_end(out)
 }
 
-// How far a total is from its goal.
-fn print_fill(goal: i64, total: i64, out: &mut Vec<u8>) -> Result<(), AllocError> {
-    let change = i128::from(total) - i128::from(goal);
-    if change > 0 {
-        print_length("long by", shorter(change), out)
-    } else if change < 0 {
-        print_length("short by", shorter(-change), out)
-    } else {
-        print(
-            out,
-            &[Piece::Markup("<div><dt>fills</dt><dd>exactly</dd></div>\n")],
-        )
+// How high a text is, and its goal.
+fn print_height(column: &DrawnColumn, out: &mut Vec<u8>) -> Result<(), AllocError> {
+    match column.numbers {
+        Some(Numbers::Set { goal, total, .. }) => {
+            print_length("goal", goal, out)?;
+            print_length("text", total, out)?;
+        }
+        _ => {}
     }
+    print_name("it is", out)?;
+    print_fill(column_fill(column), out)?;
+    print_fact_end(out)
 }
 
 // The numbers of a column.
@@ -192,54 +214,80 @@ fn print_numbers(numbers: Option<Numbers>, out: &mut Vec<u8>) -> Result<(), Allo
     match numbers {
         Some(
             Numbers::Set {
-                goal,
-                total,
                 badness,
                 penalty,
                 demerits,
+                ..
             },
         ) => {
-            print_length("total", total, out)?;
-            print_length("goal", goal, out)?;
-            print_fill(goal, total, out)?;
             print_fact("badness", badness, out)?;
-            print_fact("penalty", penalty, out)?;
+            if penalty != 0 {
+                print_fact("penalty at its end", penalty, out)?;
+            }
             print_fact("demerits", demerits, out)
         }
-        Some(Numbers::Without { demerits }) => {
-            print(
-                out,
-                &[Piece::Markup("<div><dt>without</dt><dd>text</dd></div>\n")],
-            )?;
-            print_fact("demerits", demerits, out)
-        }
+        Some(Numbers::Without { demerits }) => print_fact("demerits", demerits, out),
         None => Ok(()),
     }
 }
 
 // Where a column begins and ends.
 fn print_ends(ends: Option<Ends>, out: &mut Vec<u8>) -> Result<(), AllocError> {
-    match ends {
-        Some(ends) => print(
-            out,
-            &[
-                Piece::Markup("<div><dt>from</dt><dd>"),
-                Piece::Count(ends.from.block as usize),
-                Piece::Markup(" "),
-                Piece::Count(ends.from.variant as usize),
-                Piece::Markup(" "),
-                Piece::Count(ends.from.index as usize),
-                Piece::Markup("</dd></div>\n<div><dt>to</dt><dd class=\"to\">"),
-                Piece::Count(ends.to.block as usize),
-                Piece::Markup(" "),
-                Piece::Count(ends.to.variant as usize),
-                Piece::Markup(" "),
-                Piece::Count(ends.to.index as usize),
-                Piece::Markup("</dd></div>\n"),
-            ],
-        ),
-        None => Ok(()),
+    let Some(ends) = ends else {
+        return Ok(());
+    };
+    print_name("from", out)?;
+    print_place(ends.from, out)?;
+    print(
+        out,
+        &[Piece::Markup("</dd></div>\n<div class=\"to\"><dt>to</dt><dd>")],
+    )?;
+    print_place(ends.to, out)?;
+    print_fact_end(out)
+}
+
+// Which paragraphs are in another version than their first.
+fn print_versions(picks: &[u32], out: &mut Vec<u8>) -> Result<usize, AllocError> {
+    let mut count: usize = 0;
+    let mut number: usize = 0;
+    for pick in picks {
+        number = number.saturating_add(1);
+        if *pick != 0 {
+            let mark = if count == 0 { "no. " } else { ", no. " };
+            count = count.saturating_add(1);
+            print(
+                out,
+                &[
+                    Piece::Markup(mark),
+                    Piece::Count(number),
+                    Piece::Markup(" in version "),
+                    Piece::Count(*pick as usize),
+                ],
+            )?;
+        }
     }
+    Ok(count)
+}
+
+// Which paragraphs of a column are not in their natural length.
+fn print_picks(picks: &[u32], out: &mut Vec<u8>) -> Result<(), AllocError> {
+    if picks.is_empty() {
+        return Ok(());
+    }
+    print_name("not in their natural length", out)?;
+    let count = print_versions(picks, out)?;
+    if count == 0 {
+        print(out, &[Piece::Markup("none")])?;
+    }
+    print(
+        out,
+        &[
+            Piece::Markup(" (of "),
+            Piece::Count(picks.len()),
+            Piece::Markup(")"),
+        ],
+    )?;
+    print_fact_end(out)
 }
 
 // Whether the texts among areas add up to this total.
@@ -280,49 +328,64 @@ fn print_odd(column: &DrawnColumn, out: &mut Vec<u8>) -> Result<(), AllocError> 
     }
 }
 
-// The numbers of all columns.
-fn print_sums(columns: &[DrawnColumn], out: &mut Vec<u8>) -> Result<(), AllocError> {
+// What is said of one column.
+fn print_column(column: &DrawnColumn, picks: &[u32], out: &mut Vec<u8>) -> Result<(), AllocError> {
+    print(out, &[Piece::Markup("<dl>\n")])?;
+    print_height(column, out)?;
+    print_numbers(column.numbers, out)?;
+    print_ends(column.ends, out)?;
+    print_picks(picks, out)?;
+    print_odd(column, out)?;
+    print(out, &[Piece::Markup("</dl>\n")])
+}
+
+// What is said of all columns of the page of this index.
+fn print_sums(
+    view: &View<'_>,
+    index: usize,
+    columns: &[DrawnColumn],
+    out: &mut Vec<u8>,
+) -> Result<(), AllocError> {
     print(out, &[Piece::Markup("<div class=\"sums\">\n")])?;
+    let mut place: usize = 0;
     for column in columns {
-        print(out, &[Piece::Markup("<dl>\n")])?;
-        print_numbers(column.numbers, out)?;
-        print_ends(column.ends, out)?;
-        print_odd(column, out)?;
-        print(out, &[Piece::Markup("</dl>\n")])?;
+        print_column(column, column_picks(view.output, index, place), out)?;
+        place = place.saturating_add(1);
     }
     print(out, &[Piece::Markup("</div>\n")])
 }
 
-// The side of a page, and its run.
-fn print_side(page: &DrawnPage, out: &mut Vec<u8>) -> Result<(), AllocError> {
-    match page.head {
-        Some(head) => {
-            let side = match head.side {
-                Side::L => "left, run ",
-                Side::R => "right, run ",
-                Side::S => "single, run ",
-            };
-            print(
-                out,
-                &[Piece::Markup(side), Piece::Count(usize::from(head.run))],
-            )
-        }
-        None => Ok(()),
+// How many floats wait behind the page of this index, as far as is known.
+fn waiting_behind(view: &View<'_>, index: usize) -> usize {
+    match view.waiting.get(index) {
+        Some(Some(count)) => *count,
+        _ => 0,
     }
 }
 
-// The head of a page, with links to it and to its neighbours.
+// How many floats wait behind the page of this index, where some do.
+fn print_waiting(view: &View<'_>, index: usize, out: &mut Vec<u8>) -> Result<(), AllocError> {
+    let count = waiting_behind(view, index);
+    if count == 0 {
+        return Ok(());
+    }
+    print(out, &[Piece::Markup("<p class=\"wait\">Behind this page ")])?;
+    print_count(count as i128, " float waits", " floats wait", out)?;
+    print(out, &[Piece::Markup(" for a place.</p>\n")])
+}
+
+// The head of a page: a link to it, whose it is where two are drawn, its side and length, its badness.
 fn print_head(
     view: &View<'_>,
+    whose: bool,
     number: usize,
     page: &DrawnPage,
     out: &mut Vec<u8>,
 ) -> Result<(), AllocError> {
-    let cost = page_cost(page);
     print(
         out,
         &[
-            Piece::Markup("<h2><a href=\"#"),
+            Piece::Markup("<h3><a href=\"#"),
             Piece::Markup(view.letter),
             Piece::Count(number),
             Piece::Markup("\">Page "),
@@ -330,49 +393,49 @@ fn print_head(
             Piece::Markup("</a> <span>"),
         ],
     )?;
-    print_side(page, out)?;
+    if whose {
+        print(
+            out,
+            &[
+                Piece::Markup("of <b>"),
+                Piece::Text(view.name),
+                Piece::Markup("</b> "),
+            ],
+        )?;
+    }
+    print_side(view, page, out)?;
     print(
         out,
         &[
-            Piece::Markup("</span> <b>"),
-            Piece::Number(cost),
-            Piece::Markup("</b></h2>\n"),
+            Piece::Markup("</span> <b>badness "),
+            Piece::Number(page_badness(page)),
+            Piece::Markup("</b></h3>\n"),
         ],
     )
 }
 
-// The beginning of a page, of this class beside its own.
-fn print_article(class: &'static str, out: &mut Vec<u8>) -> Result<(), AllocError> {
-    print(
-        out,
-        &[Piece::Markup("<article class=\"page"), Piece::Markup(class)],
-    )
-}
-
-/// A page with its head, its picture and its numbers. `class` tells whether its breaks are those of the page beside it.
+/// A page with its head, its picture and its numbers. `whose` tells whether its head names the text that it is of.
 pub fn print_card(
     frame: Frame,
     view: &View<'_>,
-    class: &'static str,
-    number: usize,
+    whose: bool,
+    index: usize,
     page: &DrawnPage,
     out: &mut Vec<u8>,
 ) -> Result<(), AllocError> {
-    let share = share(page_cost(page), view.most);
-    print_article(class, out)?;
+    let number = index.saturating_add(1);
     print(
         out,
         &[
-            Piece::Markup("\" id=\""),
+            Piece::Markup("<article class=\"page\" id=\""),
             Piece::Markup(view.letter),
             Piece::Count(number),
-            Piece::Markup("\" style=\"--s:"),
-            Piece::Number(share),
             Piece::Markup("\">\n"),
         ],
     )?;
-    print_head(view, number, page, out)?;
-    print_picture(frame, number, page, out)?;
-    print_sums(page.columns.as_slice(), out)?;
+    print_head(view, whose, number, page, out)?;
+    print_picture(view, frame, number, page, out)?;
+    print_sums(view, index, page.columns.as_slice(), out)?;
+    print_waiting(view, index, out)?;
     print(out, &[Piece::Markup("</article>\n")])
 }

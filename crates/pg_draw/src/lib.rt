@@ -11,14 +11,17 @@
 mod card;
 mod course;
 mod ending;
-mod frame;
 mod marks;
 mod open;
+mod overview;
 mod page;
+mod pair;
 mod pieces;
-mod strip;
+mod shapes;
 mod styles;
 mod system;
+mod target;
+mod tell;
 mod words;
 
 pub use course::serve;

@@ -1,126 +1,70 @@
 //! The marks of an area, drawn.
-use crate::frame::units;
 use crate::pieces::{Piece, print};
-use pg_drawing::{Mark, Shape, extent};
-use pg_list::Order;
+use crate::shapes::{Rows, Spot, print_bare, print_block, print_line, print_row, print_strip};
+use crate::tell::print_class;
+use pg_draw_page::{
+    Space, View, change_step, next_row, row_count, shorter, space_len, space_of, units,
+};
+use pg_drawing::{AreaName, Mark, Shape};
 use std::alloc::AllocError;
 
-/// Where an area stands: its left and its width in units, its top in scaled points.
-#[derive(Clone, Copy)]
-pub struct Spot {
-    pub left: i128,
-    pub width: i128,
-    pub top: i128,
-}
+// How far beside a column the marks of glue begin, and how wide one step of them is, in units.
+const BESIDE: i128 = 250;
 
-/// A strip from one height to another, in units, without the end of its tag.
-pub fn print_strip(
-    class: &'static str,
-    left: i128,
-    width: i128,
-    from: i128,
-    to: i128,
-    out: &mut Vec<u8>,
-) -> Result<(), AllocError> {
-    let top = if from < to { from } else { to };
-    let height = from.saturating_sub(to).saturating_abs();
-    print(
-        out,
-        &[
-            Piece::Markup("<rect class=\""),
-            Piece::Markup(class),
-            Piece::Markup("\" x=\""),
-            Piece::Number(left),
-            Piece::Markup("\" y=\""),
-            Piece::Number(top),
-            Piece::Markup("\" width=\""),
-            Piece::Number(width),
-            Piece::Markup("\" height=\""),
-            Piece::Number(height),
-            Piece::Markup("\">"),
-        ],
-    )
-}
+const STEP: i128 = 260;
 
-/// A line across, in units.
-pub fn print_line(
-    class: &'static str,
-    left: i128,
-    width: i128,
-    at: i128,
+// What the pointer tells of a box.
+fn print_box_title(
+    height: i32,
+    depth: i32,
+    width: i32,
     out: &mut Vec<u8>,
 ) -> Result<(), AllocError> {
     print(
         out,
         &[
-            Piece::Markup("<path class=\""),
-            Piece::Markup(class),
-            Piece::Markup("\" d=\"M"),
-            Piece::Number(left),
-            Piece::Markup(" "),
-            Piece::Number(at),
-            Piece::Markup("h"),
-            Piece::Number(width),
-            Piece::Markup("\"/>"),
+            Piece::Markup("><title>box "),
+            Piece::Length(i64::from(height)),
+            Piece::Markup(" + "),
+            Piece::Length(i64::from(depth)),
+            Piece::Markup(", "),
+            Piece::Length(i64::from(width)),
+            Piece::Markup(" wide</title></path>"),
         ],
     )
 }
 
-// The size of letters in a box so high, in units.
-fn letter_size(height: i128) -> i128 {
-    let size = height.saturating_mul(9) / 10;
-    if size < 300 {
-        300
-    } else if size > 1400 {
-        1000
-    } else {
-        size
-    }
-}
-
-// As many letters as there is room for.
-fn seen(words: &[u8], width: i128, size: i128) -> &[u8] {
-    let room = if width < 0 || size <= 0 {
-        0
-    } else {
-        width.saturating_mul(2) / size
-    };
-    if (words.len() as i128) <= room {
-        words
-    } else {
-        &words[..words.len().min(room as usize)]
-    }
-}
-
-// Letters on their baseline.
+// The letters of a box: one row on its baseline, or rows from its top on.
 fn print_letters(
+    view: &View<'_>,
+    spot: &Spot,
     words: &[u8],
-    left: i128,
+    top: i128,
     base: i128,
-    size: i128,
+    end: i128,
     out: &mut Vec<u8>,
 ) -> Result<(), AllocError> {
-    if words.is_empty() {
-        return Ok(());
+    let size = view.lines.size;
+    if row_count(words) > 1 {
+        return print_block(spot, words, top, end, size, false, out);
     }
-    print(
-        out,
-        &[
-            Piece::Markup("<text x=\""),
-            Piece::Number(left),
-            Piece::Markup("\" y=\""),
-            Piece::Number(base),
-            Piece::Markup("\" font-size=\""),
-            Piece::Number(size),
-            Piece::Markup("\">"),
-            Piece::Text(words),
-            Piece::Markup("</text>"),
-        ],
-    )
+    let rows = Rows {
+        left: spot.left,
+        width: spot.width,
+        base,
+        pitch: 0,
+        size,
+        usual: size,
+    };
+    match next_row(words) {
+        Some((row, _)) => print_row(&rows, row, false, out),
+        None => Ok(()),
+    }
 }
 
-// A box with its baseline and its letters.
+// A box: its letters before a tint, or a bar in the place of its letters where there are none.
 fn print_box(
+    view: &View<'_>,
     spot: &Spot,
     mark: &Mark,
     height: i32,
@@ -129,186 +73,291 @@ fn print_box(
     out: &mut Vec<u8>,
 ) -> Result<(), AllocError> {
     let top = spot.top.saturating_add(mark.top);
-    let base = units(top.saturating_add(i128::from(height)));
-    let end = units(
-        top.saturating_add(i128::from(height))
-            .saturating_add(i128::from(depth)),
-    );
+    let foot = top.saturating_add(i128::from(height));
+    let base = units(foot);
+    let end = units(foot.saturating_add(i128::from(depth)));
     let across = units(i128::from(width)).saturating_abs();
+    let words = mark.words.as_slice();
+    if row_count(words) == 0 {
+        let half = base.saturating_sub(units(top)) / 2;
+        print_strip("n", spot.left, across, base.saturating_sub(half), base, out)?;
+        return print_box_title(height, depth, width, out);
+    }
     print_strip("b", spot.left, across, units(top), end, out)?;
-    print(
-        out,
-        &[
-            Piece::Markup("<title>box "),
-            Piece::Length(i64::from(height)),
-            Piece::Markup(" + "),
-            Piece::Length(i64::from(depth)),
-            Piece::Markup(", "),
-            Piece::Length(i64::from(width)),
-            Piece::Markup(" wide</title></rect>"),
-        ],
-    )?;
-    print_line("l", spot.left, across, base, out)?;
-    let size = letter_size(end.saturating_sub(units(top)));
-    let words = seen(mark.words.as_slice(), across, size);
-    print_letters(words, spot.left.saturating_add(60), base, size, out)
+    print_box_title(height, depth, width, out)?;
+    let room = Spot {
+        left: spot.left,
+        width: across,
+        top,
+    };
+    print_letters(view, &room, words, units(top), base, end, out)
 }
 
-// The part of what glue can give that it gives, in a hundred.
-fn part(change: i128, most: i32) -> i128 {
-    if most <= 0 {
-        0
-    } else {
-        change.saturating_mul(100) / i128::from(most)
+// One of the parts of a space.
+fn print_part(shape: Shape, out: &mut Vec<u8>) -> Result<(), AllocError> {
+    match shape {
+        Shape::Glue { own, .. } => print(out, &[Piece::Markup("glue "), Piece::Length(own)]),
+        Shape::Kern { width } => print(
+            out,
+            &[Piece::Markup("kern "), Piece::Length(i64::from(width))],
+        ),
+        Shape::Penalty { value } => print(
+            out,
+            &[Piece::Markup("penalty "), Piece::Number(i128::from(value))],
+        ),
+        _ => Ok(()),
     }
 }
 
-// How far glue is stretched.
-fn stretched(part: i128) -> &'static str {
-    if part > 100 {
-        "g s3"
-    } else if part > 50 {
-        "g s2"
-    } else {
-        "g s1"
+// Whether the pointer tells of a shape.
+fn is_told(shape: Shape) -> bool {
+    match shape {
+        Shape::Glue { .. } | Shape::Kern { .. } | Shape::Penalty { .. } => true,
+        _ => false,
     }
 }
 
-// How far glue is shrunk.
-fn shrunk(part: i128) -> &'static str {
-    if part > 100 {
-        "g k3"
-    } else if part > 50 {
-        "g k2"
-    } else {
-        "g k1"
+// What the pointer tells of a space: its parts, and how wide they are together.
+fn print_space_title(marks: &[Mark], space: Space, out: &mut Vec<u8>) -> Result<(), AllocError> {
+    print(out, &[Piece::Markup("><title>")])?;
+    let mut is_first = true;
+    for mark in marks {
+        if is_told(mark.shape) {
+            print(out, &[Piece::Markup(if is_first { "" } else { ", " })])?;
+            print_part(mark.shape, out)?;
+            is_first = false;
+        }
     }
-}
-
-// The class of glue: as it is, stretched or shrunk, and how far.
-fn glue_class(own: i64, stretch: i32, order: Order, shrink: i32, set: i128) -> &'static str {
-    let change = set.saturating_sub(i128::from(own));
-    if change > 0 {
-        let most = if order == Order::Finite { stretch } else { 0 };
-        stretched(part(change, most))
-    } else if change < 0 {
-        shrunk(part(change.saturating_abs(), shrink))
-    } else {
-        "g"
-    }
-}
-
-// What is between boxes, with what it is.
-fn print_space(
-    spot: &Spot,
-    mark: &Mark,
-    class: &'static str,
-    name: &'static str,
-    own: i64,
-    out: &mut Vec<u8>,
-) -> Result<(), AllocError> {
-    let size = extent(mark.shape);
-    let top = spot.top.saturating_add(mark.top);
-    let end = top.saturating_add(i128::from(size));
-    print_strip(class, spot.left, spot.width, units(top), units(end), out)?;
     print(
         out,
         &[
-            Piece::Markup("<title>"),
-            Piece::Markup(name),
-            Piece::Length(own),
-            Piece::Markup(", here "),
-            Piece::Length(size),
-            Piece::Markup("</title></rect>"),
-        ],
-    )
-}
-
-// An insert, with its first letters.
-fn print_insert(
-    spot: &Spot,
-    mark: &Mark,
-    class: u32,
-    size: i32,
-    out: &mut Vec<u8>,
-) -> Result<(), AllocError> {
-    let top = spot.top.saturating_add(mark.top);
-    let end = units(top.saturating_add(i128::from(size)));
-    print_strip("i", spot.left, spot.width, units(top), end, out)?;
-    print(
-        out,
-        &[
-            Piece::Markup("<title>insert of class "),
-            Piece::Count(class as usize),
-            Piece::Markup(", "),
-            Piece::Length(i64::from(size)),
-            Piece::Markup(" high</title></rect>"),
-        ],
-    )?;
-    let words = seen(mark.words.as_slice(), spot.width, 800);
-    let base = units(top).saturating_add(750);
-    print_letters(words, spot.left.saturating_add(60), base, 800, out)
-}
-
-// A penalty, a tick in the margin.
-fn print_penalty(
-    spot: &Spot,
-    mark: &Mark,
-    value: i32,
-    out: &mut Vec<u8>,
-) -> Result<(), AllocError> {
-    let at = units(spot.top.saturating_add(mark.top));
-    let left = spot.left.saturating_sub(200);
-    let number = i128::from(value);
-    print(
-        out,
-        &[
-            Piece::Markup("<path class=\"p\" d=\"M"),
-            Piece::Number(left),
-            Piece::Markup(" "),
-            Piece::Number(at),
-            Piece::Markup("h-300\"><title>penalty "),
-            Piece::Number(number),
+            Piece::Markup("; here "),
+            Piece::Length(shorter(space.set)),
             Piece::Markup("</title></path>"),
         ],
     )
 }
 
-// A mark; what takes no room and says nothing is not drawn.
-fn print_mark(spot: &Spot, mark: &Mark, out: &mut Vec<u8>) -> Result<(), AllocError> {
+// Whether a shape is that of a penalty.
+fn is_penalty(shape: Shape) -> bool {
+    match shape {
+        Shape::Penalty { .. } => true,
+        _ => false,
+    }
+}
+
+// The ticks of penalties.
+fn print_ticks(spot: &Spot, marks: &[Mark], out: &mut Vec<u8>) -> Result<(), AllocError> {
+    for mark in marks {
+        if is_penalty(mark.shape) {
+            let at = units(spot.top.saturating_add(mark.top));
+            let left = spot.left.saturating_sub(600);
+            print_line("p", left, 350, at, out)?;
+            print(out, &[Piece::Markup("/>")])?;
+        }
+    }
+    Ok(())
+}
+
+// Whether a mark is glue or a kern.
+fn is_space(shape: Shape) -> bool {
+    match shape {
+        Shape::Glue { .. } | Shape::Kern { .. } => true,
+        _ => false,
+    }
+}
+
+// Whether there is glue or a kern among marks.
+fn has_space(marks: &[Mark]) -> bool {
+    for mark in marks {
+        if is_space(mark.shape) {
+            return true;
+        }
+    }
+    false
+}
+
+// The band of a space: beside the column where it is stretched or shrunk, and else unseen.
+fn print_band(spot: &Spot, space: Space, from: i128, out: &mut Vec<u8>) -> Result<(), AllocError> {
+    let top = units(from);
+    let end = units(from.saturating_add(space.set));
+    let step = change_step(space);
+    if step == 0 {
+        return print_strip("g", spot.left, spot.width, top, end, out);
+    }
+    let left = spot.left.saturating_add(spot.width).saturating_add(BESIDE);
+    let class = if space.set > space.own { "s" } else { "k" };
+    print_strip(class, left, STEP.saturating_mul(step), top, end, out)
+}
+
+// What stands between two boxes.
+fn print_space(spot: &Spot, marks: &[Mark], out: &mut Vec<u8>) -> Result<(), AllocError> {
+    let Some(first) = marks.first() else {
+        return Ok(());
+    };
+    if has_space(marks) {
+        let space = space_of(marks);
+        print_band(spot, space, spot.top.saturating_add(first.top), out)?;
+        print_space_title(marks, space, out)?;
+    }
+    print_ticks(spot, marks, out)
+}
+
+// An insert: a note with all its lines, or a float with its class and the letters of its caption.
+fn print_insert(
+    view: &View<'_>,
+    spot: &Spot,
+    mark: &Mark,
+    class: u32,
+    size: i32,
+    is_note: bool,
+    out: &mut Vec<u8>,
+) -> Result<(), AllocError> {
+    let at = spot.top.saturating_add(mark.top);
+    let top = units(at);
+    let end = units(at.saturating_add(i128::from(size)));
+    print_strip("i", spot.left, spot.width, top, end, out)?;
+    print(out, &[Piece::Markup("><title>")])?;
+    print_class(view, class, out)?;
+    print(
+        out,
+        &[
+            Piece::Markup(", "),
+            Piece::Length(i64::from(size)),
+            Piece::Markup(" high</title></path>"),
+        ],
+    )?;
+    let room = Spot {
+        left: spot.left.saturating_add(300),
+        width: spot.width.saturating_sub(600),
+        top: at,
+    };
+    let words = mark.words.as_slice();
+    if is_note {
+        return print_block(&room, words, top, end, view.lines.size, false, out);
+    }
+    print_class_label(view, room.left, top, class, size, out)?;
+    let below = top.saturating_add(1000);
+    print_block(&room, words, below, end, view.lines.size, true, out)
+}
+
+// The class of a float, in its picture.
+fn print_class_label(
+    view: &View<'_>,
+    left: i128,
+    top: i128,
+    class: u32,
+    size: i32,
+    out: &mut Vec<u8>,
+) -> Result<(), AllocError> {
+    print(
+        out,
+        &[
+            Piece::Markup("<text class=\"c\" x=\""),
+            Piece::Number(left),
+            Piece::Markup("\" y=\""),
+            Piece::Number(top.saturating_add(900)),
+            Piece::Markup("\">"),
+        ],
+    )?;
+    print_class(view, class, out)?;
+    print(
+        out,
+        &[
+            Piece::Markup(", "),
+            Piece::Points(i64::from(size)),
+            Piece::Markup(" points</text>"),
+        ],
+    )
+}
+
+// A rule.
+fn print_rule(
+    spot: &Spot,
+    mark: &Mark,
+    height: i32,
+    depth: i32,
+    out: &mut Vec<u8>,
+) -> Result<(), AllocError> {
+    let top = spot.top.saturating_add(mark.top);
+    let size = i128::from(height) + i128::from(depth);
+    let end = units(top.saturating_add(size));
+    print_strip("r", spot.left, spot.width, units(top), end, out)?;
+    print(
+        out,
+        &[
+            Piece::Markup("><title>rule "),
+            Piece::Length(i64::from(height)),
+            Piece::Markup(" + "),
+            Piece::Length(i64::from(depth)),
+            Piece::Markup("</title></path>"),
+        ],
+    )
+}
+
+// A box, a rule or an insert.
+fn print_mark(
+    view: &View<'_>,
+    spot: &Spot,
+    mark: &Mark,
+    is_note: bool,
+    out: &mut Vec<u8>,
+) -> Result<(), AllocError> {
     match mark.shape {
         Shape::Box {
             height,
             depth,
             width,
-        } => print_box(spot, mark, height, depth, width, out),
-        Shape::Rule { height, .. } => print_space(spot, mark, "r", "rule ", i64::from(height), out),
-        Shape::Glue {
-            own,
-            stretch,
-            order,
-            shrink,
-            set,
-        } => print_space(
-            spot,
-            mark,
-            glue_class(own, stretch, order, shrink, set),
-            "glue ",
-            own,
-            out,
-        ),
-        Shape::Kern { width } => print_space(spot, mark, "k", "kern ", i64::from(width), out),
-        Shape::Penalty { value } => print_penalty(spot, mark, value, out),
-        Shape::Insert { class, size } => print_insert(spot, mark, class, size, out),
-        Shape::Other => Ok(()),
+        } => print_box(view, spot, mark, height, depth, width, out),
+        Shape::Rule { height, depth } => print_rule(spot, mark, height, depth, out),
+        Shape::Insert { class, size } => {
+            print_insert(view, spot, mark, class, size, is_note, out)
+        }
+        _ => Ok(()),
     }
 }
 
-/// The marks of an area, one below the other.
-pub fn print_marks(spot: &Spot, marks: &[Mark], out: &mut Vec<u8>) -> Result<(), AllocError> {
-    for mark in marks {
-        print_mark(spot, mark, out)?;
-        print(out, &[Piece::Markup("\n")])?;
+/// The marks of an area, one below the other, with what stands between them.
+pub fn print_marks(
+    view: &View<'_>,
+    spot: &Spot,
+    marks: &[Mark],
+    is_note: bool,
+    out: &mut Vec<u8>,
+) -> Result<(), AllocError> {
+    let mut rest = marks;
+    'marks: while !rest.is_empty() {
+        let (between, behind) = rest.split_at(space_len(rest));
+        print_space(spot, between, out)?;
+        match behind {
+            [mark, after @ ..] => {
+                print_mark(view, spot, mark, is_note, out)?;
+                print(out, &[Piece::Markup("\n")])?;
+                rest = after;
+            }
+            [] => return Ok(()),
+        }
     }
     Ok(())
+}
+
+/// Whether an area has notes.
+pub fn is_notes(name: AreaName) -> bool {
+    match name {
+        AreaName::Notes => true,
+        _ => false,
+    }
+}
+
+/// The tint of an area, with a line at its left.
+pub fn print_tint(
+    class: &'static str,
+    edge: &'static str,
+    spot: &Spot,
+    end: i128,
+    out: &mut Vec<u8>,
+) -> Result<(), AllocError> {
+    let top = units(spot.top);
+    print_bare(class, spot.left, spot.width, top, end, out)?;
+    print_bare(edge, spot.left, 120, top, end, out)
 }

@@ -1,26 +1,27 @@
-//! The texts that are drawn.
+//! The texts that are drawn, and the style.
 ghost use Rattle.std.specs.Prelude.{◌≡◌, ◌<◌, ◌≤◌, ◌^◌, ◌++◌, Err, codes, length, IfOk, IfErr};
 ghost use Rattle.pg_labels.specs.Reading.{Gives, output_of};
 ghost use Rattle.pg_outside.specs.Outside.{IsFile};
-ghost use Rattle.pg_draw.specs.Texts.{HasDrawing, HasPages, Stops, page_text_in, page_text_of};
+ghost use Rattle.pg_draw.specs.Texts.{HasDrawing, HasOutput, HasStyle, Stops, StyleStops, output_in, fault_number as number_of_fault, said_of};
 
 use crate::ending::Ending;
 use pg_drawing::{Drawing, read_drawing};
-use pg_labels::{OutputFault, read_output};
-use pg_list::Bytes;
+use pg_labels::{Output, OutputFault, read_output};
 use pg_outside::{Fetch, Shelf};
+use pg_style::Style;
+use pg_stylefile::{StyleKind, read_style};
 use std::alloc::Global;
 
 /// The most bytes that a file may have.
 const FILE_LIMIT: u64 = 67108864;
 
-// The page text of a text with labels, or else what line the shorter one is at fault at.
-fn otherwise(alloc: Global, text: &[u8], line: u32) -> Result<Bytes, OutputFault>
+// What a text with labels says, or else what line the shorter one is at fault at.
+fn otherwise(alloc: Global, text: &[u8], line: u32) -> Result<Output, OutputFault>
     requires { length text.now < 2 ^ 31 }
-    ensures { Gives result (page_text_in (Err line) (output_of text.now)) }
+    ensures { Gives result (output_in (Err line) (output_of text.now)) }
 {
     match read_output(alloc, text) {
-        Ok(output) => Ok(output.page_text),
+        Ok(output) => Ok(output),
         Err(OutputFault::BadText { .. }) => Err(OutputFault::BadText { line }),
         Err(OutputFault::Memory) => Err(OutputFault::Memory),
     }
@@ -39,10 +40,10 @@ fn labelled(alloc: Global, text: &[u8]) -> Result<Vec<u8>, OutputFault>
     }
 }
 
-// The page text of a text that lacks its labels, where it is at fault at this line.
-fn without_labels(alloc: Global, text: &[u8], line: u32) -> Result<Bytes, OutputFault>
+// What a text says that lacks its labels, where it is at fault at this line.
+fn without_labels(alloc: Global, text: &[u8], line: u32) -> Result<Output, OutputFault>
     requires { length text.now ≤ 2 ^ 26 }
-    ensures { Gives result (page_text_in (Err line) (output_of (text.now ++ codes "labels 0\n"))) }
+    ensures { Gives result (output_in (Err line) (output_of (text.now ++ codes "labels 0\n"))) }
 {
     match labelled(alloc, text) {
         Ok(longer) => otherwise(alloc, longer.as_slice(), line),
@@ -50,15 +51,15 @@ fn without_labels(alloc: Global, text: &[u8], line: u32) -> Result<Bytes, Output
     }
 }
 
-/// The page text of an output text, or of one that lacks its labels. `BadText` comes exactly where it is neither, with
-/// the least number of lines that begin none.
-#[tactic(auto, unfolding(crate::specs::Texts::page_text_of))]
-pub fn page_text(alloc: Global, text: &[u8]) -> Result<Bytes, OutputFault>
+/// What an output text says, or one that lacks its labels. `BadText` comes exactly where it is neither, with the least
+/// number of lines that begin none.
+#[tactic(auto, unfolding(crate::specs::Texts::said_of))]
+pub fn read_said(alloc: Global, text: &[u8]) -> Result<Output, OutputFault>
     requires { length text.now ≤ 2 ^ 26 }
-    ensures { Gives result (page_text_of text.now) }
+    ensures { Gives result (said_of text.now) }
 {
     match read_output(alloc, text) {
-        Ok(output) => Ok(output.page_text),
+        Ok(output) => Ok(output),
         Err(OutputFault::BadText { line }) => without_labels(alloc, text, line),
         Err(OutputFault::Memory) => Err(OutputFault::Memory),
     }
@@ -69,6 +70,7 @@ fn fetch<'a, H: Shelf>(alloc: Global, name: &'a str, shelf: &mut H) -> Result<Ve
     ensures bytes { IfOk result (λ bytes. IsFile (H.held shelf.old) name.now bytes.items) }
     ensures short { IfOk result (λ bytes. length bytes.items ≤ 2 ^ 26) }
     ensures stopped { IfErr result (Stops (H.held shelf.old) name.now) }
+    ensures style_stopped { IfErr result (StyleStops (H.held shelf.old) name.now) }
     ensures same { H.held shelf.new ≡ H.held shelf.old }
 {
     let mut bytes = Vec::new(alloc);
@@ -80,37 +82,75 @@ fn fetch<'a, H: Shelf>(alloc: Global, name: &'a str, shelf: &mut H) -> Result<Ve
     }
 }
 
-// The page text of the file of this name, or what ends the program.
-fn open_pages<'a, H: Shelf>(
+// What the file of this name says, or what ends the program.
+fn open_output<'a, H: Shelf>(
     alloc: Global,
     name: &'a str,
     shelf: &mut H,
-) -> Result<Bytes, Ending<'a>>
-    ensures pages { IfOk result (HasPages (H.held shelf.old) name.now) }
+) -> Result<Output, Ending<'a>>
+    ensures output { IfOk result (HasOutput (H.held shelf.old) name.now) }
     ensures stopped { IfErr result (Stops (H.held shelf.old) name.now) }
     ensures same { H.held shelf.new ≡ H.held shelf.old }
 {
     let bytes = fetch(alloc, name, shelf)?;
-    match page_text(alloc, bytes.as_slice()) {
-        Ok(pages) => Ok(pages),
+    match read_said(alloc, bytes.as_slice()) {
+        Ok(output) => Ok(output),
         Err(OutputFault::BadText { line }) => Err(Ending::BadOutput(name, line)),
         Err(OutputFault::Memory) => Err(Ending::Memory),
     }
 }
 
-/// The drawing of the file of this name, or what ends the program.
+/// What a text says, and its drawing.
+#[derive(Drop)]
+pub struct Drawn {
+    pub output: Output,
+    pub drawing: Drawing,
+}
+
+/// What the file of this name says, with its drawing, or what ends the program.
 pub fn open_drawing<'a, H: Shelf>(
     alloc: Global,
     name: &'a str,
     shelf: &mut H,
-) -> Result<Drawing, Ending<'a>>
-    ensures drawing { IfOk result (HasDrawing (H.held shelf.old) name.now) }
+) -> Result<Drawn, Ending<'a>>
+    ensures drawing { IfOk result (λ it. HasDrawing (H.held shelf.old) name.now it.output it.drawing) }
     ensures stopped { IfErr result (Stops (H.held shelf.old) name.now) }
     ensures same { H.held shelf.new ≡ H.held shelf.old }
 {
-    let pages = open_pages(alloc, name, shelf)?;
-    match read_drawing(alloc, pages.as_slice()) {
-        Ok(drawing) => Ok(drawing),
+    let output = open_output(alloc, name, shelf)?;
+    match read_drawing(alloc, output.page_text.as_slice()) {
+        Ok(drawing) => Ok(Drawn { output, drawing }),
         Err(_) => Err(Ending::Memory),
+    }
+}
+
+// The number of the fault of a style, or None where memory ran out.
+fn style_fault(kind: StyleKind) -> Option<u8>
+    ensures { result ≡ number_of_fault kind }
+{
+    match kind {
+        StyleKind::Memory => None,
+        _ => Some(kind.number()),
+    }
+}
+
+/// The style of the file of this name, or what ends the program.
+#[tactic(auto, using(crate::proofs::BadStyles::bad_style))]
+pub fn open_style<'a, H: Shelf>(
+    alloc: Global,
+    name: &'a str,
+    shelf: &mut H,
+) -> Result<Style, Ending<'a>>
+    ensures style { IfOk result (HasStyle (H.held shelf.old) name.now) }
+    ensures stopped { IfErr result (StyleStops (H.held shelf.old) name.now) }
+    ensures same { H.held shelf.new ≡ H.held shelf.old }
+{
+    let bytes = fetch(alloc, name, shelf)?;
+    match read_style(alloc, bytes.as_slice()) {
+        Ok(style) => Ok(style),
+        Err(fault) => match style_fault(fault.kind) {
+            Some(number) => Err(Ending::BadStyle(name, number)),
+            None => Err(Ending::Memory),
+        },
     }
 }

@@ -1,7 +1,7 @@
 //! Pieces of a page.
 ghost use Rattle.std.specs.Prelude.{◌≡◌, ◌++◌, OnOk};
 ghost use Rattle.std.specs.List.{flat_map};
-ghost use Rattle.pg_draw.specs.Escaped.{escaped, piece_text, pieces_text};
+ghost use Rattle.pg_draw.specs.Escaped.{escaped, piece_text, pieces_text, points_text, tenths_in, tenths_text};
 
 use pg_scaled::print_scaled;
 use pg_words::{print_decimal, print_whole};
@@ -15,8 +15,10 @@ pub enum Piece<'a> {
     /// What stands in a file, or is its name.
     Text(&'a [u8]),
     Count(usize),
-    /// Scaled points.
+    /// Scaled points, exactly.
     Length(i64),
+    /// Scaled points, to the nearest tenth of a point.
+    Points(i64),
     Number(i128),
 }
 
@@ -47,6 +49,32 @@ fn print_text(text: &[u8], out: &mut Vec<u8>) -> Result<(), AllocError>
     Ok(())
 }
 
+// The tenths of a point that are nearest to a length.
+fn tenths_of(length: i64) -> u128
+    ensures { result ≡ tenths_in length }
+{
+    (u128::from(length.unsigned_abs()) * 10 + 32768) / 65536
+}
+
+// So many tenths of a point.
+fn print_tenths(tenths: u128, out: &mut Vec<u8>) -> Result<(), AllocError>
+    ensures { OnOk result (out.new.items ≡ out.old.items ++ tenths_text tenths) }
+{
+    print_decimal(tenths / 10, out)?;
+    out.extend_from_slice(b".")?;
+    print_decimal(tenths % 10, out)
+}
+
+// Scaled points, to the nearest tenth of a point.
+fn print_points(length: i64, out: &mut Vec<u8>) -> Result<(), AllocError>
+    ensures { OnOk result (out.new.items ≡ out.old.items ++ points_text length) }
+{
+    if length < 0 {
+        out.extend_from_slice(b"-")?;
+    }
+    print_tenths(tenths_of(length), out)
+}
+
 fn print_piece(piece: &Piece<'_>, out: &mut Vec<u8>) -> Result<(), AllocError>
     ensures { OnOk result (out.new.items ≡ out.old.items ++ piece_text piece.now) }
 {
@@ -58,6 +86,7 @@ fn print_piece(piece: &Piece<'_>, out: &mut Vec<u8>) -> Result<(), AllocError>
         Piece::Text(text) => print_text(text, out),
         Piece::Count(number) => print_decimal(*number as u128, out),
         Piece::Length(length) => print_scaled(i128::from(*length), out),
+        Piece::Points(length) => print_points(*length, out),
         Piece::Number(number) => print_whole(*number, out),
     }
 }

@@ -6,6 +6,8 @@ ghost use Rattle.pg_draw.specs.Lines.{exit_number};
 
 use crate::course::serve;
 use crate::ending::Status;
+use crate::target::FileTarget;
+use crate::words::{Request, read_request};
 use pg_outside::{FileShelf, StreamSink, words_of};
 use std::io;
 use std::process::ExitCode;
@@ -23,12 +25,29 @@ fn exit_code(status: Status) -> ExitCode
     ExitCode::from(status.number())
 }
 
-// Serves the words, over the files under the working folder, standard output and standard error.
+// The file that the words name for the page, where they name one.
+fn target_of(words: &Vec<String>) -> Option<&str> {
+    match read_request(words) {
+        Some(Request::Draw(job)) => job.options.target,
+        _ => None,
+    }
+}
+
+// Serves the words, over the files under the working folder, the file that they name for the page or standard output,
+// and standard error.
 fn run(rt: &HostRuntime, words: &Vec<String>) -> Status {
     let mut shelf = FileShelf::new(rt);
-    let mut out = StreamSink::new(rt.stdout());
     let mut say = StreamSink::new(rt.stderr());
-    serve(rt.alloc(), words, &mut shelf, &mut out, &mut say)
+    match target_of(words) {
+        Some(name) => {
+            let mut out = FileTarget::new(rt, name);
+            serve(rt.alloc(), words, &mut shelf, &mut out, &mut say)
+        }
+        None => {
+            let mut out = StreamSink::new(rt.stdout());
+            serve(rt.alloc(), words, &mut shelf, &mut out, &mut say)
+        }
+    }
 }
 
 /// Serves the words that the system gives.

@@ -1,6 +1,7 @@
 pub mod PieceLemmas
 pub mod Placed
 pub mod Filled
+mod Faithful
 pub mod WorkedDrawings
 pub mod Summed
 pub mod Limits

@@ -1,9 +1,10 @@
 -- That totals with a limit of depth are accepted.
-use Rattle.std.proofs.Common.{◌≡◌, refl, arith, Bool, true, false, ℤ, pos, ◌≤ℤ◌}
+use Rattle.std.proofs.Common.{◌≡◌, ◌∙◌, ap, refl, arith, Bool, true, false, List, ℤ, pos, ◌≤ℤ◌}
 use Rattle.std.specs.Prelude.{◌-ℤ◌, ◌&&◌, if◌then◌else◌, int_le, int_lt}
 use Rattle.std.specs.Int.{int_min}
-use Rattle.pg_drawing.specs.Laws.{TotalsAddUp}
-use Rattle.pg_drawing.specs.Totals.{hanging, is_total, with_items}
+use Rattle.pg_drawing.specs.Laws.{IsTotal}
+use Rattle.pg_drawing.specs.Totals.{adds_up, hanging, is_total, with_items}
+use Rattle.pg_drawing.specs.declared.model.Mark.{Mark}
 
 same : (h d : ℤ) → int_le (h -ℤ d) (h -ℤ d) ≡ true
 same h d = grind arith
@@ -32,5 +33,7 @@ chosen false h d l e low = rw (less h d l e, low_depth d l e low, below h l low)
 accepts : (h d l : ℤ) → pos 0 ≤ℤ l → is_total h d (h -ℤ int_min l d) ≡ true
 accepts h d l low = chosen (int_lt d l) h d l refl low
 
-pub total_adds_up : TotalsAddUp
-total_adds_up marks limit low = accepts (with_items (pos 0) marks) (hanging (pos 0) marks) limit low
+pub total_adds_up : (marks : List Mark) (total : ℤ) → IsTotal marks total → adds_up marks total ≡ true
+total_adds_up marks total (limit, low, is) =
+    ap (is_total (with_items (pos 0) marks) (hanging (pos 0) marks)) is
+    ∙ accepts (with_items (pos 0) marks) (hanging (pos 0) marks) limit low

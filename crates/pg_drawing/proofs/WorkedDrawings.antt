@@ -6,7 +6,7 @@ use Rattle.pg_scan.specs.Parts.{after, named, parts_of, past, word_number}
 use Rattle.pg_showbox.specs.Nodes.{amount_at, glue_at, glue_text_at, kern_at, past_name, penalty_at, shrink_at, stretch_at}
 use Rattle.pg_showbox.specs.Parts.{digits_at, due, order_at, size_at, whole_at}
 use Rattle.pg_drawing.specs.Drawn.{area_name, area_of}
-use Rattle.pg_drawing.specs.Letters.{letter, letters, letters_at, letters_of, ligature}
+use Rattle.pg_drawing.specs.Letters.{letter, letters, letters_at, ligature}
 use Rattle.pg_drawing.specs.Pieces.{Lines}
 use Rattle.pg_drawing.specs.Shapes.{behind_name, box_at, extent, later_at, named_glue_at, natural_at, past_natural, rule_at, set_at, shape_of, sized_at}
 use Rattle.pg_drawing.specs.Totals.{adds_up}
@@ -50,11 +50,27 @@ mark_is = refl
 
 -- ---- letters
 
-letters_are : letters (Box (pos 0) (pos 0) (pos 0)) (codes "..\\tenrm I" ∷ codes "..\\glue 3.3"
-    ∷ codes "..\\tenrm ^^L (ligature fi)"
-    ∷ codes "..\\penalty 0" ∷ codes "...\\tenrm -" ∷ []) ≡ codes "I fi"
-unfolding letters_of letters_at letter ligature after named parts_of
+abbrev line_of_text : Lines
+line_of_text = record {
+  head = codes ".\\hbox(7.0+2.0)x345.0";
+  rest = codes "..\\hbox(0.0+0.0)x20.0" ∷ codes "...\\tenrm I" ∷ codes "..\\glue 3.3" ∷ codes "..\\tenrm ^^L (ligature fi)"
+      ∷ codes "..\\penalty 0" ∷ codes "..\\discretionary" ∷ codes "...\\tenrm -" ∷ codes "..\\tenrm x" ∷ [];
+}
+
+letters_are : letters line_of_text ≡ codes "I fix"
+unfolding letters_at letter ligature after named parts_of
 letters_are = refl
+
+abbrev note_of_two_lines : Lines
+note_of_two_lines = record {
+  head = codes ".\\insert253, natural size 18.0; split(10.0,2.0); float cost 100";
+  rest = codes "..\\hbox(7.0+2.0)x345.0" ∷ codes "...\\tenrm I" ∷ codes "..\\penalty 0" ∷ codes "..\\hbox(7.0+2.0)x345.0"
+      ∷ codes "...\\tenrm a" ∷ [];
+}
+
+rows_are : letters note_of_two_lines ≡ codes "\nI\na"
+unfolding letters_at letter ligature after named parts_of
+rows_are = refl
 
 -- ---- areas
 

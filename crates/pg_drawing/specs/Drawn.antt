@@ -34,7 +34,7 @@ abbrev pub mark_at : ℤ → Lines → Mark
 mark_at top item = record {
   top = top;
   shape = shape_of item.head;
-  words = letters (shape_of item.head) item.rest;
+  words = letters item;
 }
 
 -- items one below the other, from here on

@@ -1,12 +1,16 @@
--- What follows of the marks of areas.
-use Rattle.std.specs.Prelude.{◌≡◌, ◌≤ℤ◌, ◌-ℤ◌, true, ℕ, List, [], ◌∷◌, map, ℤ, pos, ◌+ℤ◌}
+-- What a drawing shows of the lines of its text.
+use Rattle.std.specs.Prelude.{◌≡◌, ◌≤ℤ◌, ◌-ℤ◌, ℕ, List, [], ◌∷◌, ◌++◌, map, ℤ, pos, ◌+ℤ◌}
 use Rattle.std.specs.Int.{int_min}
-use Rattle.std.specs.List.{filter}
+use Rattle.std.specs.List.{AllByRecursion, filter, flat_map}
 use Rattle.pg_list.specs.Whole.{whole_sum_by}
 use Rattle.pg_drawing.specs.Drawn.{area_of}
 use Rattle.pg_drawing.specs.Pieces.{Lines, begins}
 use Rattle.pg_drawing.specs.Shapes.{extent, shape_of}
-use Rattle.pg_drawing.specs.Totals.{adds_up, hanging, with_items}
+use Rattle.pg_drawing.specs.Totals.{hanging, with_items}
+use Rattle.pg_drawing.specs.declared.model.DrawnArea.{DrawnArea}
+use Rattle.pg_drawing.specs.declared.model.DrawnColumn.{DrawnColumn}
+use Rattle.pg_drawing.specs.declared.model.DrawnPage.{DrawnPage}
+use Rattle.pg_drawing.specs.declared.model.Drawing.{Drawing}
 use Rattle.pg_drawing.specs.declared.model.Mark.{Mark}
 use Rattle.pg_drawing.specs.declared.pieces.Kind.TheVariants as at
 
@@ -32,7 +36,23 @@ pub record IsFilled (lines : Lines) : Type 0 where
   pub height : (area_of lines).height ≡ whole_sum_by line_extent (item_lines lines.rest)
   pub marks : Adjoin (pos 0) (area_of lines).marks (area_of lines).height
 
--- the items of a text add up to their height less what a limit allows of the depth that hangs below
-abbrev pub TotalsAddUp : Type 0
-TotalsAddUp = (marks : List Mark) (limit : ℤ) → pos 0 ≤ℤ limit →
-    adds_up marks (with_items (pos 0) marks -ℤ int_min limit (hanging (pos 0) marks)) ≡ true
+-- an area of lines: a mark for each item line, in order and without gaps
+pub record IsFaithful (area : DrawnArea) : Type 0 where
+  pub lines : Lines
+  pub is : area ≡ area_of lines
+  pub items : AreItsItems lines
+  pub filled : IsFilled lines
+
+-- all areas of a page
+abbrev pub page_areas : DrawnPage → List DrawnArea
+page_areas page = page.wide ++ flat_map (λ (column : DrawnColumn). column.areas) page.columns
+
+-- all areas of a drawing are those of lines
+abbrev pub IsFaithfulDrawing : Drawing → Type 0
+IsFaithfulDrawing drawing = AllByRecursion IsFaithful (flat_map page_areas drawing.pages)
+
+-- the total is the height of all items before glue is set, less the lesser of a limit and of the depth of the last that
+-- has a size
+abbrev pub IsTotal : List Mark → ℤ → Type 0
+IsTotal marks total = (limit : ℤ) × (pos 0 ≤ℤ limit)
+    × (total ≡ with_items (pos 0) marks -ℤ int_min limit (hanging (pos 0) marks))

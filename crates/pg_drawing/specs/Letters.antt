@@ -1,12 +1,11 @@
 -- The letters that an item shows, read off the lines behind its first.
-use Rattle.std.specs.Prelude.{ℕ, ◌&&◌, ◌-◌, Bool, false, not, nat_le, if◌then◌else◌, List, [], ◌∷◌, length, take, Option, Some, None, is_some, codes}
-use Rattle.std.specs.List.{flat_map}
+use Rattle.std.specs.Prelude.{ℕ, ◌==◌, ◌&&◌, ◌-◌, ◌++◌, Bool, false, not, nat_le, nat_lt, if◌then◌else◌, List, [], ◌∷◌, length, take, drop, Option, Some, None, is_some, codes}
+use Rattle.std.specs.List.{prefix_len}
 use Rattle.std.specs.Str.{bytes_eq}
-use Rattle.pg_scan.specs.Parts.{after, named, on}
+use Rattle.pg_drawing.specs.Pieces.{Lines}
+use Rattle.pg_scan.specs.Parts.{after, named}
 use Rattle.pg_words.specs.InOrder.{any_word, due, ended, next, words_of}
 use Rattle.pg_words.specs.Read.{◌>>=◌, if_true}
-use Rattle.pg_drawing.specs.declared.model.Shape.{Shape}
-use Rattle.pg_drawing.specs.declared.model.Shape.TheVariants.{Insert}
 
 -- a sign that is seen
 abbrev pub is_letter : List ℕ → Bool
@@ -47,16 +46,52 @@ unfoldable pub letters_at : List ℕ → List ℕ
 letters_at bytes = if is_some (named (codes "\\glue") bytes) then codes " "
     else either (letter (words_of bytes)) (ligature (words_of bytes))
 
--- a line has these points in front, and then a name
-unfoldable pub letters_of : List ℕ → List ℕ → List ℕ
-letters_of points line =
-    on (after points line) (λ bytes. if is_some (after (codes "\\") bytes) then letters_at bytes else []) []
+-- ---- rows
 
--- the letters of a box stand one level below it, those of an insert within its boxes
-abbrev pub points_of : Shape → List ℕ
-points_of (Insert class size) = codes "..."
-points_of _ = codes ".."
+-- a point
+abbrev pub is_point : ℕ → Bool
+is_point c = c == 46
 
--- the first sixty letters
-abbrev pub letters : Shape → List (List ℕ) → List ℕ
-letters shape lines = take 60 (flat_map (letters_of (points_of shape)) lines)
+-- what stands behind the points of a line
+abbrev pub behind_points : List ℕ → List ℕ
+behind_points line = drop (prefix_len is_point line) line
+
+-- a line is within a box whose own line has so many points, of which there is none at 0
+abbrev pub is_within : ℕ → ℕ → Bool
+is_within outer points = nat_lt 0 outer && nat_lt outer points
+
+-- a line begins with this name behind its points
+abbrev pub has_name : List ℕ → List ℕ → Bool
+has_name name line = is_some (named name (behind_points line))
+
+-- how many points the line has that is open behind a line, where lines of this name open, or 0
+abbrev pub open_behind : List ℕ → ℕ → List ℕ → ℕ
+open_behind name outer line = if is_within outer (prefix_len is_point line) then outer
+    else if has_name name line then prefix_len is_point line else 0
+
+-- the box of a row that is open behind a line
+abbrev pub row_behind : ℕ → List ℕ → ℕ
+row_behind row line = open_behind (codes "\\hbox") row line
+
+-- the place for a hyphen that is open behind a line; what is within it is not seen
+abbrev pub hyphen_behind : ℕ → List ℕ → ℕ
+hyphen_behind hyphen line = open_behind (codes "\\discretionary") hyphen line
+
+-- what a line shows that is seen: a new row where a box begins that is within no other, else its letters
+abbrev pub seen_letters : ℕ → List ℕ → List ℕ
+seen_letters row line = if not (is_within row (prefix_len is_point line)) && has_name (codes "\\hbox") line then 10 ∷ []
+    else if is_some (after (codes "\\") (behind_points line)) then letters_at (behind_points line) else []
+
+-- what a line shows
+abbrev pub line_letters : ℕ → ℕ → List ℕ → List ℕ
+line_letters row hyphen line = if is_within hyphen (prefix_len is_point line) then [] else seen_letters row line
+
+-- what lines show, where a box of a row and a place for a hyphen are open
+abbrev pub rows_in : ℕ → ℕ → List (List ℕ) → List ℕ
+rows_in row hyphen [] = []
+rows_in row hyphen (line ∷ lines) =
+    line_letters row hyphen line ++ rows_in (row_behind row line) (hyphen_behind hyphen line) lines
+
+-- the letters of an item, with a line feed in front of each row but the one that its own line begins
+abbrev pub letters : Lines → List ℕ
+letters item = rows_in (row_behind 0 item.head) 0 item.rest

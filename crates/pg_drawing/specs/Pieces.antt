@@ -41,6 +41,10 @@ abbrev pub inside_count : (List ℕ → Bool) → List (List ℕ) → ℕ
 inside_count is_head [] = 0
 inside_count is_head (line ∷ lines) = if is_head line then 0 else suc (inside_count is_head lines)
 
--- a line and those behind it, behind references
+-- a line and those behind it
+abbrev pub lines_of : List ℕ → List (List ℕ) → Lines
+lines_of head rest = record { head = head; rest = rest }
+
+-- these, behind references
 abbrev pub told : List ℕ → List (Bor (List ℕ)) → Lines
-told head rest = record { head = head; rest = texts rest }
+told head rest = lines_of head (texts rest)

@@ -1,14 +1,13 @@
 //! The drawing of a page text: its pages, their columns, the areas of these, and a mark for each item line.
 //!
-//! Proved: `read_drawing` answers the drawing that the definition makes of the lines of a text; the marks of an area
-//! are those of its item lines, one for each and in order, each begins where the one before it ends, and the area is as
-//! high as its lines say together; `adds_up` tells whether a total is that of marks. The definitions are in
-//! `specs/Pieces`, `specs/Shapes`, `specs/Letters`, `specs/Drawn` and `specs/Totals`; `specs/Laws` says what follows of
-//! marks, and `proofs/WorkedDrawings` computes them.
+//! Proved: `read_drawing` answers the drawing that the definition makes of the lines of a text; the marks of each of its
+//! areas are those of item lines, one for each and in order, each begins where the one before it ends, and the area is as
+//! high as its lines say together; `adds_up` tells whether a total is that of marks, and takes each that is made so. The
+//! definitions are in `specs/Pieces`, `specs/Shapes`, `specs/Letters`, `specs/Drawn` and `specs/Totals`; `specs/Laws` says
+//! what a drawing shows, and `proofs/WorkedDrawings` computes some.
 #![tactic(auto)]
 
 mod heads;
-mod laws;
 mod letters;
 mod model;
 mod pieces;
@@ -18,7 +17,7 @@ mod shapes;
 mod totals;
 mod widths;
 
-pub use laws::{marks_are_items, marks_fill_areas, totals_add_up};
+pub use letters::read_letters;
 pub use model::{
     AreaName, Drawing, DrawnArea, DrawnColumn, DrawnPage, Ends, Head, Mark, Numbers, PageHead,
     Shape,

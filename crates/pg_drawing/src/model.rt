@@ -36,7 +36,8 @@ pub enum Shape {
     Other,
 }
 
-/// An item of an area: where it begins below the top of the area, its shape, and the first letters that it shows.
+/// An item of an area: where it begins below the top of the area, its shape, and the letters that it shows, a line feed
+/// between rows.
 #[derive(Drop)]
 pub struct Mark {
     pub top: i128,

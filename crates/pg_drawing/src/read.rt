@@ -3,10 +3,11 @@ ghost use Rattle.std.specs.Prelude.{◌≡◌, ◌++◌, ◌∷◌, ◌<◌, ◌
 ghost use Rattle.pg_list.specs.Whole.{whole_sum_by};
 ghost use Rattle.pg_scan.specs.Parts.{first_part, parts_of};
 ghost use Rattle.pg_drawing.specs.Drawn.{area_of, areas_of, column_of, columns_of, drawing_of, drawn, item_extent, items_of, mark_at, marks_from, page_of, pages_of};
+ghost use Rattle.pg_drawing.specs.Laws.{IsFaithfulDrawing};
 ghost use Rattle.pg_drawing.specs.Pieces.{texts, told};
 
 use crate::heads::{area_name, page_head, read_ends, read_head, read_numbers};
-use crate::letters::first_letters;
+use crate::letters::read_letters;
 use crate::model::{Drawing, DrawnArea, DrawnColumn, DrawnPage, Mark};
 use crate::pieces::{Kind, front, next_piece};
 use crate::series::Series;
@@ -31,7 +32,7 @@ impl Placing {
         ensures size { OnOk result (nat_abs self.new.top ≤ nat_abs self.old.top + 2 ^ 60) }
     {
         let shape = shape(head);
-        let words = first_letters(alloc, shape, rest)?;
+        let words = read_letters(alloc, head, rest)?;
         self.marks.push(Mark {
             top: self.top,
             shape,
@@ -176,12 +177,20 @@ fn split_lines<'a>(alloc: Global, text: &'a [u8]) -> Result<Vec<&'a [u8]>, Alloc
     Ok(lines)
 }
 
-/// The drawing of a page text: of each page its columns, and of each area a mark for each item line, in order, from its
-/// top on without gaps. It is the drawing of any bytes; what is no line of a page text has no part in it. The only
-/// refusal is for want of memory.
-pub fn read_drawing(alloc: Global, text: &[u8]) -> Result<Drawing, AllocError>
+// The drawing of a text.
+fn read_text(alloc: Global, text: &[u8]) -> Result<Drawing, AllocError>
     ensures { IfOk result (λ drawing. drawing ≡ drawing_of text.now) }
 {
     let lines = split_lines(alloc, text)?;
     read_lines(alloc, lines.as_slice())
+}
+
+/// The drawing of a page text: of each page its columns, and of each area a mark for each item line, in order, from its
+/// top on without gaps. It is the drawing of any bytes; what is no line of a page text has no part in it. The only
+/// refusal is for want of memory.
+pub fn read_drawing(alloc: Global, text: &[u8]) -> Result<Drawing, AllocError>
+    ensures drawing { IfOk result (λ drawing. drawing ≡ drawing_of text.now) }
+    ensures faithful { IfOk result IsFaithfulDrawing }
+{
+    read_text(alloc, text)
 }

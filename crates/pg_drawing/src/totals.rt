@@ -1,5 +1,6 @@
 //! Whether item lines add up to the total that is printed for them.
-ghost use Rattle.std.specs.Prelude.{◌≡◌, ◌≤◌, ◌^◌, ◌+◌, ◌+ℤ◌, nat_abs, pos};
+ghost use Rattle.std.specs.Prelude.{◌≡◌, ◌≤◌, ◌^◌, ◌+◌, ◌+ℤ◌, nat_abs, pos, true};
+ghost use Rattle.pg_drawing.specs.Laws.{IsTotal};
 ghost use Rattle.pg_drawing.specs.Totals.{adds_up as adds_up_so, hanging, hanging_behind as hanging_so, is_total as is_total_so, natural_extent as natural_so, with_items};
 
 use crate::model::{Mark, Shape};
@@ -84,9 +85,18 @@ fn is_total(sum: &Sum, total: &i64) -> bool
         })
 }
 
-/// Whether the marks of a text add up to this total, whatever depth is allowed below the last.
-pub fn adds_up(marks: &[Mark], total: &i64) -> bool
+// Whether the marks of a text add up to this total.
+fn has_total(marks: &[Mark], total: &i64) -> bool
     ensures { result ≡ adds_up_so marks.now total.now }
 {
     is_total(&sum_of(marks), total)
+}
+
+/// Whether the marks of a text add up to this total, whatever depth is allowed below the last. It takes each total that
+/// some limit of the depth makes.
+pub fn adds_up(marks: &[Mark], total: &i64) -> bool
+    ensures value { result ≡ adds_up_so marks.now total.now }
+    ensures takes { IsTotal marks.now total.now → result ≡ true }
+{
+    has_total(marks, total)
 }

@@ -1,7 +1,7 @@
 -- Folding moves piles and does not look at what they hold.
 use Rattle.std.proofs.Common.{◌≡◌, ◌∙◌, refl, sym, ap, ap₂, ℕ, zero, suc, ◌/◌, ◌%◌, Bool, true, false, List, [], ◌∷◌, ◌++◌, length, map, take, drop}
 use Rattle.std.specs.Prelude.{reverse, ◌==◌, if◌then◌else◌}
-use Rattle.std.proofs.lemmas.List.{map-append, reverse-append, length-map, take-map, drop-map}
+use Rattle.std.proofs.lemmas.List.{map-append, length-map, take-map, drop-map}
 use Rattle.pg_fold.specs.Folding.{paired, halved, turned_over, fold, folded, only_pile, reading, row_count, column_count, parts, faces, piles}
 use Rattle.pg_lemmas.proofs.Lists.{reverse_cons}
 
@@ -31,7 +31,7 @@ map_turned : {A B : Type 0} (f : A → B) (above below : List A) →
     map f (turned_over above below) ≡ turned_over (map f above) (map f below)
 map_turned f above below = map-append f (reverse above) below ∙ ap (λ ys. ys ++ map f below) (map_reverse f above)
 
-map_map : {A B C : Type 0} (g : B → C) (f : A → B) (h : A → C) → ((x : A) → g (f x) ≡ h x) → (xs : List A) →
+pub map_map : {A B C : Type 0} (g : B → C) (f : A → B) (h : A → C) → ((x : A) → g (f x) ≡ h x) → (xs : List A) →
     map g (map f xs) ≡ map h xs
 map_map g f h same [] = refl
 map_map g f h same (x ∷ xs) = ap₂ (λ z zs. z ∷ zs) (same x) (map_map g f h same xs)

@@ -1,7 +1,7 @@
 -- What is read of the sheets that hold each page where it is due.
 use Rattle.std.proofs.Common.{◌≡◌, ◌∙◌, refl, sym, ap, ap₂, arith, ℕ, zero, suc, ◌+◌, ◌*◌, ◌-◌, ◌<◌, ◌≤◌, ◌/◌, ◌%◌, ◌^◌, List, ◌∷◌, ◌++◌, map, length, replicate, take, drop, ltb, lt-ltb, le-ltb, mod-lt, div-add-mod', suc-mul}
 use Rattle.std.specs.Prelude.{reverse}
-use Rattle.std.specs.List.{range_with_len, flat_map}
+use Rattle.std.specs.List.{AllByRecursion, range_with_len, flat_map}
 use Rattle.std.proofs.Math.Nat.{div-lt_iff_lt-mul}
 use Rattle.std.proofs.Math.Seq.{drop-append_seam}
 use Rattle.std.proofs.lemmas.Bool.{cond-true, cond-false}
@@ -9,19 +9,19 @@ use Rattle.std.proofs.lemmas.List.{length-append}
 use Rattle.std.proofs.lemmas.List.Folds.{flat_map-map}
 use Rattle.std.proofs.lemmas.List.FromFn.{length-map-range_with_len, take-map-range_with_len}
 use Rattle.pg_fold.specs.Folding.{piles, reading, sheet_reading, first_half, second_half, signature_reading, readings}
-use Rattle.pg_fold.specs.Imposed.{layout_of, sheet_pages, signature_pages, signature_count, sheet_place, signature_place, page_at, cells, sheet_of, signature_of, imposed}
-use Rattle.pg_fold.specs.Laws.{ReadsInOrder, FoldedSheetsRead}
+use Rattle.pg_fold.specs.Imposed.{cell_page, layout_of, sheet_pages, signature_pages, signature_count, sheet_place, signature_place, page_at, cells, sheet_of, signature_of, imposed}
+use Rattle.pg_fold.specs.Laws.{HasCells, ReadsInOrder, FoldedSheetsRead}
 use Rattle.pg_fold.specs.declared.face.Side.{Side}
 use Rattle.pg_fold.specs.declared.face.Side.TheVariants.{Front, Back}
 use Rattle.pg_fold.specs.declared.layout.Layout.{Layout}
 use Rattle.pg_fold.specs.declared.sheets.Sheet.{Sheet}
+use Rattle.pg_lemmas.proofs.Lists.{all_append}
 use Rattle.pg_fold.proofs.Natural.{map_reverse, reading_map}
+use Rattle.pg_fold.proofs.OneReading.{AreRead, are_read, stands_once}
+use Rattle.pg_fold.proofs.Places.{places}
 use Rattle.pg_fold.proofs.Runs.{alike, map_append_range, joined, joined_back, cut_joined, all_zero, map_same}
 
 -- ---- one sheet: the places themselves, computed
-
-abbrev pub places : ℕ → Side → List ℕ
-places folds side = map (sheet_place folds side) (range_with_len 0 (2 ^ folds))
 
 -- the places are read in order, and there are two for each cell
 pub record AreInOrder (folds : ℕ) : Type 0 where
@@ -235,15 +235,40 @@ module _ (folds nest pages : ℕ) (order : AreInOrder folds) (some : 1 ≤ nest)
               let s : length (xs ++ ys) ≡ length xs + length ys = length-append xs ys in
               omega (arith, e, s, long, rest)
 
-  pub reads_in_order : ReadsInOrder folds nest pages (imposed folds nest pages)
-  reads_in_order =
+  sheets_cells : AllByRecursion (HasCells folds) (imposed folds nest pages)
+  sheets_cells = all_cells 0 (signature_count folds nest pages)
+    where
+      from : (begin a n : ℕ) → AllByRecursion (HasCells folds)
+          (map (sheet_of (layout_of folds nest pages) begin) (range_with_len a n))
+      from begin a zero = tt
+      from begin a (suc n) = (
+        record {
+          front = length-map-range_with_len (cell_page (layout_of folds nest pages) begin a Front) 0 (2 ^ folds);
+          back = length-map-range_with_len (cell_page (layout_of folds nest pages) begin a Back) 0 (2 ^ folds);
+        },
+        from begin (a + 1) n,
+      )
+
+      all_cells : (a n : ℕ) → AllByRecursion (HasCells folds)
+          (flat_map (signature_of (layout_of folds nest pages)) (range_with_len a n))
+      all_cells a zero = tt
+      all_cells a (suc n) = all_append (HasCells folds) (signature_of (layout_of folds nest pages) a)
+          (flat_map (signature_of (layout_of folds nest pages)) (range_with_len (a + 1) n))
+          (from (a * signature_pages folds nest) 0 nest) (all_cells (a + 1) n)
+
+  pub reads_in_order : AreRead folds → ReadsInOrder folds nest pages (imposed folds nest pages)
+  reads_in_order read =
       let c = ceiling pages size size_some in
       record {
+        cells = sheets_cells;
         count = sheets_count;
         holds = c.0;
         least = c.1;
         reads = all_read ∙ pages_then_blanks (count * size) c.0;
+        once = stands_once folds nest pages read (imposed folds nest pages) sheets_cells sheets_count
+            (all_read ∙ pages_then_blanks (count * size) c.0);
       }
 
 pub folded_read : FoldedSheetsRead
 folded_read folds nest pages some few one = reads_in_order folds nest pages (are_in_order folds some few) one
+    (are_read folds some few)

@@ -1,13 +1,17 @@
 //! The program over the system: the top call over the files under the working folder, standard output and standard
 //! error, and the exit status.
 //!
-//! Proved: that it is safe and ends, and that the exit status is that of how the top call ended (`exit_code`). No
-//! contract can say what the system gives and takes.
+//! Proved: that it is safe and ends, that it tells the user how to call it exactly for words that are no command (`run`),
+//! and that the exit status is that of how the top call ended (`exit_code`). No contract can say what the system gives and
+//! takes.
 #![tactic(auto)]
 
-ghost use Rattle.std.specs.Prelude.{◌≡◌};
+ghost use Rattle.std.specs.Prelude.{◌≡◌, ◌↔◌, None};
 ghost use Rattle.std.specs.Process.{exit_status};
+ghost use Rattle.pg_outside.specs.Words.{texts_of};
 ghost use Rattle.pg_command.specs.Lines.{exit_number};
+ghost use Rattle.pg_command.specs.Words.{command_of};
+ghost use Rattle.pg_command.specs.declared.status.Status.TheVariants.{Usage};
 
 use pg_outside::{FileShelf, StreamSink, words_of};
 use pg_table::Steps;
@@ -35,6 +39,7 @@ fn run<L: Ledger>(rt: &HostRuntime, words: &Vec<String>, blank: Blank) -> Status
     requires name { blank.name ≡ L.name }
     requires parts { blank.parts ≡ L.parts }
     requires one { blank.parts ≡ 1 }
+    ensures usage { (result ≡ Usage) ↔ (command_of (texts_of words.now) ≡ None) }
 {
     let mut shelf = FileShelf::new(rt);
     let mut out = StreamSink::new(rt.stdout());

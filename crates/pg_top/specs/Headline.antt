@@ -1,7 +1,6 @@
 -- What the program promises, over any shelf and any sinks.
 use Rattle.std.specs.Prelude.{◌≡◌, ◌↔◌, ℕ, List, [], ⊤, Option, None, IfSome}
-use Rattle.std.specs.Io.KnownBytes.{Keeps}
-use Rattle.pg_outside.specs.Outside.{Held, OverSink, Rose}
+use Rattle.pg_outside.specs.Outside.{Held, OverOutput, OverSink, Rose, Sends, SendsNothing}
 use Rattle.pg_command.specs.declared.status.Status.{Status}
 use Rattle.pg_command.specs.declared.status.Status.TheVariants.{Done, NoLegal, Usage, Refused, ReadFault, WriteFault}
 use Rattle.pg_command.specs.declared.status.Status.TheVariants.{Memory, NotProved}
@@ -11,13 +10,13 @@ use Rattle.pg_course.specs.Course.{Course, Ended, EndedBefore, OnSettled, OnRead
 use Rattle.pg_course.specs.Calls.{OverShelf, WroteWhole}
 
 -- a file could not be read, with a cause, and nothing was written
-pub record ReadFailed (command : Option Command) (shelf : OverShelf) (out : OverSink) : Type 0 where
+pub record ReadFailed (command : Option Command) (shelf : OverShelf) (out : OverOutput) : Type 0 where
   pub line : List ℕ
   pub cause : ReadLine command shelf.told shelf.before shelf.after shelf.last line
-  pub keeps : Keeps out.old out.new
+  pub keeps : SendsNothing out.old out.new
 
 -- the output failed, with a cause, and a front of the texts was written
-pub record WriteFailed (command : Option Command) (shelf : OverShelf) (out : OverSink) : Type 0 where
+pub record WriteFailed (command : Option Command) (shelf : OverShelf) (out : OverOutput) : Type 0 where
   pub cause : Rose out.before out.after
   pub front : IfSome shelf.told (λ held. EndedBefore command held out.old out.new)
 
@@ -44,9 +43,9 @@ IsLineOf command shelf WriteFault line = line ≡ output_line
 IsLineOf command shelf Memory line = line ≡ memory_line
 
 -- the program's promise for these words, by how it ended
-pub record Headline (words : List (List ℕ)) (shelf : OverShelf) (out say : OverSink)
-    (status : Status) : Type 0 where
-  -- where it ended by itself, it wrote exactly the texts of the course, and ended as the course does
+pub record Headline (words : List (List ℕ)) (shelf : OverShelf) (out : OverOutput)
+    (say : OverSink) (status : Status) : Type 0 where
+  -- where it ended by itself, it wrote exactly the texts of the course, each in one write, and ended as the course does
   pub texts : OnSettled status (IfSome shelf.told (λ held.
       (line : List ℕ) × Ended (command_of words) held out.old out.new status line))
   pub read_fault : OnReadFault status (ReadFailed (command_of words) shelf out)
@@ -60,4 +59,10 @@ pub record Headline (words : List (List ℕ)) (shelf : OverShelf) (out say : Ove
       × IsLineOf (command_of words) shelf status line
   -- words that are no command are answered so, whatever the shelf tells
   pub usage : (status ≡ Usage) ↔ (command_of words ≡ None)
-  pub usage_keeps : command_of words ≡ None → Keeps out.old out.new
+  pub usage_keeps : command_of words ≡ None → SendsNothing out.old out.new
+
+-- whatever course the command has, its texts are what was written, each in one write, and it ends so: there is no other
+-- answer
+abbrev pub IsSole : Option Command → OverOutput → Status → Held → Type 0
+IsSole command out status held = (texts : List (List ℕ)) (end : Status) (line : List ℕ) →
+    Course command held texts end line → (end ≡ status) × Sends out.old out.new texts

@@ -4,7 +4,7 @@ ghost use Rattle.std.specs.Prelude.{◌≡◌};
 use crate::world::World;
 use pg_outside::{MemShelf, MemSink};
 use pg_table::Steps;
-use pg_top::{Status, serve};
+use pg_top::Status;
 use std::alloc::{AllocError, Global};
 use std::marker::Brand;
 use std::sync::ledger::{Blank, Ledger};
@@ -25,8 +25,16 @@ fn words_of(alloc: Global, line: &str) -> Result<Vec<String>, AllocError> {
     Ok(words)
 }
 
+/// Which program is called.
+#[derive(Clone, Copy)]
+pub enum Program {
+    Pg,
+    PgTell,
+}
+
 fn over_memory<L: Ledger>(
     alloc: Global,
+    program: Program,
     words: &Vec<String>,
     shelf: &mut MemShelf,
     out: &mut MemSink,
@@ -38,7 +46,10 @@ fn over_memory<L: Ledger>(
     requires one { blank.parts ≡ 1 }
 {
     let mut steps = Steps::<L>::new(blank);
-    serve(alloc, words, shelf, out, say, &mut steps)
+    match program {
+        Program::Pg => pg_top::serve(alloc, words, shelf, out, say, &mut steps),
+        Program::PgTell => pg_tell::serve(alloc, words, shelf, out, say, &mut steps),
+    }
 }
 
 // Adds a line behind a mark, and `\` where no line feed ends it.
@@ -114,12 +125,25 @@ fn name_of(status: Status) -> &'static str {
 
 /// What comes of a call with these words: its status, and the lines that were written and said. The world keeps what was
 /// written.
-pub fn told_of(alloc: Global, line: &str, world: &mut World) -> Result<Vec<u8>, AllocError> {
+pub fn told_of(
+    alloc: Global,
+    program: Program,
+    line: &str,
+    world: &mut World,
+) -> Result<Vec<u8>, AllocError> {
     let words = words_of(alloc, line)?;
     let mut shelf = world.shelf(alloc)?;
     let mut out = world.out(alloc)?;
     let mut say = world.say(alloc)?;
-    let status = over_memory::<Brand>(alloc, &words, &mut shelf, &mut out, &mut say, Blank::new(1));
+    let status = over_memory::<Brand>(
+        alloc,
+        program,
+        &words,
+        &mut shelf,
+        &mut out,
+        &mut say,
+        Blank::new(1),
+    );
     let number = status.number();
     let name = name_of(status);
     let head = format!(in alloc; "status {number} {name}\n")?;

@@ -16,7 +16,7 @@
 //! | `fetch N fails` | in each call the Nth file that is asked for cannot be read |
 //! | `write N fails after M` | the Nth write of each call fails, after M bytes |
 //! | `say N fails after M` | so does the Nth piece of what is said |
-//! | `pg WORDS` | a call; `""` stands for an empty word |
+//! | `pg WORDS`, `pg_tell WORDS` | a call; `""` stands for an empty word |
 //! | `# ..`, and an empty line | nothing |
 //!
 //! A line that is none of these is answered with `?`. The stored run is the test of the program as a whole: its `stdout`

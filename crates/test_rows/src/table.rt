@@ -1,5 +1,5 @@
 //! A table, written again with what came of its calls.
-use crate::call::told_of;
+use crate::call::{Program, told_of};
 use crate::setting::set_world;
 use crate::world::World;
 use pg_outside::Shelf;
@@ -31,12 +31,13 @@ impl Told {
 // Adds a call; where the one before left the same, that is not written twice.
 fn tell_call(
     alloc: Global,
+    program: Program,
     line: &str,
     words: &str,
     world: &mut World,
     told: &mut Told,
 ) -> Result<(), AllocError> {
-    let now = told_of(alloc, words, world)?;
+    let now = told_of(alloc, program, words, world)?;
     if now != told.last {
         told.end()?;
     }
@@ -68,7 +69,8 @@ fn tell_line<H: Shelf>(
     told: &mut Told,
 ) -> Result<(), AllocError> {
     match line.split_once(' ').unwrap_or((line, "")) {
-        ("pg", words) => tell_call(alloc, line, words, world, told),
+        ("pg", words) => tell_call(alloc, Program::Pg, line, words, world, told),
+        ("pg_tell", words) => tell_call(alloc, Program::PgTell, line, words, world, told),
         _ => tell_setting(alloc, line, shelf, world, told),
     }
 }

@@ -1,6 +1,6 @@
 //! The commands that tell something of the best pages.
 ghost use Rattle.std.specs.Prelude.{Some};
-ghost use Rattle.pg_outside.specs.Outside.{over_sink};
+ghost use Rattle.pg_outside.specs.Outside.{over_output};
 ghost use Rattle.pg_command.specs.Lines.{status_of};
 ghost use Rattle.pg_command.specs.Words.{compare as compare_command, fold as fold_command, heads as heads_command, IsFolds, IsNest};
 ghost use Rattle.pg_course.specs.Calls.{Goes, over_shelf};
@@ -24,7 +24,7 @@ pub fn heads_course<'a, H: Shelf, O: Sink, L: Ledger>(
 ) -> Ending<'a>
     ensures goes { Goes (Some (heads_command style.now galley.now wrap))
         (over_shelf (H.held shelf.old) (H.faults shelf.old) (H.faults shelf.new) (H.last_failed shelf.new))
-        (over_sink (O.written out.old) (O.written out.new) (O.faults out.old) (O.faults out.new)) result }
+        (over_output O.written O.writes O.faults out.old out.new) result }
     ensures counted { UnlessMemory (status_of result)
         (IsCounted (Some (heads_command style.now galley.now wrap)) (H.held shelf.old) steps.old steps.new) }
 {
@@ -43,7 +43,7 @@ pub fn compare_course<'a, H: Shelf, O: Sink, L: Ledger>(
 ) -> Ending<'a>
     ensures goes { Goes (Some (compare_command style.now galley.now wrap))
         (over_shelf (H.held shelf.old) (H.faults shelf.old) (H.faults shelf.new) (H.last_failed shelf.new))
-        (over_sink (O.written out.old) (O.written out.new) (O.faults out.old) (O.faults out.new)) result }
+        (over_output O.written O.writes O.faults out.old out.new) result }
     ensures counted { UnlessMemory (status_of result)
         (IsCounted (Some (compare_command style.now galley.now wrap)) (H.held shelf.old) steps.old steps.new) }
 {
@@ -66,7 +66,7 @@ pub fn fold_course<'a, H: Shelf, O: Sink, L: Ledger>(
     requires nest { IsNest nest }
     ensures goes { Goes (Some (fold_command style.now galley.now folds nest wrap))
         (over_shelf (H.held shelf.old) (H.faults shelf.old) (H.faults shelf.new) (H.last_failed shelf.new))
-        (over_sink (O.written out.old) (O.written out.new) (O.faults out.old) (O.faults out.new)) result }
+        (over_output O.written O.writes O.faults out.old out.new) result }
     ensures counted { UnlessMemory (status_of result)
         (IsCounted (Some (fold_command style.now galley.now folds nest wrap)) (H.held shelf.old)
         steps.old steps.new) }

@@ -1,6 +1,6 @@
 //! The commands that paginate, and the check of what one writes.
 ghost use Rattle.std.specs.Prelude.{Some};
-ghost use Rattle.pg_outside.specs.Outside.{over_sink};
+ghost use Rattle.pg_outside.specs.Outside.{over_output};
 ghost use Rattle.pg_command.specs.Lines.{status_of};
 ghost use Rattle.pg_command.specs.Words.{check as check_command, edit as edit_command, run as run_command, style_name, IsStyle, named};
 ghost use Rattle.pg_course.specs.Calls.{Goes, over_shelf};
@@ -27,7 +27,7 @@ pub fn run_course<'a, H: Shelf, O: Sink, L: Ledger>(
     requires { IsStyle style }
     ensures goes { Goes (Some (run_command (style_name style.entry) name.now labels wrap))
         (over_shelf (H.held shelf.old) (H.faults shelf.old) (H.faults shelf.new) (H.last_failed shelf.new))
-        (over_sink (O.written out.old) (O.written out.new) (O.faults out.old) (O.faults out.new)) result }
+        (over_output O.written O.writes O.faults out.old out.new) result }
     ensures counted { UnlessMemory (status_of result)
         (IsCounted (Some (run_command (style_name style.entry) name.now labels wrap)) (H.held shelf.old)
         steps.old steps.new) }
@@ -49,7 +49,7 @@ pub fn edit_course<'a, H: Shelf, O: Sink, L: Ledger>(
 ) -> Ending<'a>
     ensures goes { Goes (Some (edit_command style.now galley.now script.now labels wrap))
         (over_shelf (H.held shelf.old) (H.faults shelf.old) (H.faults shelf.new) (H.last_failed shelf.new))
-        (over_sink (O.written out.old) (O.written out.new) (O.faults out.old) (O.faults out.new)) result }
+        (over_output O.written O.writes O.faults out.old out.new) result }
     ensures counted { UnlessMemory (status_of result)
         (IsCounted (Some (edit_command style.now galley.now script.now labels wrap)) (H.held shelf.old)
         steps.old steps.new) }
@@ -71,10 +71,10 @@ pub fn check_course<'a, H: Shelf, O: Sink>(
 ) -> Ending<'a>
     ensures goes { Goes (Some (check_command style.now galley.now output.now wrap))
         (over_shelf (H.held shelf.old) (H.faults shelf.old) (H.faults shelf.new) (H.last_failed shelf.new))
-        (over_sink (O.written out.old) (O.written out.new) (O.faults out.old) (O.faults out.new)) result }
+        (over_output O.written O.writes O.faults out.old out.new) result }
     ensures complete { IsComplete (Some (check_command style.now galley.now output.now wrap))
         (over_shelf (H.held shelf.old) (H.faults shelf.old) (H.faults shelf.new) (H.last_failed shelf.new))
-        (over_sink (O.written out.old) (O.written out.new) (O.faults out.old) (O.faults out.new)) (status_of result) }
+        (over_output O.written O.writes O.faults out.old out.new) (status_of result) }
 {
     pg_course::check_course(alloc, style, galley, output, wrap, shelf, out)
 }

@@ -1,6 +1,6 @@
 //! The commands that write a galley.
 ghost use Rattle.std.specs.Prelude.{Some};
-ghost use Rattle.pg_outside.specs.Outside.{over_sink};
+ghost use Rattle.pg_outside.specs.Outside.{over_output};
 ghost use Rattle.pg_command.specs.Words.{IsLineRule, lines as lines_command, show as show_command};
 ghost use Rattle.pg_course.specs.Calls.{Goes, over_shelf};
 
@@ -18,7 +18,7 @@ pub fn show_course<'a, H: Shelf, O: Sink>(
 ) -> Ending<'a>
     ensures goes { Goes (Some (show_command name.now wrap))
         (over_shelf (H.held shelf.old) (H.faults shelf.old) (H.faults shelf.new) (H.last_failed shelf.new))
-        (over_sink (O.written out.old) (O.written out.new) (O.faults out.old) (O.faults out.new)) result }
+        (over_output O.written O.writes O.faults out.old out.new) result }
 {
     pg_course::show_course(alloc, name, wrap, shelf, out)
 }
@@ -36,7 +36,7 @@ pub fn lines_course<'a, H: Shelf, O: Sink>(
     requires { IsLineRule width tolerance around }
     ensures goes { Goes (Some (lines_command width tolerance around file.now))
         (over_shelf (H.held shelf.old) (H.faults shelf.old) (H.faults shelf.new) (H.last_failed shelf.new))
-        (over_sink (O.written out.old) (O.written out.new) (O.faults out.old) (O.faults out.new)) result }
+        (over_output O.written O.writes O.faults out.old out.new) result }
 {
     pg_course::lines_course(alloc, width, tolerance, around, file, shelf, out)
 }

@@ -2,7 +2,7 @@
 ghost use Rattle.pg_outside.specs.Outside.{over_sink};
 ghost use Rattle.pg_outside.specs.Words.{texts_of};
 ghost use Rattle.pg_draw.specs.Texts.{Serves};
-ghost use Rattle.pg_draw.specs.Words.{names_of};
+ghost use Rattle.pg_draw.specs.Words.{asked_of};
 
 use pg_draw::{Status, serve};
 use pg_outside::{Shelf, Sink};
@@ -16,7 +16,7 @@ pub fn serve_drawing<H: Shelf, O: Sink, E: Sink>(
     out: &mut O,
     say: &mut E,
 ) -> Status
-    ensures { Serves (H.held shelf.old) (names_of (texts_of words.now))
+    ensures { Serves (H.held shelf.old) (asked_of (texts_of words.now))
         (over_sink (O.written out.old) (O.written out.new) (O.faults out.old) (O.faults out.new))
         (over_sink (E.written say.old) (E.written say.new) (E.faults say.old) (E.faults say.new))
         result }

@@ -1,7 +1,7 @@
 //! Labels that are tested.
-ghost use Rattle.std.specs.Prelude.{◌≡◌, ◌+ℤ◌, length, IfOk, None, Some};
+ghost use Rattle.std.specs.Prelude.{◌≡◌, ◌≤◌, ◌+◌, ◌+ℤ◌, length, IfOk, None, Some};
 ghost use Rattle.std.specs.Bool.{Decides};
-ghost use Rattle.pg_cover.specs.Covered.{AreOwn, CoveredBy, IsFirstOpen, NoneOpenBefore};
+ghost use Rattle.pg_cover.specs.Covered.{AreOwn, CoveredBy, IsFirstOpen, NoneOpenBefore, opened_count};
 ghost use Rattle.pg_cover.specs.declared.cover.Open.{Open as AnOpen};
 
 use pg_cover::Open;
@@ -37,6 +37,8 @@ pub fn first_open<S: Offering<State = SmallState, Move = SmallMove>, L: Ledger>(
         → NoneOpenBefore (S.meaning space.now) labels.now (length labels.now)) }
     ensures some { IfOk result (λ found. (o : AnOpen) → found ≡ Some o
         → IsFirstOpen (S.meaning space.now) labels.now o.index o.to) }
+    ensures counted { IfOk result (λ found. steps.new ≡ steps.old + opened_count (length labels.now) found) }
+    ensures bounded { steps.new ≤ steps.old + length labels.now }
 {
     pg_cover::first_open(alloc, space, labels, steps)
 }

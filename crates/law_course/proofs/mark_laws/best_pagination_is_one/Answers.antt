@@ -2,4 +2,4 @@ use Rattle.law_course.proofs.OneBest.{best_one}
 use Rattle.law_course.proofs.mark_laws.best_pagination_is_one.Goals as goal
 
 pub returns : goal.returns
-returns c = best_one c.args.galley.now c.args.style.now c.requires
+returns c = best_one c.args.galley.now c.args.style.now

@@ -1,6 +1,6 @@
 use Rattle.std.proofs.Common.{◌≡◌, subst, sym}
 use Rattle.std.specs.Prelude.{IfSome, Ok, Option, Some}
-use Rattle.pg_outside.specs.Outside.{Held, over_sink}
+use Rattle.pg_outside.specs.Outside.{Held, output_over, sent}
 use Rattle.pg_command.specs.Lines.{status_of}
 use Rattle.pg_command.specs.Words.{check, named}
 use Rattle.pg_course.specs.Calls.{over_shelf}
@@ -11,12 +11,12 @@ use Rattle.pg_course.proofs.check.check_course.Goals as goal
 
 pub returns-in-Err-clause-complete : goal.returns-in-Err-clause-complete
 returns-in-Err-clause-complete g c =
-    let old = g.O.Sink.written c.args.out.now in
+    let old = sent g.O.Sink.written g.O.Sink.writes c.args.out.now in
     let writes = g.O.Sink.faults c.args.out.now in
     no_style_complete c.args.style.now c.args.galley.now c.args.output.now c.args.wrap
     (over_shelf (g.H.Shelf.held c.args.shelf.now) (g.H.Shelf.faults c.args.shelf.now)
     (g.H.Shelf.faults c.open_style.new.shelf) (g.H.Shelf.last_failed c.open_style.new.shelf))
-    (over_sink old old writes writes) c.in-Err.ending c.in-Err.ensures.stopped
+    (output_over old old writes writes) c.in-Err.ending c.in-Err.ensures.stopped
 
 pub returns-in-Ok-clause-goes : goal.returns-in-Ok-clause-goes
 returns-in-Ok-clause-goes g c =
@@ -25,7 +25,7 @@ returns-in-Ok-clause-goes g c =
     goes_earlier (Some (check c.args.style.now c.args.galley.now c.args.output.now c.args.wrap)) told mid
     (g.H.Shelf.faults c.args.shelf.now) (g.H.Shelf.faults c.open_style.new.shelf)
     (g.H.Shelf.faults c.check_styled.new.shelf) (g.H.Shelf.last_failed c.check_styled.new.shelf)
-    (over_sink (g.O.Sink.written c.args.out.now) (g.O.Sink.written c.check_styled.new.out)
+    (output_over (sent g.O.Sink.written g.O.Sink.writes c.args.out.now) (sent g.O.Sink.written g.O.Sink.writes c.check_styled.new.out)
     (g.O.Sink.faults c.args.out.now) (g.O.Sink.faults c.check_styled.new.out)) c.check_styled.result
     c.open_style.ensures.same c.open_style.ensures.later
     (c.check_styled.ensures.goes c.args.style.now
@@ -39,7 +39,7 @@ returns-in-Ok-clause-complete g c =
     complete_earlier c.args.style.now c.args.galley.now c.args.output.now c.args.wrap told mid
     (g.H.Shelf.faults c.args.shelf.now) (g.H.Shelf.faults c.open_style.new.shelf)
     (g.H.Shelf.faults c.check_styled.new.shelf) (g.H.Shelf.last_failed c.check_styled.new.shelf)
-    (over_sink (g.O.Sink.written c.args.out.now) (g.O.Sink.written c.check_styled.new.out)
+    (output_over (sent g.O.Sink.written g.O.Sink.writes c.args.out.now) (sent g.O.Sink.written g.O.Sink.writes c.check_styled.new.out)
     (g.O.Sink.faults c.args.out.now) (g.O.Sink.faults c.check_styled.new.out)) (status_of c.check_styled.result)
     c.open_style.ensures.same c.open_style.ensures.later
     (c.check_styled.ensures.complete c.args.style.now

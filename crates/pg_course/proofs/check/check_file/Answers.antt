@@ -1,16 +1,27 @@
 use Rattle.std.proofs.Common.{rules}
 use Rattle.std.specs.Prelude.{Result}
 use Rattle.pg_labels.specs.declared.output.Output.{Output}
-use Rattle.pg_outside.specs.Outside.{Held}
+use Rattle.pg_outside.specs.Outside.{Held, sent}
 use Rattle.pg_command.specs.Lines.{line_of, status_of}
 use Rattle.pg_course.specs.Course.{BeginsBy, CheckText, EndsBy, Stop, opened_output}
+use Rattle.pg_course.specs.Calls.{over_shelf}
 use Rattle.pg_course.proofs.Runs.{on_settled, on_write_fault, when_said}
+use Rattle.pg_course.proofs.Stops.{stopped_check}
 use Rattle.pg_course.proofs.check.check_file.Goals as goal
+
+pub returns-in-Err : goal.returns-in-Err
+returns-in-Err g c = record {
+  goes = stopped_check c.args.style.now c.args.galley.now c.args.name.now
+      (over_shelf (g.H.Shelf.held c.args.shelf.now) (g.H.Shelf.faults c.args.shelf.now)
+      (g.H.Shelf.faults c.open_output.new.shelf) (g.H.Shelf.last_failed c.open_output.new.shelf))
+      (sent g.O.Sink.written g.O.Sink.writes c.args.out.now) (g.O.Sink.faults c.args.out.now) c.in-Err.ending
+      c.in-Err.ensures.stopped;
+}
 
 pub returns-in-Ok : goal.returns-in-Ok
 returns-in-Ok g c =
-    let old = g.O.Sink.written c.args.out.now in
-    let new = g.O.Sink.written c.check_output.new.out in
+    let old = sent g.O.Sink.written g.O.Sink.writes c.args.out.now in
+    let new = sent g.O.Sink.written g.O.Sink.writes c.check_output.new.out in
     let end = c.check_output.result in
     record {
       goes =

@@ -1,6 +1,6 @@
 use Rattle.std.proofs.Common.{subst, sym}
 use Rattle.std.specs.Prelude.{Some}
-use Rattle.pg_outside.specs.Outside.{over_sink}
+use Rattle.pg_outside.specs.Outside.{output_over, sent}
 use Rattle.pg_command.specs.declared.ending.Ending.{Ending}
 use Rattle.pg_command.specs.Words.{check}
 use Rattle.pg_course.specs.Calls.{Goes, over_shelf}
@@ -13,29 +13,29 @@ returns-in-Err-clause-goes g c = λ style galley wrap are.
     let told = g.H.Shelf.held c.args.shelf.now in
     let before = g.H.Shelf.faults c.args.shelf.now in
     let last = g.H.Shelf.last_failed c.args.shelf.now in
-    let old = g.O.Sink.written c.args.out.now in
+    let old = sent g.O.Sink.written g.O.Sink.writes c.args.out.now in
     let faults = g.O.Sink.faults c.args.out.now in
     subst (λ (end : Ending). Goes (Some (check style galley c.args.name.now wrap))
-    (over_shelf told before before last) (over_sink old old faults faults) end) (sym c.float_ending.ensures)
+    (over_shelf told before before last) (output_over old old faults faults) end) (sym c.float_ending.ensures)
     (refused_goes style galley c.args.name.now wrap c.args.style.now c.args.galley.now told before last old faults
     c.in-Err.fault c.in-Err.ensures are)
 
 pub returns-in-Err-clause-complete : goal.returns-in-Err-clause-complete
 returns-in-Err-clause-complete g c = λ style galley wrap are.
     let faults = g.H.Shelf.faults c.args.shelf.now in
-    let old = g.O.Sink.written c.args.out.now in
+    let old = sent g.O.Sink.written g.O.Sink.writes c.args.out.now in
     let writes = g.O.Sink.faults c.args.out.now in
     goes_complete style galley c.args.name.now wrap c.args.style.now c.args.galley.now
     c.labelled_texts_tell.ensures.best c.labelled_texts_tell.ensures.none
     (over_shelf (g.H.Shelf.held c.args.shelf.now) faults faults (g.H.Shelf.last_failed c.args.shelf.now))
-    (over_sink old old writes writes) c.float_ending.result are (returns-in-Err-clause-goes g c style galley wrap are)
+    (output_over old old writes writes) c.float_ending.result are (returns-in-Err-clause-goes g c style galley wrap are)
 
 pub returns-in-Ok-clause-goes : goal.returns-in-Ok-clause-goes
 returns-in-Ok-clause-goes g c = λ style galley wrap are.
     taken_goes style galley c.args.name.now wrap c.args.style.now c.args.galley.now
     (over_shelf (g.H.Shelf.held c.args.shelf.now) (g.H.Shelf.faults c.args.shelf.now)
     (g.H.Shelf.faults c.check_file.new.shelf) (g.H.Shelf.last_failed c.check_file.new.shelf))
-    (over_sink (g.O.Sink.written c.args.out.now) (g.O.Sink.written c.check_file.new.out)
+    (output_over (sent g.O.Sink.written g.O.Sink.writes c.args.out.now) (sent g.O.Sink.written g.O.Sink.writes c.check_file.new.out)
     (g.O.Sink.faults c.args.out.now) (g.O.Sink.faults c.check_file.new.out)) c.check_file.result
     c.in-Ok.ensures.1 c.in-Ok.ensures.2 are c.check_file.ensures.goes
 
@@ -45,6 +45,6 @@ returns-in-Ok-clause-complete g c = λ style galley wrap are.
     c.labelled_texts_tell.ensures.best c.labelled_texts_tell.ensures.none
     (over_shelf (g.H.Shelf.held c.args.shelf.now) (g.H.Shelf.faults c.args.shelf.now)
     (g.H.Shelf.faults c.check_file.new.shelf) (g.H.Shelf.last_failed c.check_file.new.shelf))
-    (over_sink (g.O.Sink.written c.args.out.now) (g.O.Sink.written c.check_file.new.out)
+    (output_over (sent g.O.Sink.written g.O.Sink.writes c.args.out.now) (sent g.O.Sink.written g.O.Sink.writes c.check_file.new.out)
     (g.O.Sink.faults c.args.out.now) (g.O.Sink.faults c.check_file.new.out)) c.check_file.result are
     (returns-in-Ok-clause-goes g c style galley wrap are)

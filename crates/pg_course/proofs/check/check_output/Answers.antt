@@ -1,5 +1,5 @@
 use Rattle.std.proofs.Common.{subst, sym}
-use Rattle.pg_outside.specs.Outside.{over_sink}
+use Rattle.pg_outside.specs.Outside.{output_over, sent}
 use Rattle.pg_command.specs.declared.ending.Ending.{Ending}
 use Rattle.pg_course.specs.Calls.{Writes}
 use Rattle.pg_course.specs.Course.{CheckOutput}
@@ -10,9 +10,9 @@ pub returns-in-Err : goal.returns-in-Err
 returns-in-Err g c = record {
   writes =
       subst (λ (end : Ending). Writes (CheckOutput c.args.style.now c.args.galley.now c.args.output.now)
-      (over_sink (g.O.Sink.written c.args.out.now) (g.O.Sink.written c.args.out.now)
+      (output_over (sent g.O.Sink.written g.O.Sink.writes c.args.out.now) (sent g.O.Sink.written g.O.Sink.writes c.args.out.now)
       (g.O.Sink.faults c.args.out.now) (g.O.Sink.faults c.args.out.now)) end) (sym c.ending_of_no.ensures)
-      (not_proved c.args.style.now c.args.galley.now c.args.output.now (g.O.Sink.written c.args.out.now)
+      (not_proved c.args.style.now c.args.galley.now c.args.output.now (sent g.O.Sink.written g.O.Sink.writes c.args.out.now)
       (g.O.Sink.faults c.args.out.now) c.in-Err.fault c.in-Err.ensures.checked c.in-Err.ensures.solved);
 }
 
@@ -20,7 +20,7 @@ pub returns-in-Ok : goal.returns-in-Ok
 returns-in-Ok g c = record {
   writes =
       proved_writes c.args.style.now c.args.galley.now c.args.output.now c.in-Ok.proved
-      (over_sink (g.O.Sink.written c.args.out.now) (g.O.Sink.written c.write_yes.new.out)
+      (output_over (sent g.O.Sink.written g.O.Sink.writes c.args.out.now) (sent g.O.Sink.written g.O.Sink.writes c.write_yes.new.out)
       (g.O.Sink.faults c.args.out.now) (g.O.Sink.faults c.write_yes.new.out)) c.write_yes.result
       c.in-Ok.ensures.checked c.in-Ok.ensures.truth c.write_yes.ensures.writes;
 }

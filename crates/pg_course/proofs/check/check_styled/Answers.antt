@@ -1,5 +1,5 @@
 use Rattle.std.specs.Prelude.{Some}
-use Rattle.pg_outside.specs.Outside.{over_sink}
+use Rattle.pg_outside.specs.Outside.{output_over, sent}
 use Rattle.pg_command.specs.Lines.{status_of}
 use Rattle.pg_command.specs.Words.{check}
 use Rattle.pg_course.specs.Calls.{over_shelf}
@@ -12,17 +12,17 @@ returns-in-Err-clause-goes g c = λ style said.
     stopped_goes style c.args.galley.now c.args.output.now c.args.wrap c.args.style.now
     (over_shelf (g.H.Shelf.held c.args.shelf.now) (g.H.Shelf.faults c.args.shelf.now)
     (g.H.Shelf.faults c.open_galley.new.shelf) (g.H.Shelf.last_failed c.open_galley.new.shelf))
-    (g.O.Sink.written c.args.out.now) (g.O.Sink.faults c.args.out.now) c.in-Err.ending said
+    (sent g.O.Sink.written g.O.Sink.writes c.args.out.now) (g.O.Sink.faults c.args.out.now) c.in-Err.ending said
     c.in-Err.ensures.stopped
 
 pub returns-in-Err-clause-complete : goal.returns-in-Err-clause-complete
 returns-in-Err-clause-complete g c = λ style said.
-    let old = g.O.Sink.written c.args.out.now in
+    let old = sent g.O.Sink.written g.O.Sink.writes c.args.out.now in
     let writes = g.O.Sink.faults c.args.out.now in
     no_galley_complete style c.args.galley.now c.args.output.now c.args.wrap
     (over_shelf (g.H.Shelf.held c.args.shelf.now) (g.H.Shelf.faults c.args.shelf.now)
     (g.H.Shelf.faults c.open_galley.new.shelf) (g.H.Shelf.last_failed c.open_galley.new.shelf))
-    (over_sink old old writes writes) c.in-Err.ending c.in-Err.ensures.stopped
+    (output_over old old writes writes) c.in-Err.ending c.in-Err.ensures.stopped
 
 pub returns-in-Ok-clause-goes : goal.returns-in-Ok-clause-goes
 returns-in-Ok-clause-goes g c = λ style said.
@@ -31,7 +31,7 @@ returns-in-Ok-clause-goes g c = λ style said.
     goes_earlier (Some (check style c.args.galley.now c.args.output.now c.args.wrap)) told mid
     (g.H.Shelf.faults c.args.shelf.now) (g.H.Shelf.faults c.open_galley.new.shelf)
     (g.H.Shelf.faults c.check_galley.new.shelf) (g.H.Shelf.last_failed c.check_galley.new.shelf)
-    (over_sink (g.O.Sink.written c.args.out.now) (g.O.Sink.written c.check_galley.new.out)
+    (output_over (sent g.O.Sink.written g.O.Sink.writes c.args.out.now) (sent g.O.Sink.written g.O.Sink.writes c.check_galley.new.out)
     (g.O.Sink.faults c.args.out.now) (g.O.Sink.faults c.check_galley.new.out)) c.check_galley.result
     c.open_galley.ensures.same c.open_galley.ensures.later
     (c.check_galley.ensures.goes style c.args.galley.now c.args.wrap
@@ -45,7 +45,7 @@ returns-in-Ok-clause-complete g c = λ style said.
     complete_earlier style c.args.galley.now c.args.output.now c.args.wrap told mid
     (g.H.Shelf.faults c.args.shelf.now) (g.H.Shelf.faults c.open_galley.new.shelf)
     (g.H.Shelf.faults c.check_galley.new.shelf) (g.H.Shelf.last_failed c.check_galley.new.shelf)
-    (over_sink (g.O.Sink.written c.args.out.now) (g.O.Sink.written c.check_galley.new.out)
+    (output_over (sent g.O.Sink.written g.O.Sink.writes c.args.out.now) (sent g.O.Sink.written g.O.Sink.writes c.check_galley.new.out)
     (g.O.Sink.faults c.args.out.now) (g.O.Sink.faults c.check_galley.new.out)) (status_of c.check_galley.result)
     c.open_galley.ensures.same c.open_galley.ensures.later
     (c.check_galley.ensures.complete style c.args.galley.now c.args.wrap

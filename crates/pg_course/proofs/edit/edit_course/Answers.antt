@@ -1,7 +1,7 @@
 use Rattle.std.proofs.Common.{◌≡◌, subst, sym}
 use Rattle.std.specs.Prelude.{IfSome, Ok, Option, Result, Some}
 use Rattle.pg_style.specs.Values.{StyleValue}
-use Rattle.pg_outside.specs.Outside.{Held, over_sink}
+use Rattle.pg_outside.specs.Outside.{Held, output_over, sent}
 use Rattle.pg_command.specs.Lines.{status_of}
 use Rattle.pg_command.specs.Words.{edit, named}
 use Rattle.pg_course.specs.Calls.{over_shelf}
@@ -17,7 +17,7 @@ returns-in-Err-clause-goes g c =
     unstyled_goes c.args.style.now c.args.galley.now c.args.script.now c.args.labels c.args.wrap
     (over_shelf (g.H.Shelf.held c.args.shelf.now) (g.H.Shelf.faults c.args.shelf.now)
     (g.H.Shelf.faults c.open_style.new.shelf) (g.H.Shelf.last_failed c.open_style.new.shelf))
-    (g.O.Sink.written c.args.out.now) (g.O.Sink.faults c.args.out.now) c.in-Err.ending c.in-Err.ensures.stopped
+    (sent g.O.Sink.written g.O.Sink.writes c.args.out.now) (g.O.Sink.faults c.args.out.now) c.in-Err.ending c.in-Err.ensures.stopped
 
 pub returns-in-Err-clause-counted : goal.returns-in-Err-clause-counted
 returns-in-Err-clause-counted g c =
@@ -33,7 +33,7 @@ returns-in-Ok-clause-goes g c =
     goes_earlier (Some (edit c.args.style.now c.args.galley.now c.args.script.now c.args.labels c.args.wrap)) told mid
     (g.H.Shelf.faults c.args.shelf.now) (g.H.Shelf.faults c.open_style.new.shelf)
     (g.H.Shelf.faults c.edit_styled.new.shelf) (g.H.Shelf.last_failed c.edit_styled.new.shelf)
-    (over_sink (g.O.Sink.written c.args.out.now) (g.O.Sink.written c.edit_styled.new.out)
+    (output_over (sent g.O.Sink.written g.O.Sink.writes c.args.out.now) (sent g.O.Sink.written g.O.Sink.writes c.edit_styled.new.out)
     (g.O.Sink.faults c.args.out.now) (g.O.Sink.faults c.edit_styled.new.out)) c.edit_styled.result
     c.open_style.ensures.same c.open_style.ensures.later
     (c.edit_styled.ensures.goes c.args.style.now

@@ -2,7 +2,7 @@ use Rattle.std.proofs.Common.{List, subst}
 use Rattle.pg_session.specs.Shows.{AreCounted, show_of, shows_from}
 use Rattle.std.specs.Prelude.{Result}
 use Rattle.pg_edits.specs.declared.script.ScriptStep.{ScriptStep}
-use Rattle.pg_outside.specs.Outside.{Held, over_sink}
+use Rattle.pg_outside.specs.Outside.{Held, output_over, sent}
 use Rattle.pg_command.specs.Lines.{status_of}
 use Rattle.pg_command.specs.declared.status.Status.TheVariants.{Done}
 use Rattle.pg_course.specs.Calls.{WritesOn, over_shelf}
@@ -19,7 +19,7 @@ returns-in-Err-clause-goes g c =
     script_stops c.args.labels c.args.session.now.style c.args.session.now.galley c.args.name.now
     (over_shelf (g.H.Shelf.held c.args.shelf.now) (g.H.Shelf.faults c.args.shelf.now)
     (g.H.Shelf.faults c.open_script.new.shelf) (g.H.Shelf.last_failed c.open_script.new.shelf))
-    (g.O.Sink.written c.args.out.now) (g.O.Sink.faults c.args.out.now) c.in-Err.ending c.in-Err.ensures.stopped
+    (sent g.O.Sink.written g.O.Sink.writes c.args.out.now) (g.O.Sink.faults c.args.out.now) c.in-Err.ending c.in-Err.ensures.stopped
 
 pub returns-in-Err-clause-counted : goal.returns-in-Err-clause-counted
 returns-in-Err-clause-counted g c =
@@ -32,12 +32,12 @@ returns-in-Ok-clause-goes g c =
     script_goes c.args.labels c.args.session.now.style c.args.session.now.galley c.args.name.now
     (g.H.Shelf.held c.args.shelf.now) c.in-Ok.script (g.H.Shelf.faults c.args.shelf.now)
     (g.H.Shelf.faults c.open_script.new.shelf) (g.H.Shelf.last_failed c.open_script.new.shelf)
-    (over_sink (g.O.Sink.written c.args.out.now) (g.O.Sink.written c.make_steps.new.out)
+    (output_over (sent g.O.Sink.written g.O.Sink.writes c.args.out.now) (sent g.O.Sink.written g.O.Sink.writes c.make_steps.new.out)
     (g.O.Sink.faults c.args.out.now) (g.O.Sink.faults c.make_steps.new.out)) c.make_steps.result
     c.in-Ok.ensures.script (subst (λ (steps : List ScriptStep). WritesOn
     (EditSteps c.args.labels c.args.session.now.style c.args.session.now.galley 1 Done steps)
     (EditFront c.args.labels c.args.session.now.style c.args.session.now.galley steps)
-    (over_sink (g.O.Sink.written c.args.out.now) (g.O.Sink.written c.make_steps.new.out)
+    (output_over (sent g.O.Sink.written g.O.Sink.writes c.args.out.now) (sent g.O.Sink.written g.O.Sink.writes c.make_steps.new.out)
     (g.O.Sink.faults c.args.out.now) (g.O.Sink.faults c.make_steps.new.out)) c.make_steps.result) c.as_slice.ensures
     c.make_steps.ensures.writes)
 

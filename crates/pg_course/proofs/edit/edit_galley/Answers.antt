@@ -3,7 +3,7 @@ use Rattle.std.specs.Prelude.{None, Ok, Some}
 use Rattle.pg_floats.specs.AreFloats.{float_total, unknown_class}
 use Rattle.pg_session.specs.SessionValue.{SessionValue}
 use Rattle.pg_session.specs.Shows.{show_of}
-use Rattle.pg_outside.specs.Outside.{Held, over_sink}
+use Rattle.pg_outside.specs.Outside.{Held, output_over, sent}
 use Rattle.pg_command.specs.declared.ending.Ending.{Ending}
 use Rattle.pg_command.specs.Lines.{status_of}
 use Rattle.pg_command.specs.Words.{edit}
@@ -20,10 +20,10 @@ returns-in-Err-clause-goes g c = λ style galley wrap are.
     let told = g.H.Shelf.held c.args.shelf.now in
     let before = g.H.Shelf.faults c.args.shelf.now in
     let last = g.H.Shelf.last_failed c.args.shelf.now in
-    let old = g.O.Sink.written c.args.out.now in
+    let old = sent g.O.Sink.written g.O.Sink.writes c.args.out.now in
     let faults = g.O.Sink.faults c.args.out.now in
     subst (λ (end : Ending). Goes (Some (edit style galley c.args.name.now c.args.labels wrap))
-    (over_shelf told before before last) (over_sink old old faults faults) end) (sym c.float_ending.ensures)
+    (over_shelf told before before last) (output_over old old faults faults) end) (sym c.float_ending.ensures)
     (refused_goes style galley c.args.name.now c.args.labels wrap c.args.style c.args.galley told before last old faults
     c.in-Err.fault c.in-Err.ensures are)
 
@@ -47,7 +47,7 @@ pub returns-in-Ok-clause-goes : goal.returns-in-Ok-clause-goes
 returns-in-Ok-clause-goes g c = λ style galley wrap are.
     let shelf = over_shelf (g.H.Shelf.held c.args.shelf.now) (g.H.Shelf.faults c.args.shelf.now)
     (g.H.Shelf.faults c.edit_file.new.shelf) (g.H.Shelf.last_failed c.edit_file.new.shelf) in
-    let out = over_sink (g.O.Sink.written c.args.out.now) (g.O.Sink.written c.edit_file.new.out)
+    let out = output_over (sent g.O.Sink.written g.O.Sink.writes c.args.out.now) (sent g.O.Sink.written g.O.Sink.writes c.edit_file.new.out)
     (g.O.Sink.faults c.args.out.now) (g.O.Sink.faults c.edit_file.new.out) in
     taken_goes style galley c.args.name.now c.args.labels wrap c.args.style c.args.galley shelf out c.edit_file.result
     c.in-Ok.ensures.1 c.in-Ok.ensures.2 are

@@ -1,6 +1,6 @@
 use Rattle.std.specs.Prelude.{Ok, Result, Some}
 use Rattle.pg_list.specs.GalleyValue.{GalleyValue}
-use Rattle.pg_outside.specs.Outside.{Held, over_sink}
+use Rattle.pg_outside.specs.Outside.{Held, output_over, sent}
 use Rattle.pg_command.specs.Lines.{status_of}
 use Rattle.pg_command.specs.Words.{edit}
 use Rattle.pg_course.specs.Calls.{over_shelf}
@@ -16,7 +16,7 @@ returns-in-Err-clause-goes g c = λ style said.
     stopped_goes style c.args.galley.now c.args.script.now c.args.labels c.args.wrap c.args.style
     (over_shelf (g.H.Shelf.held c.args.shelf.now) (g.H.Shelf.faults c.args.shelf.now)
     (g.H.Shelf.faults c.open_galley.new.shelf) (g.H.Shelf.last_failed c.open_galley.new.shelf))
-    (g.O.Sink.written c.args.out.now) (g.O.Sink.faults c.args.out.now) c.in-Err.ending said
+    (sent g.O.Sink.written g.O.Sink.writes c.args.out.now) (g.O.Sink.faults c.args.out.now) c.in-Err.ending said
     c.in-Err.ensures.stopped
 
 pub returns-in-Err-clause-counted : goal.returns-in-Err-clause-counted
@@ -32,7 +32,7 @@ returns-in-Ok-clause-goes g c = λ style said.
     goes_earlier (Some (edit style c.args.galley.now c.args.script.now c.args.labels c.args.wrap)) told mid
     (g.H.Shelf.faults c.args.shelf.now) (g.H.Shelf.faults c.open_galley.new.shelf)
     (g.H.Shelf.faults c.edit_galley.new.shelf) (g.H.Shelf.last_failed c.edit_galley.new.shelf)
-    (over_sink (g.O.Sink.written c.args.out.now) (g.O.Sink.written c.edit_galley.new.out)
+    (output_over (sent g.O.Sink.written g.O.Sink.writes c.args.out.now) (sent g.O.Sink.written g.O.Sink.writes c.edit_galley.new.out)
     (g.O.Sink.faults c.args.out.now) (g.O.Sink.faults c.edit_galley.new.out)) c.edit_galley.result
     c.open_galley.ensures.same c.open_galley.ensures.later
     (c.edit_galley.ensures.goes style c.args.galley.now c.args.wrap

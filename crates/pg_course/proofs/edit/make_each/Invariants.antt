@@ -1,3 +1,4 @@
+use Rattle.pg_outside.specs.Outside.{sent}
 use Rattle.std.proofs.Common.{◌≡◌, ◌≤◌, take}
 use Rattle.pg_course.specs.Steps.{AreMade}
 use Rattle.pg_course.proofs.edit.make_each.Given as goal
@@ -7,6 +8,6 @@ invariant-loop-step g l = record {
   number : l.number ≡ l.step-index;
   made :
       AreMade l.labels l.initial.session (take l.step-index l.script) l.session l.legal
-      (g.O.Sink.written l.initial.out) (g.O.Sink.written l.out) l.initial.steps l.steps;
+      (sent g.O.Sink.written g.O.Sink.writes l.initial.out) (sent g.O.Sink.written g.O.Sink.writes l.out) l.initial.steps l.steps;
   later : g.O.Sink.faults l.initial.out ≤ g.O.Sink.faults l.out;
 }

@@ -2,7 +2,7 @@ use Rattle.std.proofs.Common.{◌≡◌, ◌∙◌, List, ap, rules, subst, w32,
 use Rattle.std.specs.Prelude.{Ok, Result}
 use Rattle.std.proofs.lemmas.Int.{to_z-of_z}
 use Rattle.pg_hlist.specs.declared.item.HItem.{HItem}
-use Rattle.pg_outside.specs.Outside.{Held, over_sink}
+use Rattle.pg_outside.specs.Outside.{Held, output_over, sent}
 use Rattle.law_lines.specs.declared.rule.LineRule.{LineRule}
 use Rattle.pg_command.specs.Lines.{line_of, status_of}
 use Rattle.pg_course.specs.Calls.{Writes}
@@ -14,10 +14,10 @@ pub returns-in-Ok : goal.returns-in-Ok
 returns-in-Ok g c =
     let rule = rule_of c.args.width c.args.tolerance c.args.around in
     let file = c.args.file.now in
-    let old = g.O.Sink.written c.args.out.now in
-    let new = g.O.Sink.written c.write_lines.new.out in
+    let old = sent g.O.Sink.written g.O.Sink.writes c.args.out.now in
+    let new = sent g.O.Sink.written g.O.Sink.writes c.write_lines.new.out in
     let end = c.write_lines.result in
-    let out = over_sink old new (g.O.Sink.faults c.args.out.now) (g.O.Sink.faults c.write_lines.new.out) in
+    let out = output_over old new (g.O.Sink.faults c.args.out.now) (g.O.Sink.faults c.write_lines.new.out) in
     let is : c.line_rule-rule.result ≡ rule =
     c.line_rule-rule.ensures.value ∙ ap (λ (width : ℤ). rule_of width c.args.tolerance c.args.around)
     (to_z-of_z w32 c.args.width (record { sfits = c.ranges.width.sfits })) in

@@ -1,3 +1,4 @@
+use Rattle.pg_outside.specs.Outside.{sent}
 use Rattle.std.proofs.Common.{rules}
 use Rattle.pg_command.specs.Words.{style_name}
 use Rattle.pg_command.specs.Lines.{status_of}
@@ -12,7 +13,7 @@ use Rattle.pg_course.proofs.run.run_course.Goals as goal
 pub returns-in-Err-clause-counted : goal.returns-in-Err-clause-counted
 returns-in-Err-clause-counted g c =
     whatever (status_of c.in-Err.ending) (all_told (g.H.Shelf.held c.args.shelf.now) (λ held.
-    still_run (opened_style (style_name c.args.style) held)
+    still_run (Pages c.args.labels) (opened_style (style_name c.args.style) held)
     (opened c.args.name.now c.args.wrap (held c.args.name.now)) c.args.steps.now))
 
 pub returns-in-Ok-clause-goes : goal.returns-in-Ok-clause-goes
@@ -24,7 +25,7 @@ returns-in-Ok-clause-goes g c = record {
   front =
       styled_begins (g.H.Shelf.held c.args.shelf.now) (g.H.Shelf.held c.open_style.new.shelf)
       (style_name c.args.style) c.in-Ok.style c.args.name.now (Pages c.args.labels) c.args.wrap
-      (g.O.Sink.written c.args.out.now) (g.O.Sink.written c.run_file.new.out)
+      (sent g.O.Sink.written g.O.Sink.writes c.args.out.now) (sent g.O.Sink.written g.O.Sink.writes c.run_file.new.out)
       (status_of c.run_file.result) c.in-Ok.ensures.style c.open_style.ensures.same
       c.run_file.ensures.goes.front;
   memory = search rules;
@@ -37,5 +38,5 @@ returns-in-Ok-clause-counted g c =
     unless_memory (status_of c.run_file.result)
     (λ counted. read_counts (g.H.Shelf.held c.args.shelf.now) (g.H.Shelf.held c.open_style.new.shelf)
     (λ held. opened_style (style_name c.args.style) held) c.in-Ok.style
-    (λ said held. CountsRun said (opened c.args.name.now c.args.wrap (held c.args.name.now)) c.args.steps.now
+    (λ said held. CountsRun (Pages c.args.labels) said (opened c.args.name.now c.args.wrap (held c.args.name.now)) c.args.steps.now
     c.run_file.new.steps) c.open_style.ensures.same c.in-Ok.ensures.style counted) c.run_file.ensures.counted

@@ -1,6 +1,6 @@
 use Rattle.std.proofs.Common.{rules}
 use Rattle.std.specs.Prelude.{Ok, Result}
-use Rattle.pg_outside.specs.Outside.{Held}
+use Rattle.pg_outside.specs.Outside.{Held, sent}
 use Rattle.pg_list.specs.GalleyValue.{GalleyValue}
 use Rattle.pg_command.specs.Lines.{line_of, status_of}
 use Rattle.pg_course.specs.Counted.{CountsRun}
@@ -17,17 +17,17 @@ returns-in-Err-clause-goes g c =
     stopped_run c.args.product c.args.style c.args.name.now c.args.wrap
     (over_shelf (g.H.Shelf.held c.args.shelf.now) (g.H.Shelf.faults c.args.shelf.now)
     (g.H.Shelf.faults c.open_galley.new.shelf) (g.H.Shelf.last_failed c.open_galley.new.shelf))
-    (g.O.Sink.written c.args.out.now) (g.O.Sink.faults c.args.out.now) c.in-Err.ending c.in-Err.ensures.stopped
+    (sent g.O.Sink.written g.O.Sink.writes c.args.out.now) (g.O.Sink.faults c.args.out.now) c.in-Err.ending c.in-Err.ensures.stopped
 
 pub returns-in-Err-clause-counted : goal.returns-in-Err-clause-counted
 returns-in-Err-clause-counted g c =
     whatever (status_of c.in-Err.ending) (all_told (g.H.Shelf.held c.args.shelf.now) (λ held.
-    still_run (Ok c.args.style) (opened c.args.name.now c.args.wrap (held c.args.name.now)) c.args.steps.now))
+    still_run c.args.product (Ok c.args.style) (opened c.args.name.now c.args.wrap (held c.args.name.now)) c.args.steps.now))
 
 pub returns-in-Ok-clause-goes : goal.returns-in-Ok-clause-goes
 returns-in-Ok-clause-goes g c =
-    let old = g.O.Sink.written c.args.out.now in
-    let new = g.O.Sink.written c.run_galley.new.out in
+    let old = sent g.O.Sink.written g.O.Sink.writes c.args.out.now in
+    let new = sent g.O.Sink.written g.O.Sink.writes c.run_galley.new.out in
     let end = c.run_galley.result in
     record {
       settled =
@@ -54,6 +54,6 @@ returns-in-Ok-clause-goes g c =
 pub returns-in-Ok-clause-counted : goal.returns-in-Ok-clause-counted
 returns-in-Ok-clause-counted g c =
     unless_memory (status_of c.run_galley.result) (when_said (λ (said : Result GalleyValue Stop).
-    CountsRun (Ok c.args.style) said c.args.steps.now c.run_galley.new.steps) (g.H.Shelf.held c.args.shelf.now)
+    CountsRun c.args.product (Ok c.args.style) said c.args.steps.now c.run_galley.new.steps) (g.H.Shelf.held c.args.shelf.now)
     (λ (held : Held). opened c.args.name.now c.args.wrap (held c.args.name.now)) c.in-Ok.galley
     c.in-Ok.ensures.galley) c.run_galley.ensures.counted

@@ -12,13 +12,17 @@ returns-in-Some-clause-some g c = λ o e.
     (first_at _ _ c.loop-index.index c.index-labels-index.result c.in-Some.to c.loop-index-test.true
     c.index-labels-index.is
     (subst (IsOpenOf (g.S.Space.meaning c.args.space.now) c.args.labels.now c.index-labels-index.result)
-    c.in-Some.is c.in_ok-to.ensures) c.loop-index.invariant)
+    c.in-Some.is c.in_ok-to.ensures.least) c.loop-index.invariant.before)
 
 pub loop-index-preserved : goal.loop-index-preserved
-loop-index-preserved g c = none_open_more _ _ c.loop-index.index c.index-labels-index.result c.index-labels-index.is
-    (subst (IsOpenOf (g.S.Space.meaning c.args.space.now) c.args.labels.now c.index-labels-index.result)
-    c.in_default.is c.in_ok-to.ensures) c.loop-index.invariant
+loop-index-preserved g c = record {
+  before =
+      none_open_more _ _ c.loop-index.index c.index-labels-index.result c.index-labels-index.is
+      (subst (IsOpenOf (g.S.Space.meaning c.args.space.now) c.args.labels.now c.index-labels-index.result)
+      c.in_default.is c.in_ok-to.ensures.least) c.loop-index.invariant.before;
+  opened = let one = c.open_of.ensures.counted in let all = c.loop-index.invariant.opened in omega (arith, one, all);
+}
 
 pub returns-clause-none : goal.returns-clause-none
 returns-clause-none g c = λ e i label less at.
-    c.loop-index.invariant i label (let end = c.loop-index-test.false in omega arith) at
+    c.loop-index.invariant.before i label (let end = c.loop-index-test.false in omega arith) at

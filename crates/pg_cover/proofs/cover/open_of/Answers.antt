@@ -3,7 +3,7 @@ use Rattle.pg_cover.proofs.cover.open_of.Goals as goal
 
 pub least_open-requires-clause-steps : goal.least_open-requires-clause-steps
 least_open-requires-clause-steps g c = own_steps _ c.args.labels.now c.args.label.now _
-    (g.met.S.Space.lawful c.args.space.now) c.requires.label _ c.in_ok-opened.ensures
+    (g.met.S.Space.lawful c.args.space.now) c.requires.label _ c.in_ok-opened.ensures.wanted
 
-pub returns : goal.returns
-returns g c = open_least _ _ _ _ c.least_open.result c.in_ok-opened.ensures c.least_open.ensures
+pub returns-clause-least : goal.returns-clause-least
+returns-clause-least g c = open_least _ _ _ _ c.least_open.result c.in_ok-opened.ensures.wanted c.least_open.ensures

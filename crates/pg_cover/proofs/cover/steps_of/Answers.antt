@@ -8,8 +8,8 @@ use Rattle.pg_table.specs.Space.{AreWanted}
 use Rattle.pg_cover.specs.Covered.{has_cover}
 use Rattle.pg_cover.proofs.cover.steps_of.Goals as goal
 
-pub returns : goal.returns
-returns g c =
+pub returns-clause-wanted : goal.returns-clause-wanted
+returns-clause-wanted g c =
     let fits : SFits w128 c.args.label.now.cost = search rules in
     subst (λ (cost : ℤ). AreWanted (g.S.Space.meaning c.args.space.now) c.args.label.now.state
     (λ v d. has_cover (g.S.Space.meaning c.args.space.now) c.args.labels.now v (cost +ℤ d))

@@ -1,5 +1,0 @@
-use Rattle.law_drawing.proofs.Filling.{goals_filled}
-use Rattle.law_drawing.proofs.page_laws.glue_fills_goals.Goals as goal
-
-pub returns : goal.returns
-returns c = goals_filled _ _ c.requires

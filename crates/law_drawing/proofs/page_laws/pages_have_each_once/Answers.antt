@@ -1,5 +1,0 @@
-use Rattle.law_drawing.proofs.Shown.{shown_once}
-use Rattle.law_drawing.proofs.page_laws.pages_have_each_once.Goals as goal
-
-pub returns : goal.returns
-returns c = shown_once _ _ c.requires

@@ -1,4 +1,0 @@
-pub mod Marks
-pub mod DrawLaws
-pub mod Heights
-pub mod PageLaws

@@ -1,0 +1,5 @@
+mod Fits
+mod Told
+mod Answers
+mod Runs
+mod Courses

@@ -1,0 +1,4 @@
+mod SetSizes
+mod Shrinking
+mod Shown
+mod Filling

@@ -1,0 +1,3 @@
+mod Furthest
+mod Lasts
+mod Stands

@@ -1,0 +1,17 @@
+//! How far beginnings of paginations come: a galley under a style with the labels of all its pages, the label that
+//! stands furthest, and a beginning of each label.
+//!
+//! Proved: the outcome is the best pagination, or that none is legal; at the place of the label that is told a
+//! beginning ends, and none ends behind it, nor does a column lead behind it from there; and the beginning of a label
+//! leaves its state, at its cost (`specs/Furthest`).
+#![tactic(auto)]
+
+mod last;
+mod laws;
+mod search;
+mod standing;
+mod telling;
+
+pub use laws::{beginnings_of_labels, none_leads_on};
+pub use search::Search;
+pub use standing::Standing;

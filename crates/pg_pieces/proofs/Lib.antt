@@ -1,0 +1,2 @@
+mod Utf8
+mod Within

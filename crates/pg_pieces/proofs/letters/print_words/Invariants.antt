@@ -1,0 +1,10 @@
+use Rattle.std.proofs.Common.{◌≡◌, ◌++◌, length}
+use Rattle.std.specs.List.{flat_map}
+use Rattle.pg_pieces.specs.Pieces.{word_text}
+use Rattle.pg_pieces.proofs.letters.print_words.Given as goal
+
+abbrev pub invariant-bytes : goal.invariant-bytes
+invariant-bytes l = l.out.items ++ flat_map (word_text l.letters) l.rest ≡ l.fn.out.items ++ flat_map (word_text l.letters) l.text
+
+abbrev pub decreases-bytes : goal.decreases-bytes
+decreases-bytes l = length l.rest

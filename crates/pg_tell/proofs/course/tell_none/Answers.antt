@@ -1,0 +1,5 @@
+use Rattle.std.proofs.Common.{inl}
+use Rattle.pg_tell.proofs.course.tell_none.Goals as goal
+
+pub returns : goal.returns
+returns g c = inl (c.in-Ok.standing, c.in-Ok.ensures, c.tell_standing.ensures)

@@ -1,0 +1,16 @@
+//! Calls of what tells in words, with the clauses that they have there, so that wrong bodies can be tried against these
+//! clauses at little cost. No program stands on it.
+//!
+//! Each body is one call. What refuses a wrong body here refuses it there as well, since the clauses are the same word
+//! for word.
+#![tactic(auto)]
+
+mod lines;
+mod pieces;
+mod searches;
+mod told;
+
+pub use lines::{key_line, line_text};
+pub use pieces::print;
+pub use searches::{beginning, furthest, outcome, standing};
+pub use told::serve;
