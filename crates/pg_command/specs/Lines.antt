@@ -18,6 +18,8 @@ use Rattle.law_check.specs.declared.answers.No.{No}
 use Rattle.law_check.specs.declared.answers.No.TheVariants as fails
 use Rattle.law_lines.specs.declared.rule.LineFault.{LineFault}
 use Rattle.law_lines.specs.declared.rule.LineFault.TheVariants as breaks
+use Rattle.pg_floats.specs.declared.fault.FloatFault.{FloatFault}
+use Rattle.pg_floats.specs.declared.fault.FloatFault.TheVariants as floats
 use Rattle.pg_greedy.specs.declared.fault.GreedyFault.{GreedyFault}
 use Rattle.pg_greedy.specs.declared.fault.GreedyFault.TheVariants as fits
 use Rattle.pg_command.specs.declared.ending.Ending.{Ending}
@@ -46,6 +48,12 @@ status_of (ending.Unread name) = status.ReadFault
 status_of ending.WriteFault = status.WriteFault
 status_of ending.Memory = status.Memory
 status_of (ending.NotProved fault) = status.NotProved
+
+-- how a run ends where a galley has no list of floats
+abbrev pub ending_of : FloatFault → Ending
+ending_of (floats.Class number) = ending.UnknownClass number
+ending_of (floats.Limit count) = ending.TooManyFloats count
+ending_of floats.Memory = ending.Memory
 
 -- the numbers of the ends, in their order
 abbrev pub exit_number : Status → ℕ

@@ -20,8 +20,8 @@ use Rattle.pg_command.specs.declared.status.Status.{Status}
 use Rattle.pg_command.specs.declared.status.Status.TheVariants.{Done, NoLegal, Usage, Refused, ReadFault, WriteFault}
 use Rattle.pg_command.specs.declared.status.Status.TheVariants.{Memory, NotProved}
 use Rattle.pg_command.specs.Words.{Command, check, named}
-use Rattle.pg_command.specs.Lines.{line_of, status_of}
-use Rattle.pg_course.specs.Calls.{AreRead, Goes, GoesOn, NoFile, OverShelf, Stopped, Writes, ending_of}
+use Rattle.pg_command.specs.Lines.{ending_of, line_of, status_of}
+use Rattle.pg_course.specs.Calls.{AreRead, Goes, GoesOn, NoFile, OverShelf, Stopped, Writes}
 use Rattle.pg_course.specs.Calls.{no_ending, over_shelf}
 use Rattle.pg_course.specs.Course.{CheckOutput, CheckText, Course, Ended, OneText}
 use Rattle.pg_course.specs.Course.{FailedAt, FailedFile, IsFileOf, OnMemory, OnSettled, OnTaken}

@@ -16,9 +16,9 @@ use Rattle.pg_command.specs.declared.status.Status.{Status}
 use Rattle.pg_command.specs.declared.status.Status.TheVariants.{Done, NoLegal, Usage, Refused, ReadFault, WriteFault}
 use Rattle.pg_command.specs.declared.status.Status.TheVariants.{Memory, NotProved}
 use Rattle.pg_command.specs.Words.{StyleName}
-use Rattle.pg_command.specs.Lines.{line_of, many_line, status_of}
+use Rattle.pg_command.specs.Lines.{ending_of, line_of, many_line, status_of}
 use Rattle.pg_command.proofs.Fronts.{front_of_more}
-use Rattle.pg_course.specs.Calls.{Writes, ending_of}
+use Rattle.pg_course.specs.Calls.{Writes}
 use Rattle.pg_course.specs.Course.{Stop, opened, opened_style, OneText, MakesGalley, RunGalley, RunCourse, OnTaken}
 use Rattle.pg_course.specs.Course.{StyledCourse, EndsBy, BeginsBy, OnSettled, OnReadFault, OnWriteFault}
 use Rattle.pg_course.specs.declared.product.Product.{Product}

@@ -14,9 +14,9 @@ use Rattle.pg_command.specs.declared.status.Status.{Status}
 use Rattle.pg_command.specs.declared.status.Status.TheVariants.{Done, NoLegal, Usage, Refused, ReadFault, WriteFault}
 use Rattle.pg_command.specs.declared.status.Status.TheVariants.{Memory, NotProved}
 use Rattle.pg_command.specs.Words.{Command, edit, named}
-use Rattle.pg_command.specs.Lines.{class_line, line_of, many_line, status_of}
+use Rattle.pg_command.specs.Lines.{class_line, ending_of, line_of, many_line, status_of}
 use Rattle.pg_course.specs.Calls.{AreRead, Goes, GoesThrough, NoFile, OverShelf, Stopped, WritesOn, WritesTexts}
-use Rattle.pg_course.specs.Calls.{WroteWhole, ending_of, over_shelf}
+use Rattle.pg_course.specs.Calls.{WroteWhole, over_shelf}
 use Rattle.pg_course.specs.Course.{BeginsBy, Course, CourseFront, EditCourse, EditFront, EditScript, EditSteps, EndsBy}
 use Rattle.pg_course.specs.Course.{Ended, OnMemory, OnSettled, OnTaken, ScriptFront, Stop}
 use Rattle.pg_course.specs.Course.{fetched, first_steps, opened, opened_script, opened_style, read_by, said_galley}

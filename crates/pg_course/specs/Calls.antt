@@ -1,7 +1,5 @@
 -- What the function of a command promises, over any shelf and any sink.
 use Rattle.std.specs.Prelude.{◌≡◌, ◌≢◌, ◌↔◌, ℕ, List, Option, Some, None, Result, Ok, Err, IfSome}
-use Rattle.pg_floats.specs.declared.fault.FloatFault.{FloatFault}
-use Rattle.pg_floats.specs.declared.fault.FloatFault.TheVariants as fault
 use Rattle.pg_list.specs.GalleyValue.{GalleyValue}
 use Rattle.pg_style.specs.Values.{StyleValue}
 use Rattle.pg_edits.specs.declared.fault.EditFault.{EditFault}
@@ -83,12 +81,6 @@ pub record Stopped {A : Type 0} (said : Held → Result A Stop) (Unread : OverSh
   pub read : OnReadFault (status_of ending) (Unread shelf (line_of ending))
   pub no_write : OnWriteFault (status_of ending) ⊥
   pub no_usage : status_of ending ≢ Usage
-
--- how a run ends where a galley has no list of floats
-abbrev pub ending_of : FloatFault → Ending
-ending_of (fault.Class number) = ending.UnknownClass number
-ending_of (fault.Limit count) = ending.TooManyFloats count
-ending_of fault.Memory = ending.Memory
 
 -- how a run ends where a galley has no first fit
 abbrev pub fit_ending : GreedyFault → Ending

@@ -2,11 +2,11 @@
 ghost use Rattle.std.specs.Prelude.{◌≡◌, Some, Ok, IfSome};
 ghost use Rattle.pg_outside.specs.Outside.{over_output};
 ghost use Rattle.pg_session.specs.Shows.{AreCounted, one_show};
-ghost use Rattle.pg_command.specs.Lines.{status_of};
+ghost use Rattle.pg_command.specs.Lines.{ending_of, status_of};
 ghost use Rattle.pg_command.specs.Words.{run as run_command, style_name, IsStyle};
 ghost use Rattle.pg_course.specs.Course.{PaginateGalley, RunGalley, RunCourse, opened};
 ghost use Rattle.pg_course.specs.Products.{IsProduct};
-ghost use Rattle.pg_course.specs.Calls.{Goes, GoesOn, Writes, ending_of, over_shelf};
+ghost use Rattle.pg_course.specs.Calls.{Goes, GoesOn, Writes, over_shelf};
 ghost use Rattle.pg_course.specs.Counted.{CountsRun, IsCounted, IsShown, UnlessMemory, made_shows, taken_shows};
 
 use crate::open::{open_galley, open_style};

@@ -17,7 +17,8 @@ use Rattle.std.proofs.lemmas.List.{append-nil}
 use Rattle.pg_cover.specs.Covered.{CoveredBy, CoversStep, has_cover, IsNotBefore, IsOpenEnd, IsOpenOf, LeastBehind, LeastOf, OpenTo, least_with}
 use Rattle.pg_plan.proofs.OrderLaws.{place_total}
 use Rattle.pg_lemmas.proofs.Bools.{not_both}
-use Rattle.pg_cover.proofs.Places.{less_chain, lt_less, not_less_itself}
+use Rattle.pg_lemmas.proofs.Orders.{lt_less}
+use Rattle.pg_cover.proofs.Places.{less_chain, not_less_itself}
 use Rattle.pg_cover.proofs.Spared.{cover_of}
 
 module _ {K : Type 0} (sp : Meaning State PageMove K) (labels : List Label) (label : Label) where

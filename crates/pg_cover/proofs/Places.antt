@@ -1,15 +1,9 @@
 -- What comes before what, in a total order.
-use Rattle.std.proofs.Common.{◌≡◌, refl, true}
+use Rattle.std.proofs.Common.{◌≡◌}
 use Rattle.std.specs.Cmp.{IsTotalOrder}
-use Rattle.std.specs.Ordering.{is_lt}
 use Rattle.std.specs.declared.cmp.Ordering.{Ordering}
 use Rattle.std.specs.declared.cmp.Ordering.TheVariants.{Less, Equal, Greater}
 use Rattle.std.proofs.lemmas.Cmp.{tied_itself}
-
-pub lt_less : (o : Ordering) → is_lt o ≡ true → o ≡ Less
-lt_less Less e = refl
-lt_less Equal e = absurd cc
-lt_less Greater e = absurd cc
 
 pub not_less_itself : {X : Type 0} {R : X → X → Ordering} → IsTotalOrder R → (x : X) → R x x ≡ Less → ⊥
 not_less_itself {X} {R} o x e = by (R x x) (tied_itself o x) e

@@ -1,13 +1,9 @@
 -- Widths that are added up, with one more.
 use Rattle.std.proofs.Common.{◌≡◌, ◌∙◌, ap, sym, ℤ, List, ◌∷◌}
-use Rattle.std.proofs.Math.IntN.{+ℤ_assoc}
 use Rattle.std.specs.Prelude.{◌+ℤ◌}
 use Rattle.pg_drawing.specs.declared.model.Mark.{Mark}
+use Rattle.pg_drawing.proofs.Placed.{joined}
 use Rattle.pg_draw_page.specs.Spaces.{own_sum, own_width, set_sum, set_width}
-
--- the first of the numbers that are left is added
-joined : (new old number rest all : ℤ) → new ≡ old +ℤ number → old +ℤ (number +ℤ rest) ≡ all → new +ℤ rest ≡ all
-joined new old number rest all more before = ap (λ z. z +ℤ rest) more ∙ (+ℤ_assoc old number rest ∙ before)
 
 pub own_more : (rest after : List Mark) (mark : Mark) (old new all : ℤ) → rest ≡ mark ∷ after →
     new ≡ old +ℤ own_width mark.shape → old +ℤ own_sum rest ≡ all → new +ℤ own_sum after ≡ all

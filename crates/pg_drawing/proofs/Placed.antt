@@ -32,7 +32,8 @@ marks_more old new top below item ahead items all one lower same before =
     ∙ (ap (λ (its : List Lines). old ++ (mark_at top item ∷ marks_from (top +ℤ item_extent item) its)) same
     ∙ before)))
 
-joined : (below top extent sum all : ℤ) → below ≡ top +ℤ extent → top +ℤ (extent +ℤ sum) ≡ all → below +ℤ sum ≡ all
+-- the first of the numbers that are left is added
+pub joined : (below top extent sum all : ℤ) → below ≡ top +ℤ extent → top +ℤ (extent +ℤ sum) ≡ all → below +ℤ sum ≡ all
 joined below top extent sum all lower before = ap (λ z. z +ℤ sum) lower ∙ (+ℤ_assoc top extent sum ∙ before)
 
 pub top_more : (top below : ℤ) (item : Lines) (ahead items : List Lines) (all : ℤ) →

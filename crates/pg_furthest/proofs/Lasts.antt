@@ -7,6 +7,7 @@ use Rattle.std.specs.declared.cmp.Ordering.TheVariants.{Less, Equal, Greater}
 use Rattle.std.proofs.lemmas.Cmp.{by_ranked, ranked, tied_itself}
 use Rattle.std.proofs.lemmas.Option.{same_Some}
 use Rattle.pg_lemmas.proofs.Lists.{some_at}
+use Rattle.pg_lemmas.proofs.Orders.{lt_less}
 use Rattle.pg_list.specs.declared.galley.Place.{Place}
 use Rattle.pg_plan.specs.Order.{place_cmp}
 use Rattle.pg_plan.specs.declared.pages.PageMove.{PageMove}
@@ -15,17 +16,12 @@ use Rattle.pg_table.specs.declared.table.Entry.{Entry}
 use Rattle.law_columns.proofs.Order.{place_total}
 use Rattle.pg_furthest.specs.Furthest.{IsLastAmong, is_before}
 
-is_less : (o : Ordering) → is_lt o ≡ true → o ≡ Less
-is_less Less e = refl
-is_less Equal e = absurd cc
-is_less Greater e = absurd cc
-
 behind : (a b c : Place) → is_lt (place_cmp a b) ≡ true → is_lt (place_cmp a c) ≡ false →
     is_lt (place_cmp b c) ≡ false
 behind a b c less not = by (place_cmp b c) refl
   where
     by : (o : Ordering) → place_cmp b c ≡ o → is_lt (place_cmp b c) ≡ false
-    by Less e = absurd (lies (place_total.trans a b c (is_less (place_cmp a b) less) e))
+    by Less e = absurd (lies (place_total.trans a b c (lt_less (place_cmp a b) less) e))
       where
         lies : place_cmp a c ≡ Less → ⊥
         lies h = cc

@@ -3,3 +3,4 @@ pub mod Numbers
 pub mod Lists
 pub mod Orders
 pub mod InPlace
+pub mod Utf8

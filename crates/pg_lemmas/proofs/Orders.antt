@@ -2,8 +2,14 @@
 use Rattle.std.proofs.Common.{◌≡◌, refl, true, false, ap, ℕ, ◌<◌}
 use Rattle.std.specs.declared.cmp.Ordering.{Ordering}
 use Rattle.std.specs.declared.cmp.Ordering.TheVariants.{Less, Equal, Greater}
-use Rattle.std.specs.Ordering.{ordering_then, ordering_reverse, is_gt, nat_cmp}
+use Rattle.std.specs.Ordering.{ordering_then, ordering_reverse, is_gt, is_lt, nat_cmp}
 use Rattle.std.proofs.lemmas.Cmp.{by_ranked, ranked}
+
+-- what compares as less is less
+pub lt_less : (o : Ordering) → is_lt o ≡ true → o ≡ Less
+lt_less Less e = refl
+lt_less Equal e = absurd cc
+lt_less Greater e = absurd cc
 
 -- where one is above the other, the other is not above the one
 pub not_gt_back : (o p : Ordering) → o ≡ ordering_reverse p → is_gt p ≡ true → is_gt o ≡ false

@@ -1,2 +1,1 @@
-mod Utf8
 mod Within

@@ -51,7 +51,7 @@ impl Form {
 }
 
 // Whether a text is UTF-8.
-#[tactic(auto, using(crate::proofs::Utf8::no_utf8, crate::proofs::Utf8::some_utf8))]
+#[tactic(auto, using(pg_lemmas::proofs::Utf8::no_utf8, pg_lemmas::proofs::Utf8::some_utf8))]
 fn is_text(text: &[u8]) -> bool
     ensures { result ≡ is_utf8 text.now }
 {

@@ -6,7 +6,7 @@ use std::alloc::{AllocError, Global};
 const COUNT: usize = 1 << 15;
 
 /// How many labels with many moves a search opens before it has hints.
-const OPENED_BEFORE: u32 = 512;
+const OPENED_BEFORE: u32 = 16;
 
 /// How many moves are many: with fewer of them a hint saves less than it costs.
 const MANY: usize = 16;

@@ -7,8 +7,6 @@ use Rattle.pg_command.specs.declared.ending.Ending.{Ending}
 use Rattle.pg_command.specs.declared.ending.Ending.TheVariants as ending
 use Rattle.pg_command.specs.declared.status.Status.{Status}
 use Rattle.pg_floats.specs.AreFloats.{float_total, unknown_class}
-use Rattle.pg_floats.specs.declared.fault.FloatFault.{FloatFault}
-use Rattle.pg_floats.specs.declared.fault.FloatFault.TheVariants as lists
 use Rattle.pg_furthest.specs.Furthest.{StandsAt}
 use Rattle.pg_furthest.specs.declared.standing.Standing.{Standing}
 use Rattle.pg_list.specs.GalleyValue.{GalleyValue}
@@ -66,12 +64,6 @@ abbrev pub GalleyStops : Option Held → List ℕ → Option ℕ → Ending → 
 GalleyStops told name wrap (ending.BadList file fault) =
     (file.now ≡ name) × (text : List ℕ) × IsFile told name text × (galley_of text wrap ≡ Err fault)
 GalleyStops told name wrap cause = FetchStops told name cause
-
--- how the program ends where a galley has no list of floats
-abbrev pub float_ending : FloatFault → Ending
-float_ending (lists.Class number) = ending.UnknownClass number
-float_ending (lists.Limit count) = ending.TooManyFloats count
-float_ending lists.Memory = ending.Memory
 
 -- a galley that cannot be paginated under a style stops the program: the style lacks a class, or there are too many
 -- floats

@@ -1,12 +1,12 @@
 //! The program over any shelf of files and any two sinks.
 ghost use Rattle.std.specs.Prelude.{◌≡◌, ℕ, List, [], length, IfOk, IfErr};
-ghost use Rattle.pg_command.specs.Lines.{Says};
+ghost use Rattle.pg_command.specs.Lines.{Says, ending_of};
 ghost use Rattle.pg_command.specs.Words.{IsStyle, style_name};
 ghost use Rattle.pg_command.specs.declared.ending.Ending.TheVariants.{Done, NoLegal};
 ghost use Rattle.pg_outside.specs.Outside.{over_sink};
 ghost use Rattle.pg_outside.specs.Words.{texts_of};
 ghost use Rattle.pg_tell.specs.Course.{ClassesStop, HasFiles, IsTold, Serves, Stops, Tells, TellsFiles, TellsPages};
-ghost use Rattle.pg_tell.specs.Course.{TellsNone, float_ending};
+ghost use Rattle.pg_tell.specs.Course.{TellsNone};
 ghost use Rattle.pg_tell.specs.Lines.{Begins, none_front, own_line, pages_front, refusal_front};
 ghost use Rattle.pg_tell.specs.Words.{command_of};
 
@@ -32,7 +32,7 @@ use std::sync::ledger::Ledger;
 
 // What stops the program where a galley has no list of floats.
 fn float_stop<'a>(fault: FloatFault) -> Stop<'a>
-    ensures { result.ending ≡ float_ending fault }
+    ensures { result.ending ≡ ending_of fault }
 {
     match fault {
         FloatFault::Class { number } => Stop {

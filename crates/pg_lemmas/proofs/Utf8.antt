@@ -1,4 +1,4 @@
--- A text that is no UTF-8.
+-- A text that is UTF-8, and one that is none.
 use Rattle.std.proofs.Common.{◌≡◌, refl, Bool, true, false, List, ℕ}
 use Rattle.std.specs.Str.{IsUtf8, is_utf8}
 use Rattle.std.proofs.lemmas.Str.{IsUtf8-from_is_utf8, is_utf8-from_IsUtf8}
