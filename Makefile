@@ -2,6 +2,8 @@
 PREFIX = /usr/local
 EXAMPLE = run "$(CURDIR)/examples/latex.toml" "$(CURDIR)/examples/latex-lengths.log"
 DRAWN = "$(CURDIR)/examples/ten-lines.out"
+BIN = $(DESTDIR)$(PREFIX)/bin
+MAN = $(DESTDIR)$(PREFIX)/share/man/man1
 
 .PHONY: try build test draw install
 
@@ -19,12 +21,13 @@ build:
 test:
 	.ci/run
 
-# a drawing of an example
+# a drawing of an example, unproved
 draw:
 	cd crates/pg_draw_main && rt try -- $(DRAWN) > "$(CURDIR)/ten-lines.html"
 
+# the programs and their manual pages; `make -C tex install` puts the LaTeX package, pgtex and its page in place
 install:
-	install -D crates/pg/out/pg "$(DESTDIR)$(PREFIX)/bin/pg"
-	install -D crates/pg_draw_main/out/pg_draw_main "$(DESTDIR)$(PREFIX)/bin/pg_draw"
-	install -D crates/pg_tell_main/out/pg_tell_main "$(DESTDIR)$(PREFIX)/bin/pg_tell"
-	install -D -m 644 man/pg.1 "$(DESTDIR)$(PREFIX)/share/man/man1/pg.1"
+	install -D crates/pg/out/pg "$(BIN)/pg"
+	install -D crates/pg_draw_main/out/pg_draw_main "$(BIN)/pg_draw"
+	install -D crates/pg_tell_main/out/pg_tell_main "$(BIN)/pg_tell"
+	install -D -m 644 -t "$(MAN)" man/pg.1 man/pg_draw.1 man/pg_tell.1
