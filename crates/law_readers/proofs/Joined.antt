@@ -121,7 +121,7 @@ all_whole width n parts (line ∷ lines) (front, rest, cut, broken, more) =
     ∙ one_whole width n front line rest broken
     ∙ ap (λ (x : List (List ℕ)). line ∷ x) (all_whole width (n + length front) rest lines more)
 
-none_joined : (n : ℕ) (lines : List (List ℕ)) → texts (joined None n lines) ≡ lines
+pub none_joined : (n : ℕ) (lines : List (List ℕ)) → texts (joined None n lines) ≡ lines
 unfolding joined
 none_joined n [] = refl
 none_joined n (line ∷ lines) = ap (λ (x : List (List ℕ)). line ∷ x) (none_joined (n + 1) lines)

@@ -13,3 +13,4 @@ mod Paras
 mod Parts
 mod Readable
 mod Found
+mod ItemLines

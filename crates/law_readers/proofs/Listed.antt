@@ -111,19 +111,19 @@ ok_said x y e = cc
 -- ---- what stands open
 
 -- behind the root of a listing these lines have said blocks, which stand behind the old ones
-pub record HoldsBlocks (width : ℤ) (old : List Block) (lines : List (List ℕ)) (s : ReaderState) : Type 0 where
+pub record HoldsBlocks (width : Option ℤ) (old : List Block) (lines : List (List ℕ)) (s : ReaderState) : Type 0 where
   pub mine : List Block
-  pub kept : s.width ≡ Some width
+  pub kept : s.width ≡ width
   pub blocks : s.blocks ≡ old ++ mine
   pub are : InOrder SaysBlock lines mine
   pub last : s.has_item ≡ true → EndsInItem mine
 
 -- and then a choice has begun
-pub record HoldsChoice (width : ℤ) (old : List Block) (lines : List (List ℕ)) (s : ReaderState) : Type 0 where
+pub record HoldsChoice (width : Option ℤ) (old : List Block) (lines : List (List ℕ)) (s : ReaderState) : Type 0 where
   mine : List Block
   front : List (List ℕ)
   begin : List ℕ
-  kept : s.width ≡ Some width
+  kept : s.width ≡ width
   blocks : s.blocks ≡ old ++ mine
   cut : lines ≡ front ++ begin ∷ []
   are : InOrder SaysBlock front mine
@@ -133,7 +133,7 @@ pub record HoldsChoice (width : ℤ) (old : List Block) (lines : List (List ℕ)
   no_last : s.has_item ≡ false
 
 -- with some variants, and one that is open
-pub record HoldsVariant (width looseness : ℤ) (demerits : ℕ) (old : List Block) (lines : List (List ℕ)) (s : ReaderState) :
+pub record HoldsVariant (width : Option ℤ) (looseness : ℤ) (demerits : ℕ) (old : List Block) (lines : List (List ℕ)) (s : ReaderState) :
     Type 0 where
   mine : List Block
   front : List (List ℕ)
@@ -141,7 +141,7 @@ pub record HoldsVariant (width looseness : ℤ) (demerits : ℕ) (old : List Blo
   inner : List (List ℕ)
   marker : List ℕ
   rest : List (List ℕ)
-  kept : s.width ≡ Some width
+  kept : s.width ≡ width
   blocks : s.blocks ≡ old ++ mine
   cut : lines ≡ front ++ (begin ∷ (inner ++ (marker ∷ rest)))
   are : InOrder SaysBlock front mine
@@ -154,16 +154,16 @@ pub record HoldsVariant (width looseness : ℤ) (demerits : ℕ) (old : List Blo
   shaped : AllByRecursion IsShaped s.variants
   inserts : HaveSameInserts s.variants
 
-abbrev pub HoldsAt : Within → ℤ → List Block → List (List ℕ) → ReaderState → Type 0
+abbrev pub HoldsAt : Within → Option ℤ → List Block → List (List ℕ) → ReaderState → Type 0
 HoldsAt Outside width old lines s = ⊥
 HoldsAt Listing width old lines s = HoldsBlocks width old lines s
 HoldsAt InChoice width old lines s = HoldsChoice width old lines s
 HoldsAt (InVariant looseness demerits) width old lines s = HoldsVariant width looseness demerits old lines s
 
-abbrev pub Holds : ℤ → List Block → List (List ℕ) → ReaderState → Type 0
+abbrev pub Holds : Option ℤ → List Block → List (List ℕ) → ReaderState → Type 0
 Holds width old lines s = HoldsAt s.within width old lines s
 
-module _ (width : ℤ) (old : List Block) (lines : List (List ℕ)) (line : List ℕ) (s u : ReaderState) where
+module _ (width : Option ℤ) (old : List Block) (lines : List (List ℕ)) (line : List ℕ) (s u : ReaderState) where
   -- the state is known by an equation
   by_state : (within : Within) (x : ReaderState) → x.within ≡ within → x ≡ u →
       HoldsAt within width old (lines ++ line ∷ []) x → Holds width old (lines ++ line ∷ []) u

@@ -108,10 +108,10 @@ module _ (is_file : Bool) where
 
   -- the state behind a block
   pub record Blocks (s u : ReaderState) (blocks : List Block) : Type 0 where
-    within : u.within ≡ Listing
-    width : u.width ≡ s.width
-    are : u.blocks ≡ s.blocks ++ blocks
-    count : u.count ≡ s.count + item_count blocks
+    pub within : u.within ≡ Listing
+    pub width : u.width ≡ s.width
+    pub are : u.blocks ≡ s.blocks ++ blocks
+    pub count : u.count ≡ s.count + item_count blocks
 
   deeper_step : (s : ReaderState) (line : List ℕ) → s.within ≡ Listing → s.has_item ≡ true →
       longer_last s s.within (behind_point line)

@@ -27,7 +27,7 @@ use Rattle.law_readers.proofs.Through.{LeadsTo, Through, galley_leads, no_root, 
 
 -- ---- the end of a listing
 
-ended_blocks : (s t : ReaderState) (within : Within) → ended s within ≡ Ok t →
+pub ended_blocks : (s t : ReaderState) (within : Within) → ended s within ≡ Ok t →
     (t.blocks ≡ s.blocks) × (t.width ≡ s.width)
 unfolding ended
 ended_blocks s t Outside e =
@@ -48,7 +48,7 @@ ended_out s t InChoice at e = absurd cc
 ended_out s t (InVariant looseness demerits) at e = absurd cc
 
 -- a listing ends where no choice is open
-whole : (width : ℤ) (old : List Block) (lines : List (List ℕ)) (s t : ReaderState) (within : Within) →
+pub whole : (width : Option ℤ) (old : List Block) (lines : List (List ℕ)) (s t : ReaderState) (within : Within) →
     HoldsAt within width old lines s → ended s within ≡ Ok t → HoldsBlocks width old lines s
 unfolding ended
 whole width old lines s t Outside holds e = absurd holds
@@ -56,7 +56,7 @@ whole width old lines s t Listing holds e = holds
 whole width old lines s t InChoice holds e = absurd cc
 whole width old lines s t (InVariant looseness demerits) holds e = absurd cc
 
-open_listing : (width : ℤ) (old : List Block) (lines : List (List ℕ)) (s : ReaderState) (within : Within) →
+open_listing : (width : Option ℤ) (old : List Block) (lines : List (List ℕ)) (s : ReaderState) (within : Within) →
     HoldsAt within width old lines s → in_listing within ≡ true
 open_listing width old lines s Outside holds = absurd holds
 open_listing width old lines s Listing holds = refl
@@ -192,7 +192,7 @@ record SaysInside (width : ℤ) (old : List Block) (before : List (List ℕ)) (l
 
 abbrev Says : List (List ℕ) → ReaderState → ReaderState → Type 0
 Says lines s last = (s.within ≡ Outside → SaysOutside s last lines)
-    × ((width : ℤ) (old : List Block) (before : List (List ℕ)) → Holds width old before s →
+    × ((width : ℤ) (old : List Block) (before : List (List ℕ)) → Holds (Some width) old before s →
     SaysInside width old before last lines)
 
 no_more : (s t last : ReaderState) → s ≡ t → ended t t.within ≡ Ok last → Says [] s last
@@ -205,7 +205,7 @@ no_more s t last same ends =
         are = refl;
         width = tells s.width wide;
       },
-      λ width old before holds. (let it = whole width old before s last s.within holds e in record {
+      λ width old before holds. (let it = whole (Some width) old before s last s.within holds e in record {
         here = it.mine;
         mine = [];
         blocks = blocks ∙ it.blocks ∙ ap (λ (x : List Block). old ++ x) (sym (append-nil it.mine));
@@ -242,14 +242,14 @@ module _ (line : List ℕ) (lines : List (List ℕ)) (s u last : ReaderState) (r
     opens_with : (width wide : ℤ) → galley_line false line ≡ Ok (said.Root width) → Begun s u width →
         u.width ≡ Some wide → or_first s.width width ≡ Some wide → Opens width
     opens_with width wide says new is first =
-        let holds : HoldsBlocks wide s.blocks [] u = record {
+        let holds : HoldsBlocks (Some wide) s.blocks [] u = record {
           mine = [];
           kept = is;
           blocks = new.blocks ∙ sym (append-nil s.blocks);
           are = refl;
           last = λ has. absurd (not_both u.has_item has new.none);
         } in
-        let it = later.1 wide s.blocks [] (subst (λ (w : Within). HoldsAt w wide s.blocks [] u) (sym new.at) holds) in
+        let it = later.1 wide s.blocks [] (subst (λ (w : Within). HoldsAt w (Some wide) s.blocks [] u) (sym new.at) holds) in
         record {
           first = it.here;
           others = it.mine;
@@ -290,7 +290,7 @@ module _ (line : List ℕ) (lines : List (List ℕ)) (s u last : ReaderState) (r
             are = open_ones.are;
             width = root_tells width says s.width refl open_ones.kept;
           },
-          λ wide old before holds. (let it = whole wide old before s new.before s.within holds new.ends in record {
+          λ wide old before holds. (let it = whole (Some wide) old before s new.before s.within holds new.ends in record {
             here = it.mine;
             mine = open_ones.first ++ open_ones.others;
             blocks = open_ones.blocks ∙ ap (λ (x : List Block). x ++ (open_ones.first ++ open_ones.others)) it.blocks
@@ -338,10 +338,10 @@ module _ (line : List ℕ) (lines : List (List ℕ)) (s u last : ReaderState) (r
     blank_tells (Some wide) width is tells = tells ∙ is
 
     blank_says : bytes_eq line [] ≡ true → (width : ℤ) (old : List Block) (before : List (List ℕ)) →
-        Holds width old before s → SaysInside width old before last (line ∷ lines)
+        Holds (Some width) old before s → SaysInside width old before last (line ∷ lines)
     blank_says none width old before holds =
-        let ends = blank_step s u line (open_listing width old before s s.within holds) other none read in
-        let it = whole width old before s u s.within holds ends in
+        let ends = blank_step s u line (open_listing (Some width) old before s s.within holds) other none read in
+        let it = whole (Some width) old before s u s.within holds ends in
         let (blocks, wide) = ended_blocks s u s.within ends in
         let next = later.0 (ended_out s u s.within refl ends) in
         record {
@@ -358,10 +358,10 @@ module _ (line : List ℕ) (lines : List (List ℕ)) (s u last : ReaderState) (r
         }
 
     listed_says : bytes_eq line [] ≡ false → (width : ℤ) (old : List Block) (before : List (List ℕ)) →
-        Holds width old before s → SaysInside width old before last (line ∷ lines)
+        Holds (Some width) old before s → SaysInside width old before last (line ∷ lines)
     listed_says some width old before holds =
-        let alone = sym (listed_read s line (open_listing width old before s s.within holds) other some) ∙ read in
-        let it = later.1 width old (before ++ line ∷ []) (holds_step width old before line s u holds alone) in
+        let alone = sym (listed_read s line (open_listing (Some width) old before s s.within holds) other some) ∙ read in
+        let it = later.1 width old (before ++ line ∷ []) (holds_step (Some width) old before line s u holds alone) in
         record {
           here = it.here;
           mine = it.mine;

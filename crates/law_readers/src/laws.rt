@@ -3,7 +3,7 @@ ghost use Rattle.law_readers.specs.Begins.{NoOutputsBeginAtFaults, OutputsBeginB
 ghost use Rattle.law_readers.specs.FaultsStay.{OutputFaultsStay};
 ghost use Rattle.law_readers.specs.Galleys.{GalleyFaultsStay, ListingsAreRead, PassesOverLinesOutside, ReadsBrokenLines, ReadsItsListings};
 ghost use Rattle.law_readers.specs.Paragraphs.{ParagraphFaultsStay, ParagraphsAreRead, PassesOverLinesOutside as PassesOverLinesBetween, ReadsItsParagraphs};
-ghost use Rattle.law_readers.specs.Scripts.{ReadsPartByPart};
+ghost use Rattle.law_readers.specs.Scripts.{ItemLinesAreRead, ReadsItsItemLines, ReadsPartByPart};
 
 /// A fault of an output text at a whole line is a fault of every text that begins with the lines up to it.
 pub fn faults_of_outputs_stay()
@@ -36,7 +36,10 @@ pub fn paragraphs_are_their_items()
     ensures faults { ParagraphFaultsStay }
 {}
 
-/// The steps of a script that is cut in front of a line without a point are those of its parts, or the first fault.
+/// The steps of a script that is cut in front of a line without a point are those of its parts, or the first fault. The
+/// blocks of its item lines are those that the lines say, as in a listing.
 pub fn scripts_are_their_parts()
-    ensures { ReadsPartByPart }
+    ensures parts { ReadsPartByPart }
+    ensures items { ReadsItsItemLines }
+    ensures read { ItemLinesAreRead }
 {}
