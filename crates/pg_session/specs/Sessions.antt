@@ -73,6 +73,7 @@ pub record IsSolved (old : SessionValue) (outcome : Outcome) (new : SessionValue
   where
     pub solves : Solves old.galley old.style outcome
     pub frontier : Frontier old.galley old.style new.labels
+    pub reaches : HaveReach old.galley old.style new.labels (label_reach old.galley old.style)
     pub is : new ≡ record old { is_solved = true; labels = new.labels; touched = above_all }
     pub still : old.is_solved ≡ true → after ≡ before
     pub bounded : after ≤ before + labels_reaching old.touched old.galley old.style new.labels

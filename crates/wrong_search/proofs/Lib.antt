@@ -1,2 +1,3 @@
 mod Ends
-mod Tables
+mod Pruned
+mod Excluded

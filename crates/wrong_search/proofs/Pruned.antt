@@ -1,6 +1,6 @@
 -- What a filled table, and a best label of it, may be.
 use Rattle.std.proofs.Common.{◌≡◌, ◌≢◌, ◌⊎◌, inl, inr, true, ℕ, List, arith}
-use Rattle.std.specs.Prelude.{Contains, ℤ, ◌<ℤ◌}
+use Rattle.std.specs.Prelude.{Contains, ◌<ℤ◌}
 use Rattle.std.proofs.lemmas.Int.{ints}
 use Rattle.pg_table.specs.Label.{IsBestOf, IsTable, RunOf, reached}
 use Rattle.pg_table.specs.Space.{Better, IsRun, Meaning, Reached}
