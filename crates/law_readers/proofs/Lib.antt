@@ -1,1 +1,16 @@
 mod Stops
+mod Taken
+mod Counts
+mod Counted
+mod Completed
+mod Begun
+mod Joined
+mod Through
+mod Ordered
+mod Listed
+mod Sound
+mod Paras
+mod Parts
+mod Readable
+mod Found
+mod ItemLines

@@ -9,11 +9,11 @@ use Rattle.pg_labels.specs.declared.draft.Draft.{Draft}
 use Rattle.pg_labels.specs.declared.output.Output.{Output}
 use Rattle.law_readers.specs.FaultsStay.{BeginAlike, OutputFaultsStay}
 
-same_line : (n m : ℕ) → ◌≡◌ {A = Result Draft ℕ} (Err n) (Err m) → n ≡ m
+pub same_line : (n m : ℕ) → ◌≡◌ {A = Result Draft ℕ} (Err n) (Err m) → n ≡ m
 same_line n m e = cc
 
 -- the fault of a whole text is that of its lines
-stopped : (r : Result Draft ℕ) (n : ℕ) → said_by r ≡ Err n → r ≡ Err n
+pub stopped : (r : Result Draft ℕ) (n : ℕ) → said_by r ≡ Err n → r ≡ Err n
 stopped (Ok d) n e = absurd cc
 stopped (Err m) n e = ap (λ (k : ℕ). Err k) (out m n e)
   where
@@ -21,7 +21,7 @@ stopped (Err m) n e = ap (λ (k : ℕ). Err k) (out m n e)
     out k l h = cc
 
 -- the end of the lines is a fault of their last line, if it is one
-at_end : (d : Draft) (b : Bool) (n m : ℕ) → (if b then Ok d else Err n) ≡ Err m → n ≡ m
+pub at_end : (d : Draft) (b : Bool) (n m : ℕ) → (if b then Ok d else Err n) ≡ Err m → n ≡ m
 at_end d true n m e = absurd cc
 at_end d false n m e = same_line n m e
 

@@ -3,7 +3,7 @@ use Rattle.std.proofs.Common.{◌≡◌, ◌∙◌, ap, refl, ℕ}
 use Rattle.pg_list.specs.GalleyValue.{GalleyValue}
 use Rattle.pg_space.specs.declared.solving.Outcome.{Outcome}
 use Rattle.pg_session.specs.SessionValue.{SessionValue}
-use Rattle.pg_session.specs.Sessions.{IsPaginated, IsSolved, labels_reaching}
+use Rattle.pg_session.specs.Sessions.{IsPaginated, IsSolved, label_reach, labels_reaching}
 use Rattle.pg_session.specs.Shows.{Show, after_show, show_of}
 use Rattle.pg_session.specs.declared.told.Told.{Told}
 use Rattle.pg_course.specs.Counted.{IsShown}
@@ -16,7 +16,13 @@ solved_shows old new outcome before after solved = record {
   floats = ap (λ (s : SessionValue). s.floats) solved.is;
   untouched = ap (λ (s : SessionValue). s.touched) solved.is;
   number = labels_reaching old.touched old.galley old.style new.labels;
-  counts = record { labels = new.labels; frontier = solved.frontier; number_is = refl };
+  counts = record {
+    labels = new.labels;
+    frontier = solved.frontier;
+    reach = label_reach old.galley old.style;
+    reaches = solved.reaches;
+    number_is = refl;
+  };
   bounded = solved.bounded;
 }
 
@@ -28,7 +34,13 @@ paginated_shows old new told before after paginated = record {
   floats = ap (λ (s : SessionValue). s.floats) paginated.is;
   untouched = ap (λ (s : SessionValue). s.touched) paginated.is;
   number = labels_reaching old.touched old.galley old.style paginated.labels;
-  counts = record { labels = paginated.labels; frontier = paginated.frontier; number_is = refl };
+  counts = record {
+    labels = paginated.labels;
+    frontier = paginated.frontier;
+    reach = label_reach old.galley old.style;
+    reaches = paginated.reaches;
+    number_is = refl;
+  };
   bounded = paginated.bounded;
 }
 

@@ -1,6 +1,6 @@
 -- No label reaches as far as the block that stands for what nobody touched.
 use Rattle.std.proofs.Common.{◌≡◌, refl, sym, ap, subst, ◌∙◌, ℕ, ◌+◌, ◌<◌, ◌≤◌, ◌⊎◌, inl, inr, Bool, List, [], ◌∷◌, false, length, arith}
-use Rattle.std.specs.Prelude.{◌==◌, cond, nat_le}
+use Rattle.std.specs.Prelude.{◌==◌, Contains, cond, nat_le}
 use Rattle.std.specs.List.{count_by}
 use Rattle.std.proofs.lemmas.List.Sums.{sum_by-cons}
 use Rattle.std.proofs.lemmas.Bool.{eqb-true}
@@ -29,14 +29,14 @@ use Rattle.law_places.specs.Past.{IsPast}
 use Rattle.law_places.proofs.Measures.{place_within}
 use Rattle.law_places.proofs.Places.{ends_at}
 use Rattle.law_space.proofs.ReachAt.{reach_is}
-use Rattle.law_space.specs.ReachAt.{reach_at}
 use Rattle.pg_space.specs.declared.solving.Outcome.{Outcome}
 use Rattle.law_space.proofs.Bounds.{pages_lawful}
 use Rattle.law_space.proofs.SpaceContracts.{beginnings_are_runs}
 use Rattle.law_space.specs.PageSpace.{wide_meaning}
 use Rattle.pg_table.proofs.Runs.{own}
 use Rattle.pg_session.specs.SessionValue.{SessionValue}
-use Rattle.pg_session.specs.Sessions.{IsSolved, above_all, labels_reaching}
+use Rattle.pg_session.specs.Reached.{HaveReach}
+use Rattle.pg_session.specs.Sessions.{IsSolved, above_all, label_reach, labels_reaching}
 
 pub all_below : (g : GalleyValue) (s : StyleValue) (from : Place) (reach : ℕ) → AreInRange g s → IsPlace g.blocks from →
     IsReach (document g s) from reach → reach < above_all
@@ -63,26 +63,37 @@ count_none p (x ∷ xs) fails =
     let split : count_by p (x ∷ xs) ≡ cond (p x) 1 0 + count_by p xs = sum_by-cons (λ y. cond (p y) 1 0) x xs in
     omega (arith, first, rest, split)
 
+-- the place of a label is one of the galley
+label_place : (g : GalleyValue) (s : StyleValue) (label : Label) → AreInRange g s → IsLabel g s label →
+    IsPlace g.blocks label.state.place
+label_place g s label range is =
+    let own_state : IsState (document g s) (state_of g s is.plan) =
+    own is_same_key (wide_meaning (document g s)) (pages_lawful g s range) (columns is.plan)
+    (state_of g s is.plan) (cost g s is.plan) (beginnings_are_runs g s range is.plan is.prefix).run in
+    subst (λ (u : State). IsPlace g.blocks u.place) is.state own_state.place
+
+-- each label of a frontier has its reach
+pub labels_reach : (g : GalleyValue) (s : StyleValue) (labels : List Label) → AreInRange g s → Frontier g s labels →
+    HaveReach g s labels (label_reach g s)
+labels_reach g s labels range frontier label among =
+    reach_is (document g s) range.blocks label.state.place
+    (label_place g s label range ((frontier.complete label).0 among))
+
 -- no label of a frontier reaches it
 pub none_reach : (g : GalleyValue) (s : StyleValue) (labels : List Label) → AreInRange g s → Frontier g s labels →
     labels_reaching above_all g s labels ≡ 0
 none_reach g s labels range frontier =
-    count_none (λ (label : Label). nat_le above_all (reach_at (document g s) label.state.place)) labels
-    (λ label among. low label ((frontier.complete label).0 (among_contains labels label among)))
+    count_none (λ (label : Label). nat_le above_all (label_reach g s label)) labels
+    (λ label among. low label (among_contains labels label among))
   where
-    low : (label : Label) → IsLabel g s label → nat_le above_all (reach_at (document g s) label.state.place) ≡ false
-    low label is =
-        let own_state : IsState (document g s) (state_of g s is.plan) =
-        own is_same_key (wide_meaning (document g s)) (pages_lawful g s range) (columns is.plan)
-        (state_of g s is.plan) (cost g s is.plan) (beginnings_are_runs g s range is.plan is.prefix).run in
-        let place : IsPlace g.blocks label.state.place =
-        subst (λ (u : State). IsPlace g.blocks u.place) is.state own_state.place in
-        let less : reach_at (document g s) label.state.place < above_all =
-        all_below g s label.state.place (reach_at (document g s) label.state.place) range place
-        (reach_is (document g s) range.blocks label.state.place place) in
-        by_bool (nat_le above_all (reach_at (document g s) label.state.place))
-        (λ e. absurd (let l : above_all ≤ reach_at (document g s) label.state.place =
-        le_true above_all (reach_at (document g s) label.state.place) e in omega (arith, less, l))) (λ e. e)
+    low : (label : Label) → Contains labels label → nat_le above_all (label_reach g s label) ≡ false
+    low label among =
+        let less : label_reach g s label < above_all = all_below g s label.state.place (label_reach g s label) range
+        (label_place g s label range ((frontier.complete label).0 among))
+        (labels_reach g s labels range frontier label among) in
+        by_bool (nat_le above_all (label_reach g s label))
+        (λ e. absurd (let l : above_all ≤ label_reach g s label =
+        le_true above_all (label_reach g s label) e in omega (arith, less, l))) (λ e. e)
 
 -- so a session of which nothing is touched is solved without a step
 pub solved_still : (old new : SessionValue) (outcome : Outcome) (before after : ℕ) → AreInRange old.galley old.style →

@@ -17,9 +17,11 @@ use Rattle.law_space.specs.SpaceLaws.{TellsAll, label_of}
 use Rattle.law_space.specs.PageSpace.{page_meaning}
 use Rattle.pg_table.proofs.BelowLemmas.{right_below_all}
 use Rattle.pg_table.specs.Searching.{count_reaching}
+use Rattle.pg_session.proofs.Above.{labels_reach}
 use Rattle.pg_session.proofs.Reaching.{reaching_same}
 use Rattle.pg_session.specs.Kept.{IsFilled, IsKnown, IsRight, seen}
-use Rattle.pg_session.specs.Sessions.{IsPaginated, above_all, labels_reaching}
+use Rattle.pg_session.specs.Reached.{HaveReach}
+use Rattle.pg_session.specs.Sessions.{IsPaginated, above_all, label_reach, labels_reaching}
 use Rattle.pg_session.specs.declared.kept.Kept.{Kept}
 use Rattle.pg_session.specs.declared.told.Told.{Told}
 
@@ -38,16 +40,18 @@ module _ (g : GalleyValue) (s : StyleValue) (old new : Kept) (filled : IsFilled 
     filled = filled.filled;
     frontier = subst (Frontier g s) (sym (ap (λ (k : Kept). k.labels) filled.is))
         (was (sym (ap (λ (k : Kept). k.solved) filled.is) ∙ e)).frontier;
+    reaches = subst (λ (labels : List Label). HaveReach g s labels (label_reach g s))
+        (sym (ap (λ (k : Kept). k.labels) filled.is)) (was (sym (ap (λ (k : Kept). k.solved) filled.is) ∙ e)).reaches;
     solved = e;
     untouched = untouched;
   }
 
   -- what is told with it
-  pub is_paginated : (floats : List ClassFloatsValue) (told : Told) (before after : ℕ) → TellsAll g s new.table →
-      Solves g s told.outcome → told.labels ≡ length new.table → (old.solved ≡ true → after ≡ before) →
+  pub is_paginated : (floats : List ClassFloatsValue) (told : Told) (before after : ℕ) → AreInRange g s →
+      TellsAll g s new.table → Solves g s told.outcome → told.labels ≡ length new.table → (old.solved ≡ true → after ≡ before) →
       after ≤ before + count_reaching old.touched new.table →
       IsPaginated (seen g s floats old) told (seen g s floats new) before after
-  is_paginated floats told before after tells solves counted still bounded = by (listed new.table)
+  is_paginated floats told before after range tells solves counted still bounded = by (listed new.table)
     where
       by : (labels : List Label) × (IsPermutation (map label_of new.table) labels
           × IsSortedByKey (λ (label : Label). label.state) state_cmp labels) →
@@ -56,6 +60,7 @@ module _ (g : GalleyValue) (s : StyleValue) (old new : Kept) (filled : IsFilled 
         solves = solves;
         labels = labels;
         frontier = tells.frontier labels all sorted;
+        reaches = labels_reach g s labels range (tells.frontier labels all sorted);
         counted = counted ∙ (sym (length-map new.table label_of)
             ∙ sym (length_permutation (map label_of new.table) labels all));
         is = ap (seen g s floats) filled.is;

@@ -13,13 +13,12 @@ use Rattle.pg_style.specs.Values.{StyleValue}
 use Rattle.pg_rules.specs.Legal.{document}
 use Rattle.law_places.proofs.Members.{among_contains}
 use Rattle.law_places.proofs.Among.{Among}
-use Rattle.law_space.specs.ReachAt.{reach_at}
 use Rattle.law_space.specs.SpaceLaws.{label_of}
 use Rattle.law_space.specs.PageSpace.{page_meaning}
 use Rattle.pg_table.specs.Label.{IsTable}
 use Rattle.pg_table.specs.Searching.{count_reaching}
 use Rattle.pg_table.specs.declared.table.Entry.{Entry}
-use Rattle.pg_session.specs.Sessions.{labels_reaching}
+use Rattle.pg_session.specs.Sessions.{label_reach, labels_reaching}
 
 -- two tests that answer alike count as many
 count_map : {X Y : Type 0} (p : X → Bool) (q : Y → Bool) (f : X → Y) (xs : List X) →
@@ -40,7 +39,7 @@ pub reaching_same : (g : GalleyValue) (s : StyleValue) (t : ℕ) (es : List (Ent
     count_reaching t es ≡ labels_reaching t g s labels
 reaching_same g s t es labels table moved =
     count_map (λ (e : Entry State PageMove). nat_le t e.reach)
-    (λ (label : Label). nat_le t (reach_at (document g s) label.state.place)) label_of es
+    (λ (label : Label). nat_le t (label_reach g s label)) label_of es
     (λ e among. ap (λ (n : ℕ). nat_le t n) (table.reaches e (among_contains es e among)))
-    ∙ sym (sum_by-IsPermutation (λ (label : Label). cond (nat_le t (reach_at (document g s) label.state.place)) 1 0)
+    ∙ sym (sum_by-IsPermutation (λ (label : Label). cond (nat_le t (label_reach g s label)) 1 0)
     (map label_of es) labels moved)

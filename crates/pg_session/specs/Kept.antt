@@ -19,7 +19,8 @@ use Rattle.pg_table.specs.Label.{IsTable}
 use Rattle.pg_table.specs.declared.table.Entry.{Entry}
 use Rattle.pg_session.specs.Edits.{edited}
 use Rattle.pg_session.specs.SessionValue.{SessionValue}
-use Rattle.pg_session.specs.Sessions.{above_all}
+use Rattle.pg_session.specs.Reached.{HaveReach}
+use Rattle.pg_session.specs.Sessions.{above_all, label_reach}
 use Rattle.pg_session.specs.declared.kept.Kept.{Kept}
 
 -- what contracts see of these fields
@@ -38,10 +39,12 @@ pub record IsFilled (galley : GalleyValue) (style : StyleValue) (old new : Kept)
   pub filled : IsTable (page_meaning (document galley style)) new.table
   pub is : new ≡ record old { table = new.table; touched = above_all }
 
--- the table is that of the galley as it stands, its labels in order are the frontier, and nothing is touched
+-- the table is that of the galley as it stands, its labels in order are the frontier, each with its reach, and nothing is
+-- touched
 pub record IsKnown (galley : GalleyValue) (style : StyleValue) (kept : Kept) : Type 0 where
   pub filled : IsTable (page_meaning (document galley style)) kept.table
   pub frontier : Frontier galley style kept.labels
+  pub reaches : HaveReach galley style kept.labels (label_reach galley style)
   pub solved : kept.solved ≡ true
   pub untouched : kept.touched ≡ above_all
 

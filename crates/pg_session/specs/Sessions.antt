@@ -14,6 +14,7 @@ use Rattle.law_space.specs.ReachAt.{reach_at}
 use Rattle.pg_space.specs.Solves.{Solves}
 use Rattle.pg_space.specs.declared.solving.Outcome.{Outcome}
 use Rattle.pg_session.specs.Edits.{edited}
+use Rattle.pg_session.specs.Reached.{HaveReach}
 use Rattle.pg_session.specs.SessionValue.{SessionValue}
 use Rattle.pg_session.specs.declared.told.Told.{Told}
 
@@ -21,10 +22,14 @@ use Rattle.pg_session.specs.declared.told.Told.{Told}
 abbrev pub above_all : ℕ
 above_all = 2 ^ 32 - 1
 
+-- the reach of the place of a label, as a number
+abbrev pub label_reach : GalleyValue → StyleValue → Label → ℕ
+label_reach galley style label = reach_at (document galley style) label.state.place
+
 -- how many labels have a reach of at least this block
 abbrev pub labels_reaching : ℕ → GalleyValue → StyleValue → List Label → ℕ
 labels_reaching block galley style labels =
-    count_by (λ (label : Label). nat_le block (reach_at (document galley style) label.state.place)) labels
+    count_by (λ (label : Label). nat_le block (label_reach galley style label)) labels
 
 -- ---- a new session
 
@@ -68,6 +73,7 @@ pub record IsSolved (old : SessionValue) (outcome : Outcome) (new : SessionValue
   where
     pub solves : Solves old.galley old.style outcome
     pub frontier : Frontier old.galley old.style new.labels
+    pub reaches : HaveReach old.galley old.style new.labels (label_reach old.galley old.style)
     pub is : new ≡ record old { is_solved = true; labels = new.labels; touched = above_all }
     pub still : old.is_solved ≡ true → after ≡ before
     pub bounded : after ≤ before + labels_reaching old.touched old.galley old.style new.labels
@@ -78,6 +84,7 @@ pub record IsPaginated (old : SessionValue) (told : Told) (new : SessionValue) (
   pub solves : Solves old.galley old.style told.outcome
   pub labels : List Label
   pub frontier : Frontier old.galley old.style labels
+  pub reaches : HaveReach old.galley old.style labels (label_reach old.galley old.style)
   pub counted : told.labels ≡ length labels
   pub is : new ≡ record old { touched = above_all }
   pub still : old.is_solved ≡ true → after ≡ before

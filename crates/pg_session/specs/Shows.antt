@@ -1,5 +1,6 @@
 -- The shows of a script, and how many steps they may take.
-use Rattle.std.specs.Prelude.{◌≡◌, ℕ, ◌+◌, ◌≤◌, min, List, [], ◌∷◌, take, Option, Some, None}
+use Rattle.std.specs.Prelude.{◌≡◌, ℕ, ◌+◌, ◌≤◌, min, nat_le, List, [], ◌∷◌, take, Option, Some, None}
+use Rattle.std.specs.List.{count_by}
 use Rattle.pg_list.specs.GalleyValue.{GalleyValue}
 use Rattle.pg_list.specs.declared.galley.Edit.{Edit}
 use Rattle.pg_plan.specs.declared.states.Label.{Label}
@@ -11,7 +12,8 @@ use Rattle.pg_edits.specs.declared.script.ScriptStep.{ScriptStep}
 use Rattle.pg_edits.specs.declared.script.ScriptStep.TheVariants.{Change, Show as Shows}
 use Rattle.pg_session.specs.Edits.{edit_fault, edited}
 use Rattle.pg_session.specs.SessionValue.{SessionValue}
-use Rattle.pg_session.specs.Sessions.{above_all, labels_reaching}
+use Rattle.pg_session.specs.Reached.{HaveReach}
+use Rattle.pg_session.specs.Sessions.{above_all}
 
 -- a galley as it is at some point of a script, and the block that was touched since it was shown last
 pub record Show : Type 0 where
@@ -62,7 +64,9 @@ one_show galley = unseen galley ∷ []
 pub record Counts (style : StyleValue) (show : Show) (number : ℕ) : Type 0 where
   pub labels : List Label
   pub frontier : Frontier show.galley style labels
-  pub number_is : number ≡ labels_reaching show.touched show.galley style labels
+  pub reach : Label → ℕ
+  pub reaches : HaveReach show.galley style labels reach
+  pub number_is : number ≡ count_by (λ (label : Label). nat_le show.touched (reach label)) labels
 
 -- one number for each show, and their sum
 abbrev pub SumsTo : StyleValue → List Show → ℕ → Type 0

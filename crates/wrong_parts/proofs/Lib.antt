@@ -1,2 +1,3 @@
 mod LastBreak
 mod LineByLine
+mod Shares

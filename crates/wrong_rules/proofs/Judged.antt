@@ -1,11 +1,16 @@
--- What the judge may answer.
-use Rattle.std.proofs.Common.{◌≡◌, ◌∙◌, ◌⊎◌, inl, inr, refl, sym, ap, ℕ, Some, None, Option, Ok, Err}
-use Rattle.std.specs.Prelude.{ℤ, Result}
+-- What the judge may answer, and what labels may cover.
+use Rattle.std.proofs.Common.{◌≡◌, ◌∙◌, ◌⊎◌, inl, inr, refl, sym, ap, arith, ℕ, List, Some, None, Option, Ok, Err}
+use Rattle.std.specs.Prelude.{Contains, ℤ, Result, ◌<ℤ◌}
+use Rattle.std.proofs.lemmas.Int.{ints}
+use Rattle.pg_cover.specs.Covered.{CoveredBy}
 use Rattle.pg_list.specs.GalleyValue.{GalleyValue}
 use Rattle.pg_plan.specs.declared.pages.Pagination.{Pagination}
+use Rattle.pg_plan.specs.declared.states.Label.{Label}
+use Rattle.pg_plan.specs.declared.states.State.{State}
 use Rattle.pg_style.specs.Values.{StyleValue}
 use Rattle.pg_rules.specs.Cost.{cost}
 use Rattle.pg_rules.specs.Legal.{breach}
+use Rattle.pg_table.specs.Space.{Meaning}
 use Rattle.pg_judge.specs.Settled.{JudgesPlan, answered}
 use Rattle.pg_judge.specs.declared.rule.JudgeFault.{JudgeFault}
 use Rattle.pg_judge.specs.declared.rule.JudgeFault.TheVariants.{Broken, Memory}
@@ -32,3 +37,11 @@ no_cost_at_a_breach galley style plan rule column paid broken is = none_some (sy
 no_breach_where_there_is_none : (galley : GalleyValue) (style : StyleValue) (plan : Pagination) (rule column : ℕ) →
     breach galley style plan ≡ None → JudgesPlan galley style plan (Err (Broken rule column)) → ⊥
 no_breach_where_there_is_none galley style plan rule column legal is = none_some (sym legal ∙ is)
+
+-- what every label costs more than is covered by none, whatever its cost comes to in 128 bits
+none_covers_at_less : {M K : Type 0} (sp : Meaning State M K) (labels : List Label) (state : State) (paid : ℤ) →
+    ((label : Label) → Contains labels label → paid <ℤ label.cost) → CoveredBy sp labels state paid → ⊥
+none_covers_at_less sp labels state paid dearer by =
+    let more = dearer by.label by.listed in
+    let less = by.does.no_dearer in
+    omega (arith, ints, more, less)

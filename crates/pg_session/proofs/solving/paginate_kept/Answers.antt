@@ -9,7 +9,7 @@ pub returns-clause-told : goal.returns-clause-told
 returns-clause-told g c = is_paginated c.args.galley.now c.args.style.now c.args.kept.now c.fill.new.kept
     c.in_ok-fill.ensures.filled c.args.floats.now
     (record { outcome = c.in_ok-outcome.outcome; labels = length c.labels.result.now }) c.args.steps.now
-    c.fill.new.steps
+    c.fill.new.steps c.requires.range
     (c.filled_table_tells_all.ensures c.fill.new.kept.table c.in_ok-fill.ensures.filled.filled)
     c.in_ok-outcome.ensures
     (ap (λ (es : List (Entry State PageMove)). length es) c.labels.ensures) c.fill.ensures.still
