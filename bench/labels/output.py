@@ -1,4 +1,4 @@
-"""The form of output texts, as docs/formats.md says: what each line may be behind those before it."""
+"""The form of output texts, as docs/output.md says: what each line may be behind those before it."""
 
 import re
 from dataclasses import dataclass, field

@@ -1,4 +1,4 @@
-"""The page text of a legal pagination, line by line as docs/formats.md says, and the label text of a list of labels."""
+"""The page text of a legal pagination, line by line as docs/output.md says, and the label text of a list of labels."""
 
 from texts import counts, numbers_line, place, points
 

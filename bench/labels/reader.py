@@ -1,4 +1,4 @@
-"""Reads galleys and styles as docs/formats.md says, of files without a fault: lines that are not wrapped, and TOML."""
+"""Reads galleys and styles as docs/input.md says, of files without a fault: lines that are not wrapped, and TOML."""
 
 import re
 import tomllib

@@ -1,9 +1,9 @@
 //! Every refusal of `pg` in words, as data: what it is, or when it comes, and what to do; and what each key of a style
 //! takes.
 //!
-//! Proved: the words of a kind are those of its number. The words themselves are held to the tables of
-//! `docs/formats.md` by `bench/words`, which finds each row there and no other. A text between two backquotes is one of
-//! TeX, of a file or of a command; whoever tells the words may leave the backquotes out.
+//! Proved: the words of a kind are those of its number. The words themselves are held to the tables of `docs/input.md`
+//! and `docs/output.md` by `bench/words`, which finds each row there and no other. A text between two backquotes is one
+//! of TeX, of a file or of a command; whoever tells the words may leave the backquotes out.
 #![tactic(auto)]
 
 mod keys;

@@ -69,7 +69,7 @@ const CHOICE_SHAPE: Row = Row {
     cause: "a marker out of place or of no such form, an item in front of the first version, a version that is \
             none, or a choice that is not closed (told at the line that ends its listing; at the end of the file \
             one line behind the last)",
-    act: "Compare the markers with the section on choices in `docs/formats.md`. A `\\special` within a \
+    act: "Compare the markers with the section on choices in `docs/input.md`. A `\\special` within a \
           paragraph is no marker: write them between paragraphs.",
 };
 

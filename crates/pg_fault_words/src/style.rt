@@ -38,7 +38,7 @@ const WRONG_KIND: Row = Row {
 const OUT_OF_RANGE: Row = Row {
     number: 5,
     cause: "A value out of range: a number, a dimension (`\"16384.0\"` too), or how many elements an array has.",
-    act: "`docs/formats.md` tells the range of each key. At `runs[N].extra` the sum with `height` counts, too.",
+    act: "`docs/input.md` tells the range of each key. At `runs[N].extra` the sum with `height` counts, too.",
 };
 
 const DECREASING: Row = Row {
