@@ -24,8 +24,9 @@ written.
   --help            print this
   --version         print the version
 
-The program is `pg` in the path, or what the variable PG names. The status is 0 where NAME.pgx is that of the galley,
-1 where no pagination is legal or pg refuses, 2 for wrong words.]]
+The program is `pg` in the path, or what the variable PG names. Where pg refuses, `pg_tell` has the words, if it stands
+beside pg or in the path, or PG_TELL names it. The status is 0 where NAME.pgx is that of the galley, 1 where no
+pagination is legal or pg refuses, 2 for wrong words.]]
 
 local function say(...) io.stdout:write("pgtex: ", string.format(...), "\n") end
 local function complain(...) io.stderr:write("pgtex: ", string.format(...), "\n") end
@@ -192,16 +193,21 @@ local function quoted(word)
   if os.type == "windows" then return '"' .. word .. '"' end
   return "'" .. word:gsub("'", "'\\''") .. "'"
 end
--- output, or nil and the message
-local function run_pg(words, output)
+-- runs a program over files: its status, and the first line that it said
+local function run(command, words, output)
   local errors = temporary_name()
-  local command = quoted(program) .. " " .. words .. " > " .. quoted(output) .. " 2> " .. quoted(errors)
-  if os.type == "windows" then command = '"' .. command .. '"' end
-  local ok, how, status = os.execute(command)
+  local line = quoted(command) .. " " .. words .. " > " .. quoted(output) .. " 2> " .. quoted(errors)
+  if os.type == "windows" then line = '"' .. line .. '"' end
+  local ok, how, status = os.execute(line)
   if type(ok) == "number" then status = ok > 255 and ok // 256 or ok end -- as LuaTeX tells it
   if ok == true then status = 0 end
   local said = (read_file(errors) or ""):match("[^\n]*")
   os.remove(errors)
+  return status, said
+end
+-- output, or nil and the message
+local function run_pg(words, output)
+  local status, said = run(program, words, output)
   if status == 0 or status == 1 then return read_file(output) end
   return nil, said ~= "" and said or string.format("%s ended with the status %s: is it in the path, or named by PG?",
     program, tostring(status))
@@ -226,16 +232,46 @@ local STYLE_FAULT = {
   [5] = "is out of range", [6] = "has an entry below the one before", [7] = "has the number of an earlier class",
   [8] = "is empty",
 }
--- what pg said, in words; part: the items that it read, from line 2 on
-local function in_words(said, style, log, read)
+-- pg_tell, which may stand beside pg, knows more words than these: the variable PG_TELL names it
+local function find_teller()
+  local named = os.getenv("PG_TELL")
+  local beside = (program:match("^.*[/\\]") or "") .. "pg_tell"
+  return named and named ~= "" and named or lfs.isfile(beside) and beside or "pg_tell"
+end
+-- a value of the object that pg_tell writes
+local function value_of(object, key)
+  local text = object:gsub("\\\\", "\1"):gsub('\\"', "\2"):match('"' .. key .. '":"(.-)"')
+  return text and text:gsub("\2", '"'):gsub("\1", "\\") or nil
+end
+-- what is at fault, what to do and the line, where pg_tell is there and finds in these files what pg has said
+local function told_of(said, style_file, galley)
+  local output = temporary_name()
+  run(find_teller(), "--json " .. quoted(style_file) .. " " .. quoted(galley), output)
+  local object = read_file(output) or ""
+  if not object:match('^{"version":1,') or "pg: " .. (value_of(object, "said") or "") ~= said then return {} end
+  return { cause = value_of(object, "cause"), act = value_of(object, "act"), takes = value_of(object, "takes"),
+    line = object:match('"line":(%d+)') }
+end
+-- what pg said, in words; read: the items that it read, from line 2 on
+local function in_words(said, style, log, read, told)
+  -- where it stands, what is at fault, what the line says, what to do
+  local function sentences(place, cause, ...)
+    local out = { place .. ": " .. cause:gsub("%.$", "") }
+    for _, word in ipairs { ... } do if word ~= "" then out[#out + 1] = word end end
+    return table.concat(out)
+  end
+  local act = told.act and ". " .. told.act or ""
   local line, fault = said:match("line (%d+): list fault (%d+)$")
   if line then
     local item = read[integer(line) - 1]
-    return string.format("%s%s: %s%s", log.file, item and ":" .. item.at or "", LIST_FAULT[integer(fault)] or "list fault",
-      item and " [" .. item.line .. "]" or "")
+    return sentences(log.file .. (item and ":" .. item.at or ""), told.cause or LIST_FAULT[integer(fault)] or "list fault",
+      item and " [" .. item.line .. "]" or "", act)
   end
   local number, key = said:match("style fault (%d+) at (.*)$")
-  if number then return string.format("%s: %s %s", style, key, STYLE_FAULT[integer(number)] or "is at fault") end
+  if number and told.cause then
+    local place = style .. (told.line and ":" .. told.line or "") .. (key == "-" and "" or ": " .. key)
+    return sentences(place, told.cause, told.takes and ". It takes: " .. told.takes or "", act)
+  elseif number then return string.format("%s: %s %s", style, key, STYLE_FAULT[integer(number)] or "is at fault") end
   local class = said:match("class (%d+) is not in the style")
   if class then
     for _, item in ipairs(read) do
@@ -356,13 +392,14 @@ local function show_to_pg(part, blocks)
   for _, b in ipairs(tail) do shown[#shown + 1] = b end
   part.shown, part.last_box = shown, last_box
 end
+-- the lines that pg reads, and the item of each behind the first
 local function galley_text(shown, blocks, root)
   local lines, read = { root }, {}
+  local function mark(line, item) lines[#lines + 1], read[#read + 1] = "." .. line, item end
   local function put(item)
-    lines[#lines + 1], read[#lines - 1] = "." .. item.line, item
-    for _, deep in ipairs(item.deep) do lines[#lines + 1], read[#lines - 1] = "." .. deep, item end
+    mark(item.line, item)
+    for _, deep in ipairs(item.deep) do mark(deep, item) end
   end
-  local function mark(line, item) lines[#lines + 1], read[#lines - 1] = "." .. line, item end
   for _, b in ipairs(shown) do
     local block = blocks[b]
     if block.versions then
@@ -549,7 +586,7 @@ local function text_of_part(part, which, number, blocks, style, styles, log)
   local first = style.first ~= "single" and (number % 2 == 1 and "right" or "left") or style.first
   local function run(style_file)
     local out, said = run_pg("run " .. quoted(style_file) .. " " .. quoted(galley), output)
-    if not out then stop("%s", in_words(said, style.file, log, read)) end
+    if not out then stop("%s", in_words(said, style.file, log, read, told_of(said, style_file, galley))) end
     return out
   end
   local out = run(styles(first, part.columns))

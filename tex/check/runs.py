@@ -9,6 +9,7 @@ import time
 
 TEX_FOLDER = os.path.abspath(os.path.join(os.path.dirname(os.path.abspath(__file__)), ".."))
 TESTS = os.path.join(TEX_FOLDER, "tests")
+TELLER = os.path.join(TEX_FOLDER, "..", "crates", "pg_tell_main", "out", "pg_tell_main")
 LOAD = re.compile(r"\\usepackage(?:\[([^\]]*)\])?\{pg\}")
 LOAD_PLAIN = re.compile(r"\\input pg-plain\b")
 PLAIN_ENGINES = {"pdflatex": "pdftex", "lualatex": "luatex", "xelatex": "xetex"}
@@ -25,10 +26,11 @@ READ_AGAIN = (".aux", ".toc", ".lof", ".lot", ".lop", ".out")
 
 
 class Tools:
-    """The programs: pg, the folder of the macros with pgtex.lua, and how long a run may take."""
+    """The programs: pg, pg_tell where it is built, the folder of the macros with pgtex.lua, and how long a run may take."""
 
     def __init__(self, program, macros, limit=300):
         self.program, self.macros, self.limit = os.path.abspath(program), os.path.abspath(macros), limit
+        self.teller = TELLER if os.path.exists(TELLER) else None
 
     def environment(self):
         out = dict(os.environ)

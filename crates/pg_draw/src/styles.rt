@@ -57,7 +57,7 @@ background:none;border-top:3px solid var(--ink);vertical-align:.25rem}
 // Pages, side by side.
 const PAGES: &str =
     "main{display:flex;flex-wrap:wrap;gap:1.75rem 1.5rem;align-items:flex-start;justify-content:center}
-.spread{display:flex;gap:3px;flex:1 1 20rem;max-width:26rem}.two{flex:1 1 36rem;max-width:48rem}
+.spread{display:flex;gap:3px;min-width:0;flex:1 1 20rem;max-width:26rem}.two{flex:1 1 36rem;max-width:48rem}
 .pair{display:flex;flex-wrap:wrap;gap:.5rem 1.5rem;flex:1 1 100%;max-width:60rem;scroll-margin-top:.5rem}
 .step{flex:1 1 100%;display:flex;gap:1rem;justify-content:center;margin:0;padding:.3rem;border-top:1px solid var(--base)}
 .page{flex:1 1 0;min-width:0;background:var(--paper);border:1px solid var(--base);content-visibility:auto;
@@ -99,8 +99,8 @@ const OTHER: &str =
 header,main{max-width:none;padding:0}h2,h3,h3>b,h3 span,dl,.key,.wait{font-size:1em}.skip,.step a{display:none}
 main{display:grid;grid-template-columns:1fr 1fr;gap:4mm;padding-top:3mm}.two,.pair,main h2{grid-column:1/3}
 .spread,.pair{max-width:none;break-inside:avoid}.two,.pair{display:grid;grid-template-columns:1fr 1fr;gap:2mm 4mm}
-.lone{grid-column:2}.step{grid-column:1/3;padding:0}.page svg{max-height:96mm}dl{columns:2;column-gap:4mm}
-*{print-color-adjust:exact;-webkit-print-color-adjust:exact}
+.lone{grid-column:2}.step{grid-column:1/3;padding:0}.page svg{max-height:92mm}dl:only-child{columns:2;column-gap:4mm}
+*{print-color-adjust:exact;-webkit-print-color-adjust:exact}.page:has(dl+dl) svg{max-height:82mm}main h2{break-after:avoid}
 .page,.all li{content-visibility:visible;break-inside:avoid}.all li{min-height:0}.all svg{max-height:14mm}}
 ";
 
