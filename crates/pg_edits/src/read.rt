@@ -148,7 +148,8 @@ fn read_steps(alloc: Global, text: &[u8]) -> Result<Script, ScriptFault>
 ///
 /// Lines end as in a galley. An empty line says nothing; each other line is `show`, `delete A G`, `insert A` or
 /// `replace A G`, whose words stand between single blanks and whose numbers are 1 to 10 digits with a value below 2^32.
-/// The item lines directly behind an `insert` or a `replace` are its blocks. `Memory` may come in place of any answer.
+/// The item lines directly behind an `insert` or a `replace` are its blocks, and say what they say in a listing
+/// (law_readers). `Memory` may come in place of any answer.
 #[tactic(auto, unfolding(crate::specs::Script::script_of))]
 pub fn read_script(alloc: Global, text: &[u8]) -> Result<Script, ScriptFault>
     requires { length text.now < 2 ^ 31 }

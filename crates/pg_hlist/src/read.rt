@@ -66,7 +66,7 @@ fn some_paras(paras: Paras) -> Result<Paras, ListFault>
 /// Reads the paragraphs of a file. A line that begins with `\hbox(` begins a paragraph, and an empty line ends it.
 ///
 /// The first line with a fault decides, and within a line the leftmost fault. `Memory` may come in place of any
-/// answer.
+/// answer. What the lines of a paragraph say is told by laws (law_readers).
 #[tactic(auto, unfolding(crate::specs::Reading::paras_of))]
 pub fn read_paras(alloc: Global, text: &[u8]) -> Result<Paras, ListFault>
     requires { length text.now < 2 ^ 31 }

@@ -70,7 +70,8 @@ fn output_from(mut draft: Draft) -> Result<Output, AllocError>
 
 /// Reads an output text: a page text, and a label text in either form. `BadText` comes exactly where the text is none,
 /// with the least number of lines that begin none; where it ends too soon that is the number of its lines and one more.
-/// `Memory` may come in place of any answer. What is read has fewer than 2^31 pages, columns and labels.
+/// `Memory` may come in place of any answer. What is read has fewer than 2^31 pages, columns and labels. That the lines in
+/// front of that one begin an output text is a law (law_readers).
 #[tactic(auto, unfolding(crate::specs::Reading::output_of))]
 pub fn read_output(alloc: Global, text: &[u8]) -> Result<Output, OutputFault>
     requires { length text.now < 2 ^ 31 }

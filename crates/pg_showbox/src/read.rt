@@ -118,7 +118,7 @@ fn read_all(
 ///
 /// The first line with a fault decides, and within a line the leftmost fault. No item is taken for
 /// another: a text that is not of the notation is refused by its line and kind. `Memory` may come in
-/// place of any answer.
+/// place of any answer. What listings, markers and deeper lines say is told by laws (law_readers).
 #[tactic(auto, unfolding(crate::specs::Reading::galley_of))]
 pub fn read_galley(alloc: Global, text: &[u8], wrap: Option<u32>) -> Result<Galley, ListFault>
     requires { length text.now < 2 ^ 31 }
