@@ -68,8 +68,8 @@ pub fn are_called(
     true
 }
 
-// How many of the last pages ended behind the callout of a float, up to a limit.
-fn pages_waited(
+/// How many of the last pages ended behind the callout of a float, up to a limit.
+pub fn pages_waited(
     galley: &Galley,
     style: &Style,
     list: &FloatList,

@@ -19,5 +19,11 @@ mod seat;
 mod walk;
 mod whole;
 
+pub use added::Counted;
+pub use floats::pages_waited;
+pub use moves::{MoveCost, fitness_price, run_price};
+pub use picks::pick_demerits;
+pub use progress::Progress;
 pub use rule::JudgeFault;
-pub use whole::judge;
+pub use seat::{Seat, seat_of};
+pub use whole::{judge, start};

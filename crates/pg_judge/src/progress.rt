@@ -136,8 +136,8 @@ impl Progress {
             && fits_from(galley, column.from, column.picks.as_slice(), column.to)
     }
 
-    // The height of the wide area of the next column's page.
-    fn next_wide(
+    /// The height of the wide area of the next column's page.
+    pub fn next_wide(
         &self,
         galley: &Galley,
         style: &Style,
@@ -158,8 +158,8 @@ impl Progress {
         }
     }
 
-    // The least rule that the next column breaks, or what it costs.
-    fn judge_move(
+    /// The least rule that the next column breaks, or what it costs.
+    pub fn judge_move(
         &self,
         galley: &Galley,
         style: &Style,

@@ -20,8 +20,8 @@ use pg_plan::{Counts, Pagination};
 use pg_style::Style;
 use std::alloc::Global;
 
-// No columns so far.
-fn start(alloc: Global, style: &Style) -> Progress
+/// No columns so far.
+pub fn start(alloc: Global, style: &Style) -> Progress
     ensures kept { IsKept style.now result }
     ensures start { (galley : GalleyValue) → IsProgress (document galley style.now) [] result }
 {

@@ -1,0 +1,6 @@
+mod Dealt
+mod Finding
+mod Heights
+mod High
+mod Placeless
+mod Runs

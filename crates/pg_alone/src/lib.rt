@@ -1,0 +1,11 @@
+//! One object of a galley that by itself forbids every pagination.
+//!
+//! Proved: where a float is higher than the columns of every run, or no area may have floats of its class, nothing is
+//! legal; and `first_alone` finds such a float exactly where there is one (`specs/Alone`).
+#![tactic(auto)]
+
+mod alone;
+mod laws;
+
+pub use alone::{Alone, first_alone};
+pub use laws::alone_forbids;

@@ -1,0 +1,3 @@
+mod AddUp
+mod Amounts
+mod Standing

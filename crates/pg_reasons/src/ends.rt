@@ -1,0 +1,167 @@
+//! The ends in reach of a column of text.
+ghost use Rattle.std.specs.Prelude.{◌≡◌, ◌≤◌, ◌<◌, ◌^◌, nat_abs, option_map, option_copied, Option, IfSome, false, true, ℕ};
+ghost use Rattle.pg_list.specs.Flat.{is_same_place as is_same_place_of};
+ghost use Rattle.pg_list.specs.Places.{item_at as item_at_of};
+ghost use Rattle.pg_list.specs.Ranges.{IsItemInRange};
+ghost use Rattle.pg_rules.specs.Legal.{document};
+ghost use Rattle.pg_rules.specs.Room.{ColumnContext};
+ghost use Rattle.pg_reasons.specs.Reasons.{TellsFault};
+
+use pg_breaks::{break_cost, is_forced, is_spent};
+use pg_column::{fits_from, goal_in, is_same_place, judge_from};
+use pg_list::{Block, Galley, Item, Place};
+use pg_notes::NoteSums;
+use pg_plan::Picks;
+use pg_style::Style;
+use pg_sums::Sums;
+use std::alloc::{AllocError, Global};
+
+/// An end in reach of a text: its place, the text's natural height and what its notes leave of the room, in scaled
+/// points, whether it is over, how badly it fills the goal where it is not, and the least rule on its text that a
+/// column would break there, if any.
+#[derive(Clone, Copy)]
+pub struct Reach {
+    pub to: Place,
+    pub total: i64,
+    pub goal: i64,
+    pub is_over: bool,
+    pub badness: u16,
+    pub has_box: bool,
+    pub rule: Option<u8>,
+}
+
+/// How many items a reach is looked for in.
+const MOST: u32 = 65536;
+
+/// The least rule on the text of a column that one from a place to another with these picks breaks in a room of so many
+/// scaled points: 3 shape of a column, 4 tolerance, 5 break inside, 6 least text, 11 limit of notes, 13 looseness. None
+/// where it breaks none, or where the text is none of the galley.
+///
+/// Condition: the room is below 2^40 in size. Takes no memory.
+pub fn rule_at(
+    galley: &Galley,
+    style: &Style,
+    from: Place,
+    picks: &[u32],
+    to: Place,
+    room: i64,
+) -> Option<u8>
+    requires { nat_abs room < 2 ^ 40 }
+    ensures { TellsFault galley.now style.now from picks.now to room result }
+{
+    if is_same_place(from, to) {
+        return None;
+    }
+    if !fits_from(galley, from, picks, to) {
+        return None;
+    }
+    match judge_from(galley, style, from, picks, to, room) {
+        Ok(_) => None,
+        Err(rule) => Some(rule),
+    }
+}
+
+// The item at a place, within its range.
+fn item_in(galley: &Galley, at: Place) -> Option<&Item>
+    ensures is { option_copied result ≡ item_at_of galley.now.blocks at }
+    ensures range { IfSome result (λ item. IsItemInRange item.now) }
+{
+    let _ = galley.blocks().as_slice();
+    galley.item_at(at)
+}
+
+// Whether a choice begins at a place.
+fn is_front(galley: &Galley, at: Place) -> bool {
+    if at.index != 0 {
+        return false;
+    }
+    matches!(
+        galley.blocks().as_slice().get(at.block as usize),
+        Some(Block::Choice(_))
+    )
+}
+
+// How badly a text fills a goal, where it is not over.
+fn badness_in(sums: &Sums, goal: i64, is_spent: bool) -> u16
+    requires { nat_abs goal < 2 ^ 52 }
+{
+    if sums.over(goal) {
+        0
+    } else {
+        sums.page_badness(goal, is_spent)
+    }
+}
+
+// What is kept of the items so far.
+fn reach_at(
+    galley: &Galley,
+    style: &Style,
+    from: Place,
+    picks: &[u32],
+    to: Place,
+    room: i64,
+    sums: &Sums,
+    notes: &NoteSums,
+) -> Reach
+    requires { nat_abs room < 2 ^ 40 }
+{
+    let goal = goal_in(style, room, notes);
+    Reach {
+        to,
+        total: sums.total(),
+        goal,
+        is_over: sums.over(goal),
+        badness: badness_in(sums, goal, is_spent(galley, to)),
+        has_box: sums.has_box(),
+        rule: rule_at(galley, style, from, picks, to, room),
+    }
+}
+
+/// The ends in reach of a text from a place in a room of so many scaled points, with the first version of each paragraph
+/// that is a choice: each break up to the first that is over or forced.
+///
+/// Condition: the room is below 2^40 in size.
+pub fn reaches_of(
+    alloc: Global,
+    galley: &Galley,
+    style: &Style,
+    from: Place,
+    room: i64,
+) -> Result<Vec<Reach>, AllocError>
+    requires { nat_abs room < 2 ^ 40 }
+{
+    let mut sums = Sums::start(style.topskip, style.maxdepth);
+    let mut notes = NoteSums::start();
+    let mut picks = Picks::new(alloc);
+    let mut ends = Vec::new(alloc);
+    let mut place = from;
+    for _ in 0..MOST {
+        let is_break = break_cost(galley, place).is_some();
+        if is_break && !is_same_place(from, place) {
+            let end = reach_at(
+                galley,
+                style,
+                from,
+                picks.as_slice(),
+                place,
+                room,
+                &sums,
+                &notes,
+            );
+            ends.push(end)?;
+            if end.is_over || (end.has_box && is_forced(galley, place)) {
+                return Ok(ends);
+            }
+        }
+        let Some(item) = item_in(galley, place) else {
+            return Ok(ends);
+        };
+        if is_front(galley, place) {
+            picks.push(0)?;
+        }
+        sums.add(item);
+        notes.add(style, item);
+        place = galley.next_place(place);
+    }
+    Ok(ends)
+}
