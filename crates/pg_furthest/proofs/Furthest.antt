@@ -1,6 +1,6 @@
 -- The furthest label of a filled table is the furthest of all beginnings.
-use Rattle.std.proofs.Common.{◌≡◌, refl, sym, ap, subst, ◌∙◌, ℕ, ◌<◌, List, [], ◌∷◌, length, true, false}
-use Rattle.std.specs.Prelude.{◌≢◌, Contains, Some, ℤ, pos, slice_get}
+use Rattle.std.proofs.Common.{◌≡◌, refl, ap, subst, ◌∙◌, ℕ, ◌<◌, List, [], length, true, false}
+use Rattle.std.specs.Prelude.{◌≢◌, Contains, Some, pos, slice_get}
 use Rattle.std.specs.Ordering.{is_lt}
 use Rattle.std.specs.declared.cmp.Ordering.{Ordering}
 use Rattle.std.specs.declared.cmp.Ordering.TheVariants.{Less, Equal, Greater}
@@ -28,14 +28,14 @@ use Rattle.law_space.specs.SpaceLaws.{IsBeginningOf, IsRunOfColumns}
 use Rattle.law_space.proofs.Bounds.{pages_lawful}
 use Rattle.law_space.proofs.Least.{best_narrower}
 use Rattle.law_space.proofs.SpaceContracts.{beginnings_are_runs, best_betters, runs_are_beginnings}
-use Rattle.pg_table.specs.Label.{Covered, IsLabel, IsTable, RunOf, reached}
+use Rattle.pg_table.specs.Label.{Covered, IsLabel, IsTable, RunOf}
 use Rattle.pg_table.specs.Narrower.{BetteredBy}
-use Rattle.pg_table.specs.Space.{IsRun, Reached, Run}
+use Rattle.pg_table.specs.Space.{Reached, Run}
 use Rattle.pg_table.specs.declared.table.Entry.{Entry}
 use Rattle.pg_table.proofs.Labels.{label_run}
 use Rattle.pg_table.proofs.Lists.{at_contains, contains_at, some_length}
 use Rattle.pg_table.proofs.Narrow.{run_inside}
-use Rattle.pg_furthest.specs.Furthest.{Begins, ComesTo, IsBeginning, IsFurthest, IsLastAmong, NoneLeadsOn, StandsFurthest, is_before}
+use Rattle.pg_furthest.specs.Furthest.{Begins, ComesTo, IsBeginning, IsLastAmong, NoneLeadsOn, StandsFurthest}
 
 -- what is no worse stands at the same place
 no_worse_place : (a b : State) → is_no_worse a b ≡ true → a.place ≡ b.place
@@ -68,7 +68,7 @@ module _ (g : GalleyValue) (s : StyleValue) (range : AreInRange g s) where
     some_label = some_length es start_covered.entry start_covered.among
 
     -- the run of a label is one with any picks
-    label_wide : (e : Entry State PageMove) (ms : List PageMove) → Contains es e → RunOf es e ms →
+    pub label_wide : (e : Entry State PageMove) (ms : List PageMove) → Contains es e → RunOf es e ms →
         Run (wide_meaning (document g s)) ms e.state e.cost
     label_wide e ms among of = run_inside is_same_key (wide_meaning (document g s)) (pages_lawful g s range)
         (FollowBest (document g s)) (best_narrower (document g s)) ms e.state e.cost

@@ -1,3 +1,4 @@
+mod Columns
 mod Furthest
 mod Lasts
 mod Stands

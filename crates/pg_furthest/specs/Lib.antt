@@ -1,2 +1,3 @@
 pub mod Furthest
 pub mod Searches
+pub mod Pages

@@ -2,6 +2,7 @@
 //! keep.
 ghost use Rattle.std.specs.Prelude.{◌≡◌, ◌<◌, ℕ, List, Some, length, slice_get};
 ghost use Rattle.pg_furthest.specs.Furthest.{Begins, IsLastAmong, NoneLeadsOn, StandsFurthest};
+ghost use Rattle.pg_furthest.specs.Pages.{AreColumns};
 ghost use Rattle.law_columns.specs.Pages.{plan_of};
 ghost use Rattle.law_space.specs.PageSpace.{page_meaning};
 ghost use Rattle.pg_plan.specs.declared.pages.PageMove.{PageMove};
@@ -33,4 +34,13 @@ pub fn beginnings_of_labels(galley: &Galley, style: &Style)
         IsTable (page_meaning (document galley.now style.now)) labels →
         ((label : Entry State PageMove) → slice_get labels at ≡ Some label → RunOf labels label moves) →
         Begins galley.now style.now labels at (plan_of style.now moves) }
+{}
+
+/// The columns of a label's run fill the pages of their pagination, each stands behind those before it, and they are
+/// few.
+pub fn columns_of_labels(galley: &Galley, style: &Style)
+    requires { AreInRange galley.now style.now }
+    ensures { (labels : List (Entry State PageMove)) (at : ℕ) (label : Entry State PageMove) (moves : List PageMove) →
+        IsTable (page_meaning (document galley.now style.now)) labels → slice_get labels at ≡ Some label →
+        RunOf labels label moves → AreColumns galley.now style.now moves }
 {}

@@ -1,22 +1,25 @@
 //! A galley under a style with the labels of all its pages.
 ghost use Rattle.std.specs.Prelude.{◌≡◌, ◌<◌, ◌+◌, IfOk, OnOk, length};
+ghost use Rattle.pg_alone.specs.Alone.{FindsAlone};
 ghost use Rattle.pg_floats.specs.AreFloats.{AreFloats};
 ghost use Rattle.pg_hops.specs.Index.{AreHops};
 ghost use Rattle.pg_rules.specs.Legal.{document};
 ghost use Rattle.pg_rules.specs.Ranges.{AreInRange};
-ghost use Rattle.pg_space.specs.Solves.{Solves};
 ghost use Rattle.law_space.specs.PageSpace.{page_meaning};
 ghost use Rattle.pg_table.specs.Label.{IsTable};
 ghost use Rattle.pg_furthest.specs.Furthest.{Begins, StandsFurthest};
+ghost use Rattle.pg_furthest.specs.Pages.{TellsBestPages};
 ghost use Rattle.pg_furthest.specs.Searches.{MakesSearch};
 
-use crate::telling::{beginning_in, furthest_in, outcome_in};
+use crate::best::{BestPages, pages_in};
+use crate::telling::{beginning_in, furthest_in};
+use pg_alone::{Alone, first_alone};
 use pg_floats::{FloatFault, FloatList};
 use pg_hops::BreakIndex;
 use pg_list::Galley;
 use pg_plan::{PageKey, Pagination};
 use pg_small::{SmallMove, SmallState};
-use pg_space::{Outcome, refill_pages};
+use pg_space::refill_pages;
 use pg_style::Style;
 use pg_table::{Entry, Steps, Table};
 use std::alloc::{AllocError, Global};
@@ -118,17 +121,25 @@ impl Search {
         self.table.labels()
     }
 
-    /// The best pagination with its cost, or that none is legal.
-    pub fn outcome(&self) -> Result<Outcome, AllocError>
-        ensures { IfOk result (Solves self.now.galley self.now.style) }
+    /// The best pagination with its cost and what each of its columns adds to it, or nothing where none is legal.
+    pub fn pages(&self) -> Result<Option<BestPages>, AllocError>
+        ensures { IfOk result (TellsBestPages self.now.galley self.now.style) }
     {
-        outcome_in(
+        pages_in(
             self.alloc,
             &self.galley,
             &self.style,
             &self.floats,
             &self.table,
         )
+    }
+
+    /// The first float that no column can hold, if there is one: then nothing is legal while it stands there. No memory is
+    /// taken.
+    pub fn alone(&self) -> Option<Alone>
+        ensures { FindsAlone self.now.galley self.now.style result }
+    {
+        first_alone(&self.galley, &self.style, &self.floats)
     }
 
     /// The label that stands furthest: a beginning ends at its place, and none behind it. No memory is taken.

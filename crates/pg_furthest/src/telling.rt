@@ -3,7 +3,6 @@ ghost use Rattle.std.specs.Prelude.{◌<◌, IfOk, length};
 ghost use Rattle.pg_floats.specs.AreFloats.{AreFloats};
 ghost use Rattle.pg_rules.specs.Legal.{document};
 ghost use Rattle.pg_rules.specs.Ranges.{AreInRange};
-ghost use Rattle.pg_space.specs.Solves.{Solves};
 ghost use Rattle.law_space.specs.PageSpace.{page_meaning};
 ghost use Rattle.pg_table.specs.Label.{IsTable};
 ghost use Rattle.pg_furthest.specs.Furthest.{Begins, StandsFurthest};
@@ -12,28 +11,12 @@ use crate::last::last_of;
 use crate::laws::beginnings_of_labels;
 use pg_floats::FloatList;
 use pg_list::Galley;
-use pg_plan::{PageKey, Pagination};
+use pg_plan::Pagination;
 use pg_small::{SmallMove, SmallState};
-use pg_space::{Outcome, PageSpace, moves_of, outcome_of};
+use pg_space::{PageSpace, moves_of};
 use pg_style::Style;
-use pg_table::{Entry, Table};
+use pg_table::Entry;
 use std::alloc::{AllocError, Global};
-
-/// The best pagination with its cost, or that none is legal.
-pub fn outcome_in(
-    alloc: Global,
-    galley: &Galley,
-    style: &Style,
-    floats: &FloatList,
-    table: &Table<SmallState, SmallMove, PageKey>,
-) -> Result<Outcome, AllocError>
-    requires floats { AreFloats galley.now.blocks style.now floats.now }
-    requires filled { IsTable (page_meaning (document galley.now style.now)) table.now }
-    ensures { IfOk result (Solves galley.now style.now) }
-{
-    let space = PageSpace::new(alloc, galley, style, floats);
-    outcome_of(alloc, &space, table)
-}
 
 /// The label that stands furthest.
 pub fn furthest_in(galley: &Galley, style: &Style, labels: &[Entry<SmallState, SmallMove>]) -> usize

@@ -1,6 +1,8 @@
 -- What is told of the files of a shelf, and how the program ends.
 use Rattle.std.specs.Prelude.{◌≡◌, ◌<◌, ◌^◌, ℕ, ◌⊎◌, List, [], length, ⊤, Option, Some, None, Ok, Err}
 use Rattle.std.specs.Io.KnownBytes.{Appends}
+use Rattle.pg_alone.specs.Alone.{FindsAlone}
+use Rattle.pg_alone.specs.declared.alone.Alone.{Alone}
 use Rattle.pg_command.specs.Lines.{Says, status_of}
 use Rattle.pg_command.specs.Words.{StyleName, named, plain}
 use Rattle.pg_command.specs.declared.ending.Ending.{Ending}
@@ -12,10 +14,12 @@ use Rattle.pg_furthest.specs.declared.standing.Standing.{Standing}
 use Rattle.pg_list.specs.GalleyValue.{GalleyValue}
 use Rattle.pg_outside.specs.Outside.{AppendsFront, Held, IsFile, IsTooLong, OverSink}
 use Rattle.pg_pieces.specs.declared.letters.Form.{Form}
+use Rattle.pg_parts.specs.Parts.{part_sum}
+use Rattle.pg_plan.specs.Order.{columns}
 use Rattle.pg_plan.specs.declared.pages.Pagination.{Pagination}
 use Rattle.pg_rules.specs.Best.{Best}
 use Rattle.pg_rules.specs.Cost.{cost}
-use Rattle.pg_rules.specs.Legal.{Legal}
+use Rattle.pg_rules.specs.Legal.{Legal, document}
 use Rattle.pg_showbox.specs.Reading.{galley_of}
 use Rattle.pg_style.specs.Plain as plain_values
 use Rattle.pg_style.specs.Values.{StyleValue}
@@ -96,18 +100,20 @@ abbrev pub IsTold : List ℕ → Ending → Ending → Option (List ℕ) → Opt
 IsTold front cause end old new = ((end ≡ cause) × WritesAll front old new)
     ⊎ (((end ≡ ending.WriteFault) × WritesFront old new) ⊎ ((end ≡ ending.Memory) × (new ≡ old)))
 
--- of a galley under a style that has no legal pagination: the furthest place of a beginning; or nothing, where memory
--- ran out
+-- of a galley under a style that has no legal pagination: a float that no column can hold, if there is one, and the
+-- furthest place of a beginning; or nothing, where memory ran out
 abbrev pub TellsNone : Form → GalleyValue → StyleValue → Ending → Option (List ℕ) → Option (List ℕ) → Type 0
-TellsNone form galley style end old new = ((standing : Standing) × StandsAt galley style standing
-    × IsTold (none_front form standing) ending.NoLegal end old new) ⊎ ((end ≡ ending.Memory) × (new ≡ old))
+TellsNone form galley style end old new = ((alone : Option Alone) × FindsAlone galley style alone
+    × (standing : Standing) × StandsAt galley style standing
+    × IsTold (none_front form alone standing) ending.NoLegal end old new) ⊎ ((end ≡ ending.Memory) × (new ≡ old))
 
--- of a galley under a style: how many pages the best pagination has, with its cost; or that none is legal; or nothing,
--- where memory ran out
+-- of a galley under a style: how many pages the best pagination has, with its cost and the parts of that; or that none is
+-- legal; or nothing, where memory ran out
 abbrev pub TellsPages : Form → GalleyValue → StyleValue → Ending → Option (List ℕ) → Option (List ℕ) → Type 0
 TellsPages form galley style end old new =
     ((plan : Pagination) × Best galley style plan
-    × IsTold (pages_front form (length plan.pages) (cost galley style plan)) ending.Done end old new)
+    × IsTold (pages_front form (length plan.pages) (cost galley style plan)
+    (part_sum (document galley style) (columns plan))) ending.Done end old new)
     ⊎ ((((plan : Pagination) → Legal galley style plan → ⊥) × TellsNone form galley style end old new)
     ⊎ ((end ≡ ending.Memory) × (new ≡ old)))
 

@@ -5,6 +5,11 @@ ghost use Rattle.pg_command.specs.Words.{IsStyle, style_name};
 ghost use Rattle.pg_command.specs.declared.ending.Ending.TheVariants.{Done, NoLegal};
 ghost use Rattle.pg_outside.specs.Outside.{over_sink};
 ghost use Rattle.pg_outside.specs.Words.{texts_of};
+ghost use Rattle.pg_furthest.specs.Pages.{IsBestPages};
+ghost use Rattle.pg_parts.specs.Parts.{part_sum};
+ghost use Rattle.pg_plan.specs.Order.{columns};
+ghost use Rattle.pg_rules.specs.Cost.{cost};
+ghost use Rattle.pg_rules.specs.Legal.{document};
 ghost use Rattle.pg_tell.specs.Course.{ClassesStop, HasFiles, IsTold, Serves, Stops, Tells, TellsFiles, TellsPages};
 ghost use Rattle.pg_tell.specs.Course.{TellsNone};
 ghost use Rattle.pg_tell.specs.Lines.{Begins, none_front, own_line, pages_front, refusal_front};
@@ -12,19 +17,20 @@ ghost use Rattle.pg_tell.specs.Words.{command_of};
 
 use crate::faults::faults_text;
 use crate::help::{HELP, VERSION};
+use crate::none::none_text;
 use crate::open::{no_memory, open_galley, open_style, remark_why};
-use crate::pages::{none_text, pages_text};
+use crate::pages::pages_text;
 use crate::refusal::{Stop, refusal_text};
 use crate::words::{Job, read_job};
+use pg_alone::Alone;
 use pg_command::{Ending, Status, StyleWord};
 use pg_fault_words::{MANY_FLOATS, STRANGE_CLASS};
 use pg_floats::FloatFault;
-use pg_furthest::{Search, Standing};
+use pg_furthest::{BestPages, Search, Standing};
 use pg_list::Galley;
 use pg_outside::{Shelf, Sink};
+use pg_parts::columns_add_up;
 use pg_pieces::Form;
-use pg_plan::Pagination;
-use pg_space::Outcome;
 use pg_style::Style;
 use pg_table::Steps;
 use std::alloc::Global;
@@ -105,18 +111,22 @@ fn tell_refusal<'a, O: Sink>(alloc: Global, form: Form, stop: Stop<'a>, out: &mu
     }
 }
 
-// Tells how many the best pages are, and what they cost.
+// Tells of the best pages.
 fn tell_best<'a, O: Sink>(
     alloc: Global,
     form: Form,
-    plan: &Pagination,
-    cost: &i128,
+    galley: &Galley,
+    style: &Style,
+    pages: &BestPages,
     out: &mut O,
 ) -> Ending<'a>
-    ensures { IsTold (pages_front form (length plan.now.pages) cost.now) Done result
+    requires { IsBestPages galley.now style.now pages.now }
+    ensures { IsTold (pages_front form (length pages.now.plan.pages) (cost galley.now style.now pages.now.plan)
+        (part_sum (document galley.now style.now) (columns pages.now.plan))) Done result
         (O.written out.old) (O.written out.new) }
 {
-    match pages_text(alloc, form, plan.pages.as_slice().len(), cost) {
+    columns_add_up();
+    match pages_text(alloc, form, galley, style, pages) {
         Err(_) => Ending::Memory,
         Ok(text) => write_text(&text, Ending::Done, out),
     }
@@ -126,36 +136,38 @@ fn tell_best<'a, O: Sink>(
 fn tell_standing<'a, O: Sink>(
     alloc: Global,
     form: Form,
-    galley: &Galley,
+    search: &Search,
+    alone: &Option<Alone>,
     standing: &Standing,
     out: &mut O,
 ) -> Ending<'a>
-    ensures { IsTold (none_front form standing.now) NoLegal result (O.written out.old) (O.written out.new) }
+    ensures { IsTold (none_front form alone.now standing.now) NoLegal result (O.written out.old) (O.written out.new) }
 {
-    match none_text(alloc, form, galley, standing) {
+    match none_text(alloc, form, search, alone, standing) {
         Err(_) => Ending::Memory,
         Ok(text) => write_text(&text, Ending::NoLegal, out),
     }
 }
 
-// Tells how far pages come where none are legal.
+// Tells why none are legal, and how far pages come.
 fn tell_none<'a, O: Sink>(alloc: Global, form: Form, search: &Search, out: &mut O) -> Ending<'a>
     ensures { TellsNone form search.now.galley search.now.style result (O.written out.old) (O.written out.new) }
 {
+    let alone = search.alone();
     let Ok(standing) = search.standing() else {
         return Ending::Memory;
     };
-    tell_standing(alloc, form, search.galley(), &standing, out)
+    tell_standing(alloc, form, search, &alone, &standing, out)
 }
 
 // Tells of the pages of a galley.
 fn tell_pages<'a, O: Sink>(alloc: Global, form: Form, search: &Search, out: &mut O) -> Ending<'a>
     ensures { TellsPages form search.now.galley search.now.style result (O.written out.old) (O.written out.new) }
 {
-    match search.outcome() {
+    match search.pages() {
         Err(_) => Ending::Memory,
-        Ok(Outcome::Best(plan, cost)) => tell_best(alloc, form, &plan, &cost, out),
-        Ok(Outcome::NoLegal) => tell_none(alloc, form, search, out),
+        Ok(Some(pages)) => tell_best(alloc, form, search.galley(), search.style(), &pages, out),
+        Ok(None) => tell_none(alloc, form, search, out),
     }
 }
 

@@ -7,8 +7,9 @@ usage: pg_tell [--json] [--wrap N] STYLE GALLEY
        pg_tell --faults | --help | --version
 
 It tells in words what pg says of the same files: how many pages the best
-pagination has and what it costs, or that none is legal; and where a file is
-refused, the line of the file, what is wrong with it, and what to do.
+pagination has, what it costs and for what, and what these pages are like; or
+that none is legal, and how far pages come; and where a file is refused, the
+line of the file, what is wrong with it, and what to do.
 
   --height H   one column H points high (58.0: always with a point) in place
                of a style

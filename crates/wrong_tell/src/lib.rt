@@ -5,12 +5,16 @@
 //! for word.
 #![tactic(auto)]
 
+mod causes;
 mod lines;
+mod parts;
 mod pieces;
 mod searches;
 mod told;
 
+pub use causes::{first_alone, rule_at};
 pub use lines::{key_line, line_text};
+pub use parts::{price_columns, sum_of};
 pub use pieces::print;
-pub use searches::{beginning, furthest, outcome, standing};
+pub use searches::{beginning, furthest, pages, standing};
 pub use told::serve;

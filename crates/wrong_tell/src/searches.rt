@@ -1,18 +1,17 @@
 //! How far beginnings come.
 ghost use Rattle.std.specs.Prelude.{◌<◌, length, IfOk};
 ghost use Rattle.pg_furthest.specs.Furthest.{Begins, StandsAt, StandsFurthest};
-ghost use Rattle.pg_space.specs.Solves.{Solves};
+ghost use Rattle.pg_furthest.specs.Pages.{TellsBestPages};
 
-use pg_furthest::{Search, Standing};
+use pg_furthest::{BestPages, Search, Standing};
 use pg_plan::Pagination;
-use pg_space::Outcome;
 use std::alloc::AllocError;
 
-/// The best pagination with its cost, or that none is legal.
-pub fn outcome(search: &Search) -> Result<Outcome, AllocError>
-    ensures { IfOk result (Solves search.now.galley search.now.style) }
+/// The best pagination with its cost and what each of its columns adds to it, or nothing where none is legal.
+pub fn pages(search: &Search) -> Result<Option<BestPages>, AllocError>
+    ensures { IfOk result (TellsBestPages search.now.galley search.now.style) }
 {
-    search.outcome()
+    search.pages()
 }
 
 /// The label that stands furthest.

@@ -1,4 +1,4 @@
-use Rattle.std.proofs.Common.{◌≡◌, ◌∙◌, ap, sym, subst}
+use Rattle.std.proofs.Common.{◌∙◌, ap, sym, subst}
 use Rattle.std.specs.Prelude.{reverse}
 use Rattle.law_columns.specs.Pages.{plan_of}
 use Rattle.pg_plan.specs.declared.pages.Pagination.{Pagination}

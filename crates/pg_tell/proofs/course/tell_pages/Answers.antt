@@ -1,11 +1,26 @@
-use Rattle.std.proofs.Common.{subst, inl, inr}
-use Rattle.pg_space.specs.Solves.{Solves}
+use Rattle.std.proofs.Common.{subst, sym, inl, inr}
+use Rattle.pg_furthest.specs.Pages.{IsBestPages, TellsBestPages}
+use Rattle.pg_list.specs.GalleyValue.{GalleyValue}
+use Rattle.pg_style.specs.Values.{StyleValue}
+use Rattle.pg_tell.proofs.Fronts.{told_pages}
 use Rattle.pg_tell.proofs.course.tell_pages.Goals as goal
 
-pub returns-in-Ok-NoLegal : goal.returns-in-Ok-NoLegal
-returns-in-Ok-NoLegal g c =
-    inr (inl (
-      subst (Solves c.args.search.now.galley c.args.search.now.style) c.in-Ok-NoLegal.field-0-is
-          c.in-Ok-NoLegal.ensures,
-      c.tell_none.ensures,
-    ))
+pub tell_best-requires : goal.tell_best-requires
+tell_best-requires g c =
+    let best = subst (TellsBestPages c.args.search.now.galley c.args.search.now.style) c.in-Ok-Some.field-0-is
+    c.in-Ok-Some.ensures in
+    subst (λ (galley : GalleyValue). IsBestPages galley c.style.result.now c.in-Ok-Some.pages) (sym c.galley.ensures)
+    (subst (λ (style : StyleValue). IsBestPages c.args.search.now.galley style c.in-Ok-Some.pages) (sym c.style.ensures)
+    best)
+
+pub returns-in-Ok-Some : goal.returns-in-Ok-Some
+returns-in-Ok-Some g c = told_pages c.args.form c.args.search.now.galley c.galley.result.now c.args.search.now.style
+    c.style.result.now c.in-Ok-Some.pages _ _ _ c.galley.ensures c.style.ensures
+    (subst (TellsBestPages c.args.search.now.galley c.args.search.now.style) c.in-Ok-Some.field-0-is
+    c.in-Ok-Some.ensures) c.tell_best.ensures
+
+pub returns-in-Ok-None : goal.returns-in-Ok-None
+returns-in-Ok-None g c = inr (inl (
+    subst (TellsBestPages c.args.search.now.galley c.args.search.now.style) c.in-Ok-None.field-0-is c.in-Ok-None.ensures,
+    c.tell_none.ensures,
+  ))
