@@ -1,5 +1,5 @@
 //! Each law is the contract of a function that does nothing.
-ghost use Rattle.pg_loosened.specs.Looser.{LessTextKeeps, MoreLoosenessKeeps, MoreToleranceKeeps};
+ghost use Rattle.law_looser.specs.Looser.{LessTextKeeps, MoreLoosenessKeeps, MoreToleranceKeeps};
 
 use pg_list::Galley;
 use pg_style::Style;

@@ -21,7 +21,7 @@ use Rattle.pg_rules.specs.History.{context}
 use Rattle.pg_rules.specs.Legal.{Legal, document}
 use Rattle.pg_rules.specs.Ranges.{AreInRange}
 use Rattle.pg_rules.specs.Room.{Document, is_text, items_of, room, size_of}
-use Rattle.pg_loosened.specs.Looser.{LessTextKeeps, MoreLoosenessKeeps, MoreToleranceKeeps, with_least_text, with_looseness, with_tolerance}
+use Rattle.law_looser.specs.Looser.{LessTextKeeps, MoreLoosenessKeeps, MoreToleranceKeeps, with_least_text, with_looseness, with_tolerance}
 
 -- columns that may stand keep standing where each does
 all_stand : (old new : Document) → ((m : PageMove) (ms : List PageMove) → StandsAfter old m ms → StandsAfter new m ms) →

@@ -1,5 +1,5 @@
-use Rattle.pg_loosened.proofs.Looser.{less_text, more_looseness, more_tolerance}
-use Rattle.pg_loosened.proofs.laws.looser_keeps_legal.Goals as goal
+use Rattle.law_looser.proofs.Looser.{less_text, more_looseness, more_tolerance}
+use Rattle.law_looser.proofs.laws.looser_keeps_legal.Goals as goal
 
 pub returns-clause-tolerance : goal.returns-clause-tolerance
 returns-clause-tolerance c = more_tolerance c.args.galley.now c.args.style.now
