@@ -23,6 +23,7 @@ use Rattle.law_readers.specs.Galleys.{behind_point, further_lines}
 use Rattle.law_readers.specs.InOrder.{InOrder}
 use Rattle.law_readers.specs.LinesRead.{lines_read}
 use Rattle.law_readers.specs.Paragraphs.{IsDeeper, Paragraph, ParagraphsAreRead, SayParagraphs, SaysItem, SaysParagraph, begins_paragraph, is_filled, paragraphs}
+use Rattle.law_readers.proofs.Behind.{BeginsBehind, behind, behind_begins, behind_shorter, front_behind}
 use Rattle.law_readers.proofs.Paras.{Leads, lead_paras, leads_both, no_root, node_longer, outside_read, root_empty}
 
 -- ---- lines in a paragraph
@@ -181,41 +182,6 @@ items_go (item ∷ items) s lines old (front, rest, cut, says, more) at few =
 
 -- ---- all lines
 
--- the lines behind a paragraph
-abbrev lines_behind : List (List ℕ) → List (List ℕ)
-lines_behind lines = drop (prefix_len is_filled lines) lines
-
-behind_more : (line : List ℕ) (lines : List (List ℕ)) → is_filled line ≡ true →
-    lines_behind (line ∷ lines) ≡ lines_behind lines
-behind_more line lines so =
-    let next : 1 + prefix_len is_filled lines ≡ suc (prefix_len is_filled lines) = omega arith in
-    rw (so, next) refl
-
-behind_none : (line : List ℕ) (lines : List (List ℕ)) → is_filled line ≡ false →
-    lines_behind (line ∷ lines) ≡ line ∷ lines
-behind_none line lines other = rw other refl
-
-behind_shorter : (lines : List (List ℕ)) → length (lines_behind lines) ≤ length lines
-behind_shorter [] = omega arith
-behind_shorter (line ∷ lines) = by_bool (is_filled line)
-    (λ so. (let same = ap length (behind_more line lines so) in let less = behind_shorter lines in
-    omega (arith, same, less)))
-    (λ other. (let same = ap length (behind_none line lines other) in omega (arith, same)))
-
--- an empty line, or none
-abbrev BeginsEmpty : List (List ℕ) → Type 0
-BeginsEmpty [] = Unit {0}
-BeginsEmpty (line ∷ lines) = is_filled line ≡ false
-
-behind_empty : (lines : List (List ℕ)) → BeginsEmpty (lines_behind lines)
-behind_empty [] = tt
-behind_empty (line ∷ lines) = by_bool (is_filled line)
-    (λ so. subst (λ (l : List (List ℕ)). BeginsEmpty l) (sym (behind_more line lines so)) (behind_empty lines))
-    (λ other. subst (λ (l : List (List ℕ)). BeginsEmpty l) (sym (behind_none line lines other)) other)
-
-both_lines : (lines : List (List ℕ)) → take_while is_filled lines ++ lines_behind lines ≡ lines
-both_lines lines = take-append-drop (prefix_len is_filled lines) lines
-
 paragraphs_behind : (front back : List (List ℕ)) → NoRoots front → paragraphs (front ++ back) ≡ paragraphs back
 paragraphs_behind [] back each = refl
 paragraphs_behind (line ∷ front) back each =
@@ -226,7 +192,7 @@ paragraphs_behind (line ∷ front) back each =
 -- where a paragraph is open, it ends here
 abbrev IsBetween : Option (List HItem) → List (List ℕ) → Type 0
 IsBetween None lines = Unit {0}
-IsBetween (Some items) lines = BeginsEmpty lines
+IsBetween (Some items) lines = BeginsBehind is_filled lines
 
 record Found (s : Draft) (lines : List (List ℕ)) (paras : List (List HItem)) : Type 0 where
   state : Draft
@@ -241,9 +207,8 @@ no_lines : (s : Draft) (paras : List (List HItem)) → SayParagraphs paras [] �
 no_lines s [] none = record { state = s; leads = refl; are = sym (append-nil (ended s.paras s.current)) }
 no_lines s (items ∷ paras) none = absurd none
 
-empty_line : (b : Bool) → not b ≡ false → b ≡ true
-empty_line true e = refl
-empty_line false e = absurd cc
+is_blank : (line : List ℕ) → is_filled line ≡ false → bytes_eq line [] ≡ true
+is_blank line e = by_bool (bytes_eq line []) (λ so. so) (λ other. absurd (not_both (is_filled line) (ap not other) e))
 
 -- an empty line, or one that says nothing
 passed : (s : Draft) (line : List ℕ) (lines : List (List ℕ)) (o : Option (List HItem)) → s.current ≡ o →
@@ -256,7 +221,7 @@ passed s line lines (Some items) at other between = (
   ap (λ (o : Option (List HItem)). line_parsed (is_some o) line >>= (λ it. step s it line)) at
       ∙ ap (λ (r : Result ParaLine ListKind). r >>= (λ it. step s it line))
       (if_true (bytes_eq line []) (Ok said.Blank) (on (after (codes ".") line) pointed_at (Err BadLine))
-      (empty_line (bytes_eq line []) between)),
+      (is_blank line between)),
   refl,
   refl,
 )
@@ -266,7 +231,7 @@ none_open : (o : Option (List HItem)) (line : List ℕ) (lines : List (List ℕ)
     IsBetween o (line ∷ lines) → o ≡ None
 none_open None line lines root between = refl
 none_open (Some items) line lines root between =
-    let blank : line ≡ [] = bytes_same line [] (empty_line (bytes_eq line []) between) in
+    let blank : line ≡ [] = bytes_same line [] (is_blank line between) in
     let other = root_empty line blank in absurd (not_both (begins_paragraph line) root other)
 
 root_reads : (s : Draft) (line : List ℕ) → s.current ≡ None → outside_line line ≡ Ok said.Root →
@@ -300,21 +265,21 @@ module _ (n : ℕ) (on : Finds n) (line : List ℕ) (lines : List (List ℕ)) (s
       let none = none_open s.current line lines root between in
       let few = says.few in
       let (v, goes, is) = items_go items (opened s []) (take_while is_filled lines) [] says.each refl (omega (arith, few)) in
-      let short = behind_shorter lines in
-      let behind : paragraphs lines ≡ paragraphs (lines_behind lines) =
-      ap paragraphs (sym (both_lines lines))
-      ∙ paragraphs_behind (take_while is_filled lines) (lines_behind lines)
+      let short = behind_shorter is_filled lines in
+      let others : paragraphs lines ≡ paragraphs (behind is_filled lines) =
+      ap paragraphs (sym (front_behind is_filled lines))
+      ∙ paragraphs_behind (take_while is_filled lines) (behind is_filled lines)
       (items_roots items (take_while is_filled lines) says.each) in
-      let it = on (lines_behind lines) v paras (omega (arith, long, short))
-      (subst (λ (o : Option (List HItem)). IsBetween o (lines_behind lines)) (sym is.at) (behind_empty lines))
-      (subst (λ (all : List Paragraph). SayParagraphs paras all) behind more) in
+      let it = on (behind is_filled lines) v paras (omega (arith, long, short))
+      (subst (λ (o : Option (List HItem)). IsBetween o (behind is_filled lines)) (sym is.at) (behind_begins is_filled lines))
+      (subst (λ (all : List Paragraph). SayParagraphs paras all) others more) in
       record {
         state = it.state;
         leads = (
           opened s [],
           root_reads s line none says.root,
-          subst (λ (l : List (List ℕ)). Leads (opened s []) l it.state) (both_lines lines)
-              (leads_both (opened s []) v it.state (take_while is_filled lines) (lines_behind lines) goes it.leads),
+          subst (λ (l : List (List ℕ)). Leads (opened s []) l it.state) (front_behind is_filled lines)
+              (leads_both (opened s []) v it.state (take_while is_filled lines) (behind is_filled lines) goes it.leads),
         );
         are = it.are ∙ ap (λ (o : Option (List HItem)). ended v.paras o ++ paras) is.at
             ∙ ap (λ (x : List (List HItem)). (x ++ items ∷ []) ++ paras) is.paras

@@ -11,6 +11,7 @@ mod Listed
 mod Sound
 mod Paras
 mod Parts
+mod Behind
 mod Readable
 mod Found
 mod ItemLines

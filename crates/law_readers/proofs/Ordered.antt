@@ -11,7 +11,7 @@ use Rattle.pg_list.specs.Bodies.{block_with_line, extended, extended_blocks, lon
 use Rattle.pg_list.specs.Shapes.{fits_first}
 use Rattle.pg_showbox.specs.Nodes.{node_item}
 use Rattle.pg_showbox.specs.declared.node.Node.{Node}
-use Rattle.pg_showbox.specs.declared.node.Node.TheVariants.{Box, Rule, Glue, Kern, Penalty, Insert, Carry}
+use Rattle.pg_showbox.proofs.ReadBack.{longer_node}
 use Rattle.law_readers.specs.Galleys.{HaveSameInserts, IsDeeper, SaysBlock, SaysItem, behind_point, further_lines}
 use Rattle.law_readers.specs.InOrder.{InOrder}
 
@@ -50,16 +50,6 @@ further_more (first ∷ lines) line =
     ∙ ap (λ (text : List ℕ). 10 ∷ text)
     (sym (append_assoc (behind_point first) (further_lines lines) (10 ∷ behind_point line)))
 
-pub node_longer : (node : Node) (body line : List ℕ) →
-    with_line line (node_item node body) ≡ node_item node (longer body line)
-node_longer (Box height depth) body line = refl
-node_longer (Rule height depth) body line = refl
-node_longer (Glue width stretch order shrink) body line = refl
-node_longer (Kern width) body line = refl
-node_longer (Penalty value) body line = refl
-node_longer (Insert class size) body line = refl
-node_longer Carry body line = refl
-
 says_longer : (lines : List (List ℕ)) (item : Item) (line : List ℕ) → SaysItem lines item → IsDeeper line →
     SaysItem (lines ++ line ∷ []) (with_line (behind_point line) item)
 says_longer lines item line says deeper =
@@ -71,7 +61,7 @@ says_longer lines item line says deeper =
       says = says.says;
       goes_on = all_append IsDeeper says.deeper (line ∷ []) says.goes_on (deeper, tt);
       is = ap (with_line (behind_point line)) says.is
-          ∙ node_longer says.node (behind_point says.first ++ further_lines says.deeper) (behind_point line)
+          ∙ longer_node says.node (behind_point says.first ++ further_lines says.deeper) (behind_point line)
           ∙ ap (λ (text : List ℕ). node_item says.node text)
           (append_assoc (behind_point says.first) (further_lines says.deeper) (10 ∷ behind_point line)
           ∙ ap (λ (text : List ℕ). behind_point says.first ++ text) (sym (further_more says.deeper line)));

@@ -29,10 +29,12 @@ use Rattle.pg_showbox.specs.declared.parsed.ParsedLine.TheVariants as said
 use Rattle.pg_showbox.specs.declared.state.ReaderState.{ReaderState}
 use Rattle.pg_showbox.specs.declared.state.Within.{Within}
 use Rattle.pg_showbox.specs.declared.state.Within.TheVariants.{Outside, Listing, InChoice, InVariant}
+use Rattle.pg_showbox.proofs.ReadBack.{longer_node}
 use Rattle.law_readers.specs.Galleys.{HasWidth, HaveSameInserts, IsDeeper, IsFirstWidth, IsShaped, Listing as AListing, ListingsAreRead, SaysBlock, SaysBlocks, SaysChoice, SaysItem, SaysVariant, begins_listing, behind_point, further_lines, is_listed, listings}
 use Rattle.law_readers.specs.InOrder.{InOrder}
 use Rattle.law_readers.specs.LinesRead.{lines_read}
-use Rattle.law_readers.proofs.Ordered.{longer_behind, node_longer}
+use Rattle.law_readers.proofs.Behind.{BeginsBehind, behind, behind_begins, behind_more, behind_none, behind_shorter, front_behind}
+use Rattle.law_readers.proofs.Ordered.{longer_behind}
 use Rattle.law_readers.proofs.Through.{Through, leads_galley, no_root, outside_line, through_both}
 
 -- ---- a line that says something in a listing
@@ -147,7 +149,7 @@ module _ (is_file : Bool) where
       ≡ old ++ One (node_item node (body ++ 10 ∷ behind_point line)) ∷ [] =
       ap (extended_blocks (behind_point line)) are
       ∙ longer_behind old (One (node_item node body) ∷ []) (behind_point line) tt
-      ∙ ap (λ (item : Item). old ++ One item ∷ []) (node_longer node body (behind_point line)) in
+      ∙ ap (λ (item : Item). old ++ One item ∷ []) (longer_node node body (behind_point line)) in
       let (u, goes, is) = deepen lines (record s { blocks = extended_blocks (behind_point line) s.blocks }) old node
       (body ++ 10 ∷ behind_point line) each.1 at has longer in (
         u,
@@ -255,7 +257,7 @@ module _ (is_file : Bool) where
   deepen_in (line ∷ lines) s looseness demerits old node body each at has are =
       let longer : extended (behind_point line) s.items ≡ old ++ node_item node (body ++ 10 ∷ behind_point line) ∷ [] =
       ap (extended (behind_point line)) are ∙ last_longer old (node_item node body) (behind_point line)
-      ∙ ap (λ (item : Item). old ++ item ∷ []) (node_longer node body (behind_point line)) in
+      ∙ ap (λ (item : Item). old ++ item ∷ []) (longer_node node body (behind_point line)) in
       let (u, goes, is) = deepen_in lines (record s { items = extended (behind_point line) s.items }) looseness demerits old
       node (body ++ 10 ∷ behind_point line) each.1 at has longer in (
         u,
@@ -620,58 +622,23 @@ ends_at s Listing at closed = record {
 ends_at s InChoice at closed = absurd closed
 ends_at s (InVariant looseness demerits) at closed = absurd closed
 
--- the lines behind a listing
-abbrev lines_behind : List (List ℕ) → List (List ℕ)
-lines_behind lines = drop (prefix_len is_listed lines) lines
-
-behind_more : (line : List ℕ) (lines : List (List ℕ)) → is_listed line ≡ true →
-    lines_behind (line ∷ lines) ≡ lines_behind lines
-behind_more line lines so =
-    let next : 1 + prefix_len is_listed lines ≡ suc (prefix_len is_listed lines) = omega arith in
-    rw (so, next) refl
-
-behind_none : (line : List ℕ) (lines : List (List ℕ)) → is_listed line ≡ false →
-    lines_behind (line ∷ lines) ≡ line ∷ lines
-behind_none line lines other = rw other refl
-
 no_root_listed : (a b : Bool) → not (a || b) ≡ true → a ≡ false
 no_root_listed true b h = absurd cc
 no_root_listed false b h = refl
 
 -- no listing begins with its lines
-listings_behind : (lines : List (List ℕ)) → listings lines ≡ listings (lines_behind lines)
+listings_behind : (lines : List (List ℕ)) → listings lines ≡ listings (behind is_listed lines)
 listings_behind [] = refl
 listings_behind (line ∷ lines) = by_bool (is_listed line)
     (λ so. if_false (begins_listing line) (record { root = line; lines = take_while is_listed lines } ∷ listings lines)
     (listings lines) (no_root_listed (begins_listing line) (bytes_eq line []) so)
-    ∙ listings_behind lines ∙ ap listings (sym (behind_more line lines so)))
-    (λ other. ap listings (sym (behind_none line lines other)))
-
-behind_shorter : (lines : List (List ℕ)) → length (lines_behind lines) ≤ length lines
-behind_shorter [] = omega arith
-behind_shorter (line ∷ lines) = by_bool (is_listed line)
-    (λ so. (let same = ap length (behind_more line lines so) in let less = behind_shorter lines in
-    omega (arith, same, less)))
-    (λ other. (let same = ap length (behind_none line lines other) in omega (arith, same)))
-
--- the first line behind a listing is none of its lines
-abbrev BeginsUnlisted : List (List ℕ) → Type 0
-BeginsUnlisted [] = Unit {0}
-BeginsUnlisted (line ∷ lines) = is_listed line ≡ false
-
-behind_unlisted : (lines : List (List ℕ)) → BeginsUnlisted (lines_behind lines)
-behind_unlisted [] = tt
-behind_unlisted (line ∷ lines) = by_bool (is_listed line)
-    (λ so. subst (λ (l : List (List ℕ)). BeginsUnlisted l) (sym (behind_more line lines so)) (behind_unlisted lines))
-    (λ other. subst (λ (l : List (List ℕ)). BeginsUnlisted l) (sym (behind_none line lines other)) other)
-
-both_lines : (lines : List (List ℕ)) → take_while is_listed lines ++ lines_behind lines ≡ lines
-both_lines lines = take-append-drop (prefix_len is_listed lines) lines
+    ∙ listings_behind lines ∙ ap listings (sym (behind_more is_listed line lines so)))
+    (λ other. ap listings (sym (behind_none is_listed line lines other)))
 
 -- where a listing is open, lines follow that are none of it
 abbrev IsBetween : Within → List (List ℕ) → Type 0
 IsBetween Outside lines = Unit {0}
-IsBetween Listing lines = BeginsUnlisted lines
+IsBetween Listing lines = BeginsBehind is_listed lines
 IsBetween InChoice lines = ⊥
 IsBetween (InVariant looseness demerits) lines = ⊥
 
@@ -850,12 +817,12 @@ module _ (n : ℕ) (on : Finds n) (line : List ℕ) (lines : List (List ℕ)) (s
       let (v, goes, is) = blocks_go true front new.state (take_while is_listed lines) says.each new.within
       (omega (arith, room, sum, number)) in
       let total = is.count in
-      let short = behind_shorter lines in
+      let short = behind_shorter is_listed lines in
       let wide : v.width ≡ Some width =
       is.width ∙ new.wide ∙ next_width s.width width says.width line lines root tells says.root in
-      let it = on (lines_behind lines) v rest width (omega (arith, long, short))
-      (subst (λ (w : Within). IsBetween w (lines_behind lines)) (sym is.within) (behind_unlisted lines))
-      (subst (λ (o : Option ℤ). FirstWidth o width (lines_behind lines)) (sym wide) refl)
+      let it = on (behind is_listed lines) v rest width (omega (arith, long, short))
+      (subst (λ (w : Within). IsBetween w (behind is_listed lines)) (sym is.within) (behind_begins is_listed lines))
+      (subst (λ (o : Option ℤ). FirstWidth o width (behind is_listed lines)) (sym wide) refl)
       (subst (λ (all : List AListing). InOrder SaysBlocks rest all) (listings_behind lines) more)
       (omega (arith, room, sum, number, total)) in
       record {
@@ -864,8 +831,8 @@ module _ (n : ℕ) (on : Finds n) (line : List ℕ) (lines : List (List ℕ)) (s
           through = (
             new.state,
             root_reads s line says.width says.root root ∙ new.is,
-            subst (λ (l : List (List ℕ)). Through true new.state l it.behind.state) (both_lines lines)
-                (through_both true new.state v it.behind.state (take_while is_listed lines) (lines_behind lines) goes
+            subst (λ (l : List (List ℕ)). Through true new.state l it.behind.state) (front_behind is_listed lines)
+                (through_both true new.state v it.behind.state (take_while is_listed lines) (behind is_listed lines) goes
                 it.behind.through),
           );
           last = it.behind.last;

@@ -23,7 +23,7 @@ use Rattle.law_readers.specs.InOrder.{InOrder}
 use Rattle.law_readers.specs.LinesRead.{lines_read}
 use Rattle.law_readers.proofs.Listed.{Holds, HoldsAt, HoldsBlocks, holds_step, ok_said, said_inside}
 use Rattle.law_readers.proofs.Ordered.{taken_more, taken_none}
-use Rattle.law_readers.proofs.Through.{LeadsTo, Through, galley_leads, no_root, outside_line}
+use Rattle.law_readers.proofs.Through.{LeadsTo, Through, ended_outside, galley_leads, no_root, outside_line}
 
 -- ---- the end of a listing
 
@@ -38,14 +38,6 @@ ended_blocks s t Listing e =
     (sym (ap (λ (x : ReaderState). x.blocks) same), sym (ap (λ (x : ReaderState). x.width) same))
 ended_blocks s t InChoice e = absurd cc
 ended_blocks s t (InVariant looseness demerits) e = absurd cc
-
-ended_out : (s t : ReaderState) (within : Within) → s.within ≡ within → ended s within ≡ Ok t → t.within ≡ Outside
-unfolding ended
-ended_out s t Outside at e = sym (ap (λ (x : ReaderState). x.within) (ok_said s t e)) ∙ at
-ended_out s t Listing at e =
-    sym (ap (λ (x : ReaderState). x.within) (ok_said (record s { within = Outside; has_item = false }) t e))
-ended_out s t InChoice at e = absurd cc
-ended_out s t (InVariant looseness demerits) at e = absurd cc
 
 -- a listing ends where no choice is open
 pub whole : (width : Option ℤ) (old : List Block) (lines : List (List ℕ)) (s t : ReaderState) (within : Within) →
@@ -343,7 +335,7 @@ module _ (line : List ℕ) (lines : List (List ℕ)) (s u last : ReaderState) (r
         let ends = blank_step s u line (open_listing (Some width) old before s s.within holds) other none read in
         let it = whole (Some width) old before s u s.within holds ends in
         let (blocks, wide) = ended_blocks s u s.within ends in
-        let next = later.0 (ended_out s u s.within refl ends) in
+        let next = later.0 (ended_outside s u s.within refl ends) in
         record {
           here = it.mine;
           mine = next.mine;

@@ -160,7 +160,7 @@ outside_through s t (line ∷ lines) at each (u, is, rest) =
     ok_same e = cc
 
 -- behind an empty line no listing is open
-ended_outside : (s t : ReaderState) (within : Within) → s.within ≡ within → ended s within ≡ Ok t → t.within ≡ Outside
+pub ended_outside : (s t : ReaderState) (within : Within) → s.within ≡ within → ended s within ≡ Ok t → t.within ≡ Outside
 unfolding ended
 ended_outside s t Outside at e = let same : s ≡ t = cc in sym (ap (λ (x : ReaderState). x.within) same) ∙ at
 ended_outside s t Listing at e =

@@ -63,15 +63,6 @@ done_beside_a_float : (doc : Document) (u : State) → has_dealt_all doc u.place
 done_beside_a_float doc u waits done =
     not_both (has_dealt_all doc u.placed) (both_of (is_spent_at doc u.place) (has_dealt_all doc u.placed) done).1 waits
 
--- a place has one reach
-reach_is_one : (doc : Document) (from : Place) (n m : ℕ) → IsReach doc from n → IsReach doc from m → n ≡ m
-reach_is_one doc from n m one other =
-    let low = one.greatest other.last other.reached in
-    let high = other.greatest one.last one.reached in
-    let first = one.one_more in
-    let second = other.one_more in
-    omega (arith, low, high, first, second)
-
 -- no column is left out that is not spared
 column_left_out : {S M K : Type 0} (sp : Meaning S M K) (u : S) (spared : S → ℤ → Bool) (steps : List (Step S M)) (m : M)
     (v : S) (c : ℤ) → sp.Follow u m v c → spared v c ≡ false →
