@@ -21,6 +21,6 @@ returns-in-Ok-Some g c = told_pages c.args.form c.args.search.now.galley c.galle
 
 pub returns-in-Ok-None : goal.returns-in-Ok-None
 returns-in-Ok-None g c = inr (inl (
-    subst (TellsBestPages c.args.search.now.galley c.args.search.now.style) c.in-Ok-None.field-0-is c.in-Ok-None.ensures,
-    c.tell_none.ensures,
-  ))
+  subst (TellsBestPages c.args.search.now.galley c.args.search.now.style) c.in-Ok-None.field-0-is c.in-Ok-None.ensures,
+  c.tell_none.ensures,
+))
