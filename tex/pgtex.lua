@@ -370,8 +370,8 @@ local function make_parts(blocks, columns)
   return parts
 end
 
--- what pg reads of a part: without markers, without what TeX drops in front of its first box and behind a forced break,
--- and with the marks and writes behind its last box in front of the glue that TeX drops there
+-- what pg reads of a part: of markers only barriers in front of its last box, nothing that TeX drops in front of its first
+-- box and behind a forced break, and the marks and writes behind its last box in front of the glue that TeX drops there
 local function show_to_pg(part, blocks)
   local shown, tail, seen = {}, {}, false
   local last_box = 0
@@ -380,6 +380,7 @@ local function show_to_pg(part, blocks)
     local block = blocks[b]
     local item = block.item
     if item and item.marker then
+      if item.marker == "barrier" and seen and b < last_box then shown[#shown + 1] = b end
     elseif has_box(block) then seen = true shown[#shown + 1] = b
     elseif is_discardable(item) then
       if b > last_box then tail[#tail + 1] = b
@@ -392,12 +393,14 @@ local function show_to_pg(part, blocks)
   for _, b in ipairs(tail) do shown[#shown + 1] = b end
   part.shown, part.last_box = shown, last_box
 end
+-- how pg is told that no float may pass
+local BARRIER = "\\special{pg:flush}"
 -- the lines that pg reads, and the item of each behind the first
 local function galley_text(shown, blocks, root)
   local lines, read = { root }, {}
   local function mark(line, item) lines[#lines + 1], read[#read + 1] = "." .. line, item end
   local function put(item)
-    mark(item.line, item)
+    mark(item.marker and BARRIER or item.line, item)
     for _, deep in ipairs(item.deep) do mark(deep, item) end
   end
   for _, b in ipairs(shown) do

@@ -23,6 +23,7 @@ class Document:
         heads = dict(re.findall(r"^%% (\w+)(?:: (.*))?$", self.text, re.MULTILINE))
         self.warning, self.error = heads.get("warning"), heads.get("error")
         self.may_differ = heads.get("words", "").split()
+        self.in_order = heads.get("order", "").split()
         self.rounds = int(heads.get("rounds", 4))
         self.foot = float(heads.get("foot", 0))
         self.is_off = "off" in heads
@@ -86,6 +87,15 @@ def check_said(row, log, said_in_all):
             row.faults.append(one[:160])
 
 
+def check_order(row, aux):
+    """Do the labels that the document announces in order stand on pages in order?"""
+    pages = {label: int(page) for label, page in re.findall(r"\\newlabel\{([^{}]*)\}\{\{[^{}]*\}\{(\d+)\}", aux)}
+    names = row.document.in_order
+    for one, next_one in zip(names, names[1:]):
+        if not pages.get(one, 0) <= pages.get(next_one, 0):
+            row.faults.append(f"{one} stands on page {pages.get(one)}, and {next_one} on page {pages.get(next_one)}")
+
+
 def check_references(row, folder, log):
     """Are the references settled, and do labels name the page on which their words stand?"""
     name = row.document.name
@@ -96,6 +106,7 @@ def check_references(row, folder, log):
     if any("??" in word for page in pages for word in page):
         row.faults.append("?? stands in the PDF")
     labels = dict(re.findall(r"\\newlabel\{place:(\w+)\}\{\{[^{}]*\}\{(\w+)\}", runs.read(folder, f"{name}.aux") or ""))
+    check_order(row, runs.read(folder, f"{name}.aux") or "")
     for label, number in labels.items():
         here = [number for page in pages if f"{label}place." in page and number in page]
         if len(here) != 1:

@@ -6,6 +6,7 @@ from collections import Counter
 
 from listing import Node, add_line, elastic, lines_of, units
 
+BARRIER = ".\\special{pg:flush}"  # what pgtex tells pg; TeX has a mark there
 AREAS = ("wide", "top", "text", "bottom", "notes")
 
 
@@ -55,6 +56,8 @@ def read_pages(path):
     pages, root = [], None
     for line in lines_of(path):
         words = line.split(" ")
+        if line == BARRIER:
+            continue
         if line.startswith("."):
             add_line(root, line)
         elif words[0] == "page":
