@@ -58,7 +58,7 @@ background:none;border-top:3px solid var(--ink);vertical-align:.25rem}
 const PAGES: &str =
     "main{display:flex;flex-wrap:wrap;gap:1.75rem 1.5rem;align-items:flex-start;justify-content:center}
 .spread{display:flex;gap:3px;min-width:0;flex:1 1 20rem;max-width:26rem}.two{flex:1 1 36rem;max-width:48rem}
-.pair{display:flex;flex-wrap:wrap;gap:.5rem 1.5rem;flex:1 1 100%;max-width:60rem;scroll-margin-top:.5rem}
+.pair{display:flex;flex-wrap:wrap;gap:.5rem 1.5rem;flex:1 1 100%;max-width:60rem;min-width:0;scroll-margin-top:.5rem}
 .step{flex:1 1 100%;display:flex;gap:1rem;justify-content:center;margin:0;padding:.3rem;border-top:1px solid var(--base)}
 .page{flex:1 1 0;min-width:0;background:var(--paper);border:1px solid var(--base);content-visibility:auto;
 contain-intrinsic-size:auto 24rem auto 44rem;scroll-margin-top:1rem}
