@@ -64,6 +64,13 @@ added_last old new first it e = subst (λ (is : List ℕ). IsAdded it.at (first.
       stay = λ k m. among_left k (first.at ∷ map at old) (it.at ∷ []) m;
     })
 
+-- behind all others
+pub pushed_last : (old new : List Ranked) (it : Ranked) → new ≡ old ++ it ∷ [] → IsAdded it.at (map at old) (map at new)
+pushed_last old new it e = subst (λ (is : List ℕ). IsAdded it.at (map at old) is) (sym (pushed old new it e)) (record {
+  there = among_right it.at (map at old) (it.at ∷ []) (inl refl);
+  stay = λ k m. among_left k (map at old) (it.at ∷ []) m;
+})
+
 -- ---- in groups
 
 pub added_in : (groups : List Group) (k i : ℕ) (old new : Group) → k < length groups → old ≡ get_or groups k old →

@@ -147,6 +147,23 @@ fn near_behind(
     near_of(style, at, first.kind, until, None, candidate)
 }
 
+// Whether more than one room may be asked for at a place: the runs, or floats, make rooms of their own.
+fn rooms_vary(style: &Style) -> bool {
+    style.runs.as_slice().len() > 1 || !style.classes.as_slice().is_empty()
+}
+
+// A goal at which the badness of a candidate is the worst, if one is asked for and was found. Where there is one room, nothing
+// else is asked of it.
+fn goal_for(vary: bool, candidate: &Candidate) -> Option<i64>
+    ensures { IfSome result (IsWorstGoal candidate.now.passed.sums.totals) }
+{
+    if vary {
+        worst_goal(&candidate.passed.sums)
+    } else {
+        None
+    }
+}
+
 // Adds what no room changes of the candidate that is told, and answers which is the first of its place.
 fn add_near(
     galley: &Galley,
@@ -154,6 +171,7 @@ fn add_near(
     candidates: &[Candidate],
     it: &Ranked,
     first: Option<First>,
+    vary: bool,
     nears: &mut Vec<Near>,
 ) -> Result<Option<First>, AllocError>
     ensures { IfOk result (λ next. (seen : List ℕ) →
@@ -168,7 +186,7 @@ fn add_near(
         nears.push(near_behind(style, candidates, same, it.at, candidate))?;
         return Ok(Some(same));
     }
-    let goal = worst_goal(&candidate.passed.sums);
+    let goal = goal_for(vary, candidate);
     let own = First {
         at: it.at,
         kind: kind_at(galley, candidate.to),
@@ -191,8 +209,9 @@ pub(crate) fn nears_of(
 {
     let mut nears = Vec::with_capacity(alloc, order.len())?;
     let mut first = None;
+    let vary = rooms_vary(style);
     'each: for it in order {
-        first = add_near(galley, style, candidates, it, first, &mut nears)?;
+        first = add_near(galley, style, candidates, it, first, vary, &mut nears)?;
     }
     Ok(nears)
 }

@@ -11,20 +11,8 @@ use crate::sizes::BoxSizes;
 use law_lines::LineRule;
 use pg_hlist::HItem;
 use pg_scaled::print_scaled;
+use pg_scan::{first_line_len, print_dotted};
 use std::alloc::AllocError;
-
-// The bytes, with a point behind each line feed.
-fn print_dotted(body: &[u8], out: &mut Vec<u8>) -> Result<(), AllocError>
-    ensures { OnOk result (out.new.items ≡ out.old.items ++ dotted body.now) }
-{
-    for byte in body {
-        out.push(*byte)?;
-        if *byte == b'\n' {
-            out.push(b'.')?;
-        }
-    }
-    Ok(())
-}
 
 // A body on lines of its own, one level deeper.
 fn print_deeper(body: &[u8], out: &mut Vec<u8>) -> Result<(), AllocError>
@@ -33,14 +21,6 @@ fn print_deeper(body: &[u8], out: &mut Vec<u8>) -> Result<(), AllocError>
     out.push(b'\n')?;
     out.push(b'.')?;
     print_dotted(body, out)
-}
-
-// How many bytes stand before the first line feed.
-fn first_line_len(body: &[u8]) -> usize
-    ensures len { result ≡ prefix_len is_no_feed body.now }
-    ensures within { result ≤ length body.now }
-{
-    body.iter().take_while(|byte| **byte != b'\n').count()
 }
 
 // The body of a glue, one level deeper, with its set width at the end of its first line.

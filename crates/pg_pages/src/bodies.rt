@@ -7,21 +7,8 @@ ghost use Rattle.pg_scan.specs.Lines.{is_no_feed, dotted};
 ghost use Rattle.pg_glue.specs.Widths.{IsPrintable};
 
 use pg_scaled::print_scaled;
+use pg_scan::{first_line_len, print_dotted};
 use std::alloc::AllocError;
-
-// The bytes, with a point behind each line feed.
-fn print_dotted(body: &[u8], out: &mut Vec<u8>) -> Result<(), AllocError>
-    ensures ok { OnOk result (out.new.items ≡ out.old.items ++ dotted body.now) }
-    ensures grows { Grows out.old.items out.new.items }
-{
-    for byte in body {
-        out.push(*byte)?;
-        if *byte == b'\n' {
-            out.push(b'.')?;
-        }
-    }
-    Ok(())
-}
 
 // A body as it stands in a page text, a point in front of each of its lines.
 pub fn print_body(body: &[u8], out: &mut Vec<u8>) -> Result<(), AllocError>
@@ -32,14 +19,6 @@ pub fn print_body(body: &[u8], out: &mut Vec<u8>) -> Result<(), AllocError>
     print_dotted(body, out)?;
     out.push(b'\n')?;
     Ok(())
-}
-
-// How many bytes stand before the first line feed.
-fn first_line_len(body: &[u8]) -> usize
-    ensures len { result ≡ prefix_len is_no_feed body.now }
-    ensures within { result ≤ length body.now }
-{
-    body.iter().take_while(|byte| **byte != b'\n').count()
 }
 
 // A set width, and what stands behind the first line.

@@ -56,6 +56,15 @@ impl Columns {
         }
     }
 
+    /// No columns, with room for so many. Errors: out of memory.
+    pub fn with_room(alloc: Global, count: usize) -> Result<Columns, AllocError>
+        ensures { IfOk result (λ columns. columns ≡ []) }
+    {
+        Ok(Columns {
+            columns: Vec::with_capacity(alloc, count)?,
+        })
+    }
+
     /// Adds a column behind the others.
     pub fn push(&mut self, column: Column) -> Result<(), AllocError>
         ensures ok { OnOk result (self.new ≡ self.old ++ column ∷ []) }

@@ -3,13 +3,15 @@ ghost use Rattle.std.specs.Prelude.{◌≡◌, ◌≤◌, ◌<◌, ◌+◌, ◌^
 ghost use Rattle.std.specs.List.{prefix_len};
 ghost use Rattle.pg_scan.specs.Lines.{lines_of, raw_lines, trimmed, is_no_feed, is_full as is_full_line, joined};
 
+use memchr::memchr;
 use std::alloc::AllocError;
 
-// How many bytes stand before the first line feed.
-fn line_len(text: &[u8]) -> usize
-    ensures { result ≡ prefix_len is_no_feed text.now }
+/// How many bytes stand in front of the first line feed; all where there is none.
+pub fn first_line_len(text: &[u8]) -> usize
+    ensures len { result ≡ prefix_len is_no_feed text.now }
+    ensures within { result ≤ length text.now }
 {
-    text.iter().take_while(|b| **b != b'\n').count()
+    memchr(b'\n', text).unwrap_or(text.len())
 }
 
 // The first line, and what follows it.
@@ -21,7 +23,7 @@ fn split_line(text: &[u8]) -> Option<(&[u8], &[u8])>
     if text.is_empty() {
         return None;
     }
-    let len = line_len(text);
+    let len = first_line_len(text);
     if len >= text.len() {
         return Some((text, &[]));
     }

@@ -9,6 +9,7 @@ ghost use Rattle.pg_scaled.specs.Scaled.{Grows};
 use itoa::Buffer;
 use pg_list::{Block, Galley, Item, Variant};
 use pg_scaled::print_scaled;
+use pg_scan::print_dotted;
 use std::alloc::AllocError;
 
 // Each line of a body, with a point in front.
@@ -17,12 +18,7 @@ fn print_body(body: &[u8], out: &mut Vec<u8>) -> Result<(), AllocError>
     ensures grows { Grows out.old.items out.new.items }
 {
     out.push(b'.')?;
-    for byte in body {
-        out.push(*byte)?;
-        if *byte == b'\n' {
-            out.push(b'.')?;
-        }
-    }
+    print_dotted(body, out)?;
     out.push(b'\n')?;
     Ok(())
 }

@@ -9,7 +9,7 @@ use std::alloc::{AllocError, Global};
 fn single(alloc: Global, first: &PageMove) -> Result<Page, AllocError>
     ensures { IfOk result (λ page. page ≡ single_page first.now) }
 {
-    let mut columns = Columns::new(alloc);
+    let mut columns = Columns::with_room(alloc, 1)?;
     columns.push(first.column.copy()?)?;
     Ok(Page {
         run: first.run,
@@ -22,7 +22,7 @@ fn single(alloc: Global, first: &PageMove) -> Result<Page, AllocError>
 fn double(alloc: Global, first: &PageMove, second: &PageMove) -> Result<Page, AllocError>
     ensures { IfOk result (λ page. page ≡ double_page first.now second.now) }
 {
-    let mut columns = Columns::new(alloc);
+    let mut columns = Columns::with_room(alloc, 2)?;
     columns.push(first.column.copy()?)?;
     columns.push(second.column.copy()?)?;
     Ok(Page {

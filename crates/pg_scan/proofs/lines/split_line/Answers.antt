@@ -15,9 +15,9 @@ pub returns-then-len-text-clause-lines : goal.returns-then-len-text-clause-lines
 returns-then-len-text-clause-lines c =
     let test : nat_eq (length c.args.text.now) 0 ≡ false = sym c.is_empty.ensures ∙ c.if-is_empty.false in
     last_line c.args.text.now (grind (arith, nat_tests))
-    (subst (λ (n : ℕ). length c.args.text.now ≤ n) c.line_len-len.ensures c.if-len-text.true)
+    (subst (λ (n : ℕ). length c.args.text.now ≤ n) c.first_line_len-len.ensures.len c.if-len-text.true)
 
 pub returns-clause-lines : goal.returns-clause-lines
 returns-clause-lines c =
-    rw (take_rest c.args.text.now (c.line_len-len.result + 1), add-one)
-    (a_line c.args.text.now c.line_len-len.result c.line_len-len.ensures c.if-len-text.false)
+    rw (take_rest c.args.text.now (c.first_line_len-len.result + 1), add-one)
+    (a_line c.args.text.now c.first_line_len-len.result c.first_line_len-len.ensures.len c.if-len-text.false)

@@ -1,4 +1,4 @@
-use Rattle.std.proofs.Common.{◌≡◌, ◌≤◌, ℕ, length, subst, add-one, ◌+◌}
+use Rattle.std.proofs.Common.{◌≤◌, ℕ, length, subst, add-one, ◌+◌}
 use Rattle.std.proofs.lemmas.List.{take_rest}
 use Rattle.pg_scan.proofs.PartLemmas.{one_part, a_part}
 use Rattle.pg_scan.proofs.parts.split_part.Goals as goal

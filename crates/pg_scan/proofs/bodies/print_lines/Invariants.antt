@@ -1,7 +1,7 @@
 use Rattle.std.proofs.Common.{◌≡◌, ◌++◌, take}
 use Rattle.pg_scaled.specs.Scaled.{Grows}
 use Rattle.pg_scan.specs.Lines.{dotted}
-use Rattle.pg_pages.proofs.bodies.print_dotted.Given as goal
+use Rattle.pg_scan.proofs.bodies.print_lines.Given as goal
 
 abbrev pub invariant-loop-byte : goal.invariant-loop-byte
 invariant-loop-byte l = record {
