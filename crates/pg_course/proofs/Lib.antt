@@ -12,3 +12,8 @@ pub mod Labelled
 pub mod Fits
 pub mod Paragraphs
 pub mod Stops
+mod OneFit
+mod OneText
+mod OneAnswer
+mod OneRun
+mod OneCourse

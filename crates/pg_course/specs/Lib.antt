@@ -3,6 +3,7 @@ pub mod Made
 pub mod Verdict
 pub mod Products
 pub mod Course
+pub mod OneCourse
 pub mod Calls
 pub mod Counted
 pub mod Steps

@@ -9,6 +9,9 @@
 //! what it writes reads back to that galley; a yes of `check` shows that what the output text tells is true, and
 //! a no names the first test that fails (`specs/Verdict`); a check of what `run --labels` writes ends with a yes
 //! (`specs/Complete`).
+//!
+//! The courses are one (`specs/OneCourse`): for the same words and the same bytes of the files the texts, the ending and the
+//! line are the same; and at each show of an edit the text is that of a run for the galley as it stands, labels too.
 #![tactic(auto)]
 
 mod check;
@@ -19,6 +22,7 @@ mod heads;
 mod line;
 mod lines;
 mod make;
+mod one;
 mod open;
 mod paginate;
 mod product;
@@ -33,5 +37,6 @@ pub use fold::fold_course;
 pub use heads::heads_course;
 pub use lines::lines_course;
 pub use make::make_course;
+pub use one::{courses_are_one, shows_are_runs};
 pub use run::run_course;
 pub use show::show_course;

@@ -61,8 +61,9 @@ pub record Headline (words : List (List ℕ)) (shelf : OverShelf) (out : OverOut
   pub usage : (status ≡ Usage) ↔ (command_of words ≡ None)
   pub usage_keeps : command_of words ≡ None → SendsNothing out.old out.new
 
--- whatever course the command has, its texts are what was written, each in one write, and it ends so: there is no other
--- answer
-abbrev pub IsSole : Option Command → OverOutput → Status → Held → Type 0
-IsSole command out status held = (texts : List (List ℕ)) (end : Status) (line : List ℕ) →
-    Course command held texts end line → (end ≡ status) × Sends out.old out.new texts
+-- whatever course the command has, it ends so, its texts are what was written, each in one write, and its line is what
+-- was said: there is no other answer
+abbrev pub IsSole : Option Command → OverOutput → OverSink → Status → Held → Type 0
+IsSole command out say status held = (texts : List (List ℕ)) (end : Status) (line : List ℕ) →
+    Course command held texts end line →
+    (end ≡ status) × Sends out.old out.new texts × Says say.old say.new say.before say.after line

@@ -37,7 +37,9 @@ pub fn serve<H: Shelf, O: Sink, E: Sink, L: Ledger>(
         (over_sink (E.written say.old) (E.written say.new) (E.faults say.old) (E.faults say.new))
         result }
     ensures sole { OnSettled result (IfSome (H.held shelf.old) (IsSole (command_of (texts_of words.now))
-        (over_output O.written O.writes O.faults out.old out.new) result)) }
+        (over_output O.written O.writes O.faults out.old out.new)
+        (over_sink (E.written say.old) (E.written say.new) (E.faults say.old) (E.faults say.new))
+        result)) }
     ensures counted { UnlessMemory result
         (IsCounted (command_of (texts_of words.now)) (H.held shelf.old) steps.old steps.new) }
     ensures complete { IsComplete (command_of (texts_of words.now))

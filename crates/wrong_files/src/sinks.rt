@@ -12,6 +12,7 @@ pub fn write<O: Sink>(sink: &mut O, bytes: &[u8]) -> Result<(), WriteFailed>
     ensures front { OnErr result (AppendsFront (O.written sink.old) (O.written sink.new) bytes.now) }
     ensures cause { OnErr result (Rose (O.faults sink.old) (O.faults sink.new)) }
     ensures later { O.faults sink.old ≤ O.faults sink.new }
+    ensures writes { O.writes sink.new ≡ next_number (O.writes sink.old) }
 {
     sink.write(bytes)
 }

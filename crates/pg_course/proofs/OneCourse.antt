@@ -29,10 +29,10 @@ use Rattle.pg_course.specs.Products.{CompareOut, HeadsOut, SheetsOut}
 use Rattle.pg_course.specs.Verdict.{yes_line}
 use Rattle.pg_course.specs.declared.product.Product.{Product}
 use Rattle.pg_course.specs.declared.product.Product.TheVariants.{Pages, Heads, Comparison, Sheets}
-use Rattle.law_one_course.specs.OneCourse.{CoursesAreOne, IsOne}
-use Rattle.law_one_course.proofs.Answers.{answer_one}
-use Rattle.law_one_course.proofs.Runs.{match_one, steps_one, stops_one}
-use Rattle.law_one_course.proofs.Told.{TellsOne, compare_one, heads_one, made_one, run_one, sheets_out_one}
+use Rattle.pg_course.specs.OneCourse.{CoursesAreOne, IsOne}
+use Rattle.pg_course.proofs.OneAnswer.{answer_one}
+use Rattle.pg_course.proofs.OneRun.{match_one, steps_one, stops_one}
+use Rattle.pg_course.proofs.OneText.{TellsOne, compare_one, heads_one, made_one, run_one, sheets_out_one}
 
 text_one : (text : List ℕ) (status : Status) → IsOne (OneText text status)
 text_one text status texts end line (is, ends, quiet) others last said (are, how, none) =

@@ -12,8 +12,8 @@ use Rattle.pg_command.specs.declared.status.Status.{Status}
 use Rattle.pg_command.specs.declared.status.Status.TheVariants.{Done, Refused}
 use Rattle.pg_command.specs.Lines.{edit_line}
 use Rattle.pg_course.specs.Course.{EditSteps, Stop, Stops, stop, with_end}
-use Rattle.law_one_course.specs.OneCourse.{AreRuns, IsOne, ShowsAreRuns}
-use Rattle.law_one_course.proofs.Told.{run_one}
+use Rattle.pg_course.specs.OneCourse.{AreRuns, IsOne, ShowsAreRuns}
+use Rattle.pg_course.proofs.OneText.{run_one}
 
 pub stops_one : (why : Stop) → IsOne (λ texts end line. Stops texts end line why)
 stops_one why texts end line (none, ends, says) others last said (nothing, how, what) =

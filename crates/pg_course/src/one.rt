@@ -1,5 +1,5 @@
-//! Each law is the contract of a function that does nothing.
-ghost use Rattle.law_one_course.specs.OneCourse.{CoursesAreOne, ShowsAreRuns};
+//! What a command does is one. Each law is the contract of a function that does nothing.
+ghost use Rattle.pg_course.specs.OneCourse.{CoursesAreOne, ShowsAreRuns};
 
 /// A command has one course: what is written, how it ends and what is said are determined by the words and by the bytes
 /// of the files.

@@ -26,7 +26,7 @@ use Rattle.pg_command.specs.declared.status.Status.TheVariants.{Done, NoLegal}
 use Rattle.pg_course.specs.Made.{IsMadeLine, IsMadeNone, MadeOut, none_line, pages_line}
 use Rattle.pg_course.specs.Out.{IsBestText, IsLabelledText, IsNoneText, Out, RunOut, tells_fitness}
 use Rattle.pg_course.specs.Products.{CompareOut, HeadsOut, IsHeadsText, IsSavedText, IsSheetsText, IsUnsavedText, SheetsOut}
-use Rattle.law_one_course.proofs.Fits.{fit_one}
+use Rattle.pg_course.proofs.OneFit.{fit_one}
 
 -- a text and an end, by cases: this where there are best pages, that where none is legal
 abbrev pub ByEnd : (List ℕ → Type 0) → (List ℕ → Type 0) → List ℕ → Status → Type 0

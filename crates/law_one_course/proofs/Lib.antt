@@ -1,5 +1,0 @@
-mod Fits
-mod Told
-mod Answers
-mod Runs
-mod Courses

@@ -1,0 +1,2 @@
+mod Excluded
+mod Sheets
