@@ -1,11 +1,14 @@
 """Small random galleys and styles, of which sizes come from a few, so that pages are often just full."""
 
-from rules import POINT, Area, Choice, Class, Item, Style, Variant
+from dataclasses import replace
+
+from rules import POINT, Area, Choice, Class, Gap, Item, Style, Variant
 
 
 def random_class(chance, number, is_plain_table):
     if chance.random() < 0.35:
-        return Class(number, "note", skip=chance.choice([0, 2, 4]) * POINT, limit=chance.choice([0, 5, 9, 12, 100]) * POINT)
+        skip, limit = chance.choice([0, 2, 4]) * POINT, chance.choice([0, 5, 9, 12, 100]) * POINT
+        return Class(number, "note", skip=Gap(skip), limit=limit)
     distance = sorted(chance.choice([0, 0, 7, 50, 100, 400]) for _ in range(chance.choice([1, 2, 2, 3, 4])))
     if is_plain_table:
         distance = [0, 100, 400]
@@ -13,7 +16,8 @@ def random_class(chance, number, is_plain_table):
 
 
 def random_area(chance):
-    return Area(chance.choice([0, 1, 1, 2, 4]), chance.choice([0, 2]) * POINT, chance.choice([0, 0, 4]) * POINT)
+    count, sep, gap = chance.choice([0, 1, 1, 2, 4]), chance.choice([0, 2]) * POINT, chance.choice([0, 0, 4]) * POINT
+    return Area(count, Gap(sep), Gap(gap))
 
 
 def random_style(chance):
@@ -121,7 +125,95 @@ def random_galley(chance, style):
     return tuple(blocks)
 
 
-# ---- what `pg run` paginates today
+# ---- version 3 of the style, and barriers
+
+
+def soft(chance, gap):
+    """A gap that may stretch and shrink, at times longer than it was."""
+    size = gap.size + chance.choice([0, 0, 3, 6]) * POINT + chance.choice([0, 0, 0, 1])
+    stretch = chance.choice([0, 0, 1, 2, 6, 12]) * POINT + chance.choice([0, 0, 0, 1])
+    return Gap(size, stretch, min(size, chance.choice([0, 1, 2, 2, 4, 12]) * POINT + chance.choice([0, 0, 0, 1])))
+
+
+def soft_area(chance, area):
+    return replace(area, sep=soft(chance, area.sep), gap=soft(chance, area.gap))
+
+
+def of_version_3(chance, style):
+    """The style with gaps that give, and now and then with ragged texts."""
+    classes = tuple(replace(it, skip=soft(chance, it.skip)) if it.kind == "note" else it for it in style.classes)
+    return replace(
+        style,
+        version=3,
+        fitness=chance.choice([0, 3000]),
+        top=soft_area(chance, style.top),
+        bottom=soft_area(chance, style.bottom),
+        wide=soft_area(chance, style.wide),
+        classes=classes,
+        ragged=chance.choice([None, None, None, 1, POINT, 6 * POINT, 30 * POINT]),
+    )
+
+
+def busy_style(chance):
+    """A style with a few classes of floats and notes, for which there is room."""
+    areas = [Area(chance.choice([1, 1, 2]), Gap(2 * POINT), Gap(4 * POINT)) for _ in range(3)]
+    numbers = chance.sample([7, 100, 101, 200], chance.choice([1, 2, 2]))
+    classes = [random_class(chance, number, chance.random() < 0.4) for number in numbers]
+    style = replace(
+        random_style(chance),
+        height=chance.choice([20, 28, 34, 41]) * POINT + chance.choice([0, 0, 1]),
+        min_text=0,
+        tolerance=chance.choice([10000, 10000, 10000, 800, 100]),
+        top=areas[0],
+        bottom=areas[1],
+        wide=areas[2],
+        float_count=chance.choice([0, 1, 2]),
+        classes=tuple(replace(it, limit=100 * POINT) if it.kind == "note" else it for it in classes),
+    )
+    return replace(style, runs=style.runs[:2])
+
+
+def busy_galley(chance, style):
+    """Lines with glue between that may be soft, a few of which call floats and notes."""
+    items = []
+    for number in range(chance.choice([2, 3, 4, 5, 6])):
+        if number:
+            kind = chance.random()
+            if kind < 0.3:
+                items.append(random_penalty(chance))
+            items.append(random_glue(chance) if chance.random() < 0.5 else Item("glue", width=3 * POINT))
+        items.append(Item("box", height=7 * POINT, depth=2 * POINT))
+        if chance.random() < 0.5:
+            items.append(random_insert(chance, style))
+    return tuple(items)
+
+
+def with_barriers(chance, blocks):
+    """The blocks with a barrier or two between them."""
+    found = list(blocks)
+    for _ in range(chance.choice([0, 0, 1, 1, 2])):
+        found.insert(chance.randint(0, len(found)), Item("barrier"))
+    return tuple(found)
+
+
+def random_document(number, chance, has_version_3):
+    """A style and a galley: of four one plain, two random, and one with many floats and notes; every second four have barriers.
+    With version 3 two of the four are of it, else none is."""
+    if number % 4 == 0:
+        return plain_style(chance), plain_galley(chance)
+    style = busy_style(chance) if number % 4 == 3 else random_style(chance)
+    blocks = busy_galley(chance, style) if number % 4 == 3 else random_galley(chance, style)
+    if has_version_3 and number % 4 >= 2:
+        style = of_version_3(chance, style)
+    return style, with_barriers(chance, blocks) if number // 4 % 2 else blocks
+
+
+def words_and_version(words):
+    """The words of a call without `--version-3`, and whether that was among them."""
+    return [it for it in words if it != "--version-3"], "--version-3" in words
+
+
+# ---- boxes and rigid glue
 
 
 def plain_galley(chance):
@@ -139,7 +231,7 @@ def plain_galley(chance):
 
 def plain_style(chance):
     """One column, single sides, one run, no notes and no floats."""
-    none = Area(0, 0, 0)
+    none = Area(0, Gap(), Gap())
     return Style(
         version=1,
         columns=1,

@@ -1,4 +1,4 @@
-"""The thirteen rules on paginations, the cost and the order, read from docs/definitions.md and written in the plainest way.
+"""The fourteen rules on paginations, the cost and the order, read from docs/definitions.md and written in the plainest way.
 
 It shares no code with the program: a text is added up item by item as TeX does it, floats are dealt out one by one,
 and each column is looked at once, behind those before it. `breach` answers the least rule that is broken with its least
@@ -11,7 +11,7 @@ POINT = 65536
 
 @dataclass(frozen=True)
 class Item:
-    """One item: kind is box, rule, glue, kern, penalty, insert or mark. Lengths are in scaled units."""
+    """One item: kind is box, rule, glue, kern, penalty, insert, barrier or mark. Lengths are in scaled units."""
 
     kind: str
     height: int = 0
@@ -61,10 +61,19 @@ class Page:
 
 
 @dataclass(frozen=True)
+class Gap:
+    """A length, and by how much it may be longer or shorter; only in version 3 it may be so at all."""
+
+    size: int = 0
+    stretch: int = 0
+    shrink: int = 0
+
+
+@dataclass(frozen=True)
 class Area:
     count: int
-    sep: int
-    gap: int
+    sep: Gap
+    gap: Gap
 
 
 @dataclass(frozen=True)
@@ -73,7 +82,7 @@ class Class:
 
     number: int
     kind: str
-    skip: int = 0
+    skip: Gap = Gap()
     limit: int = 0
     area: str = ""
     distance: tuple = ()
@@ -99,6 +108,7 @@ class Style:
     float_count: int
     float_demerits: int
     classes: tuple
+    ragged: int = None  # what the foot of a short text may be stretched by; None where texts are flush
 
     def floats(self):
         """The float classes by their numbers."""
@@ -131,6 +141,26 @@ def items_from(blocks, place, picks):
         for at, item in enumerate(it.variants[pick].items):
             found.append(((number, pick if at else 0, at), item, at == 0))
     return found
+
+
+def items_before(blocks, place):
+    """The items before a place of the galley, where a choice that is passed has its first variant."""
+    block, variant, index = place
+    items = []
+    for it in blocks[:block]:
+        items += [it] if isinstance(it, Item) else it.variants[0].items
+    return items + list(blocks[block].variants[variant].items[:index] if index > 0 else ())
+
+
+def called(items, classes):
+    """For each of these classes how many of its floats are called in items."""
+    return [sum(it.kind == "insert" and it.number == one.number for it in items) for one in classes]
+
+
+def called_before_barrier(items, classes):
+    """The same of the items before the last barrier among them."""
+    barriers = [at for at, it in enumerate(items) if it.kind == "barrier"]
+    return called(items[: max(barriers, default=0)], classes)
 
 
 def floats_of(blocks, style):
@@ -194,19 +224,34 @@ class Text:
 
     def goal(self, style, room):
         """What is left of a room beside the notes."""
-        return room - sum(it.skip + sum(self.notes[it.number]) for it in style.notes() if self.notes.get(it.number))
+        return room - sum(it.skip.size + sum(self.notes[it.number]) for it in self.noted(style))
 
-    def is_over(self, goal):
-        return self.total >= goal and self.total - goal > self.shrink
+    def noted(self, style):
+        """The note classes that have a note in the text."""
+        return [it for it in style.notes() if self.notes.get(it.number)]
 
-    def badness(self, goal, spent):
+    def gaps(self, style, gaps):
+        """The gaps around the text: those of its column's areas, and the skips of its notes."""
+        return gaps + [it.skip for it in self.noted(style)]
+
+    def is_over(self, goal, gaps):
+        """Whether it is too long even where all gaps are as short as may be, and all its glue."""
+        shortest = sum(it.shrink for it in gaps)
+        return self.total >= goal + shortest and self.total - (goal + shortest) > self.shrink
+
+    def is_endless(self):
+        return any(self.stretch.get(order, 0) for order in ("fil", "fill", "filll"))
+
+    def badness(self, goal, gaps, ragged, spent):
         if spent and self.total <= goal:
             return 0
         if self.total >= goal:
-            return badness_of(self.total - goal, self.shrink)
-        if any(self.stretch.get(order, 0) for order in ("fil", "fill", "filll")):
+            return badness_of(self.total - goal, self.shrink + sum(it.shrink for it in gaps))
+        if self.is_endless():
             return 0
-        return badness_of(goal - self.total, self.stretch.get("", 0))
+        if ragged is not None:
+            return badness_of(goal - self.total, ragged)
+        return badness_of(goal - self.total, self.stretch.get("", 0) + sum(it.stretch for it in gaps))
 
 
 def badness_of(excess, amount):
@@ -222,6 +267,16 @@ def badness_of(excess, amount):
     else:
         ratio = excess
     return 10000 if ratio > 1290 else (ratio**3 + 131072) // 262144
+
+
+def demerits_of(style, badness, penalty):
+    """What a text costs by its badness and the penalty at its end."""
+    if style.version == 3 and -10000 < penalty < 0:
+        return (style.line + max(0, badness + penalty)) ** 2
+    demerits = (style.line + badness) ** 2
+    if penalty > 0:
+        return demerits + penalty**2
+    return demerits - penalty**2 if penalty > -10000 else demerits
 
 
 def fitness_of(total, goal, badness):
@@ -259,11 +314,17 @@ def are_there(floats, dealt):
     return all(number < len(floats[slot]) for slot, number in dealt)
 
 
-def area_height(floats, area, is_allowed, dealt):
-    """Sizes, what stands between them, and a gap; 0 where the area is not allowed or its floats are not there."""
+def area_gaps(floats, area, is_allowed, dealt):
+    """What stands between the floats of an area, and its gap; none where it is not allowed or its floats are not there."""
     if not dealt or not is_allowed or not are_there(floats, dealt):
-        return 0
-    return sum(floats[slot][number] for slot, number in dealt) + area.sep * (len(dealt) - 1) + area.gap
+        return []
+    return [area.sep] * (len(dealt) - 1) + [area.gap]
+
+
+def area_height(floats, area, is_allowed, dealt):
+    """Sizes and gaps; 0 where the area is not allowed or its floats are not there."""
+    gaps = area_gaps(floats, area, is_allowed, dealt)
+    return sum(floats[slot][number] for slot, number in dealt) + sum(it.size for it in gaps) if gaps else 0
 
 
 # ---- columns one after another
@@ -374,13 +435,17 @@ class Document:
         full = style.height + extra
         top_height = area_height(floats, style.top, top_allowed, top_dealt)
         room = full - (wide or 0) - top_height - area_height(floats, style.bottom, bottom_allowed, bottom_dealt)
+        gaps = area_gaps(floats, style.top, top_allowed, top_dealt)
+        gaps += area_gaps(floats, style.bottom, bottom_allowed, bottom_dealt)
 
         cost, fitness, numbers = before.cost, before.fitness, None
         if is_text:
-            rules, numbers = self.judge_text(items, size, room)
+            rules, numbers = self.judge_text(items, size, room, gaps)
             broken |= rules
+            if not self.keeps_barriers(column.start, items, size, before.placed, placed):
+                broken.add(14)
             cost += numbers.demerits
-            if style.version == 2:
+            if style.version >= 2:
                 own = fitness_of(numbers.total, numbers.goal, numbers.badness)
                 if fitness is not None and abs(fitness - own) > 1:
                     cost += style.fitness
@@ -391,15 +456,13 @@ class Document:
             if not (has_floats or is_idle):
                 broken.add(3)
             gap = style.top.gap if top_dealt else style.wide.gap
-            if (wide or 0) + top_height - gap > full:
+            if (wide or 0) + top_height - gap.size > full:
                 broken.add(6)
             cost += style.float_demerits
 
         # callouts and distances
-        calls = tuple(
-            own + (before.page,) * sum(it.kind == "insert" and it.number == one.number for it in items[:size])
-            for own, one in zip(before.calls, self.classes)
-        )
+        here = called(items[:size], self.classes)
+        calls = tuple(own + (before.page,) * count for own, count in zip(before.calls, here))
         for slot, number in dealt:
             if number >= len(calls[slot]):
                 broken.add(9)
@@ -437,33 +500,37 @@ class Document:
             numbers=numbers,
         )
 
-    def judge_text(self, items, size, room):
-        """The rules that a text breaks, and its numbers."""
+    def keeps_barriers(self, start, items, size, placed_before, placed):
+        """Whether the floats that are called before a barrier are placed before a text that begins behind it, as far as
+        they are called before its column, and with a text that ends behind it at the latest."""
+        ahead = items_before(self.blocks, start)
+        head = next((at for at, it in enumerate(items) if it.is_box()), len(items))
+        before_text = map(min, called_before_barrier(ahead + items[:head], self.classes), called(ahead, self.classes))
+        before_end = called_before_barrier(ahead + items[:size], self.classes)
+        return all(a <= b for a, b in zip(before_text, placed_before)) and all(a <= b for a, b in zip(before_end, placed))
+
+    def judge_text(self, items, size, room, gaps):
+        """The rules that a text breaks in a room, below and above areas with these gaps, and its numbers."""
         style, broken = self.style, set()
         text = Text()
         for at, item in enumerate(items[:size]):
             if at > 0 and text.has_box and penalty_at(items, at) is not None:
-                if is_forced(items, at) or text.is_over(text.goal(style, room)):
+                if is_forced(items, at) or text.is_over(text.goal(style, room), text.gaps(style, gaps)):
                     broken.add(5)
             text.add(item, style)
         penalty = penalty_at(items, size)
         if not text.has_box or penalty is None:
             broken.add(3)
-        goal = text.goal(style, room)
-        badness = text.badness(goal, is_spent(items, size))
-        if text.is_over(goal) or not (is_forced(items, size) or badness <= style.tolerance):
+        goal, gaps = text.goal(style, room), text.gaps(style, gaps)
+        badness = text.badness(goal, gaps, style.ragged, is_spent(items, size))
+        if text.is_over(goal, gaps) or not (is_forced(items, size) or badness <= style.tolerance):
             broken.add(4)
         if room < style.min_text:
             broken.add(6)
         if any(sum(text.notes.get(it.number, ())) > it.limit for it in style.notes()):
             broken.add(11)
         penalty = penalty or 0
-        demerits = (style.line + badness) ** 2
-        if penalty > 0:
-            demerits += penalty**2
-        elif penalty > -10000:
-            demerits -= penalty**2
-        return broken, Numbers(goal, text.total, badness, penalty, demerits)
+        return broken, Numbers(goal, text.total, badness, penalty, demerits_of(style, badness, penalty))
 
     def is_done(self, before):
         """Whether only discardable items are left, and whether all floats are placed."""

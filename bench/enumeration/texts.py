@@ -16,22 +16,30 @@ def points(units):
             return text
 
 
+def glue_text(width, stretch, order, shrink):
+    """A width, and what it may be stretched and shrunk by where that is something."""
+    plus = f" plus {points(stretch)}{order}" if stretch or order else ""
+    return f"{points(width)}{plus}{' minus ' + points(shrink) if shrink else ''}"
+
+
+def gap_text(gap):
+    return glue_text(gap.size, gap.stretch, "", gap.shrink)
+
+
 def item_line(item):
     if item.kind == "box":
         return f".\\hbox({points(item.height)}+{points(item.depth)})x345.0\n"
     if item.kind == "rule":
         return f".\\rule({points(item.height)}+{points(item.depth)})x*\n"
     if item.kind == "glue":
-        stretch = f" plus {points(item.stretch)}{item.order}" if item.stretch or item.order else ""
-        shrink = f" minus {points(item.shrink)}" if item.shrink else ""
-        return f".\\glue {points(item.width)}{stretch}{shrink}\n"
+        return f".\\glue {glue_text(item.width, item.stretch, item.order, item.shrink)}\n"
     if item.kind == "kern":
         return f".\\kern {points(item.width)}\n"
     if item.kind == "penalty":
         return f".\\penalty {item.penalty}\n"
     if item.kind == "insert":
         return f".\\insert{item.number}, natural size {points(item.size)}; split(0.0,0.0); float cost 0\n"
-    return ".\\mark{x}\n"
+    return ".\\special{pg:flush}\n" if item.kind == "barrier" else ".\\mark{x}\n"
 
 
 def galley_text(blocks):
@@ -56,18 +64,20 @@ def style_text(style):
         *(f'{key} = "{points(getattr(style, key))}"' for key in ("height", "topskip", "maxdepth", "min_text")),
         *(f"{key} = {getattr(style, key)}" for key in ("tolerance", "line", "max_looseness")),
     ]
-    if style.version == 2:
+    if style.version >= 2:
         lines.append(f"fitness = {style.fitness}")
+    if style.ragged is not None:
+        lines.append(f'ragged = "{points(style.ragged)}"')
     for extra, demerits in style.runs:
         lines += ["[[runs]]", f'extra = "{points(extra)}"', f"demerits = {demerits}"]
     for name in ("top", "bottom", "wide"):
         area = getattr(style, name)
-        lines += [f"[{name}]", f"count = {area.count}", f'sep = "{points(area.sep)}"', f'gap = "{points(area.gap)}"']
+        lines += [f"[{name}]", f"count = {area.count}", f'sep = "{gap_text(area.sep)}"', f'gap = "{gap_text(area.gap)}"']
     lines += ["[float_column]", f"count = {style.float_count}", f"demerits = {style.float_demerits}"]
     for it in style.classes:
         lines += ["[[classes]]", f"number = {it.number}", f'kind = "{it.kind}"']
         if it.kind == "note":
-            lines += [f'skip = "{points(it.skip)}"', f'limit = "{points(it.limit)}"']
+            lines += [f'skip = "{gap_text(it.skip)}"', f'limit = "{points(it.limit)}"']
         else:
             lines += [f'area = "{it.area}"', f"distance = {list(it.distance)}"]
     return "\n".join(lines) + "\n"

@@ -1,6 +1,8 @@
 """The page text of a legal pagination, line by line as docs/output.md says, and the label text of a list of labels."""
 
-from texts import counts, numbers_line, place, points
+from dataclasses import dataclass
+
+from texts import counts, gap_text, numbers_line, place, points
 
 ORDERS = ("", "fil", "fill", "filll")
 
@@ -32,17 +34,46 @@ def shown(body):
     return ["." + line for line in body.split("\n")]
 
 
-def text_lines(document, items, numbers, is_spent):
-    """The lines of the text of a column."""
-    items = segment(items)
-    glues = [it for it in items if it.kind == "glue"]
-    changes = [0] * len(glues)
-    if numbers.total < numbers.goal and not is_spent:
-        changes = shares([(it.order, it.stretch) for it in glues], numbers.goal - numbers.total)
+@dataclass
+class Elastic:
+    """Glue or a gap, as far as it is set."""
+
+    width: int
+    order: str
+    stretch: int
+    shrink: int
+
+
+def glue_of(items):
+    return [Elastic(it.width, it.order, it.stretch, it.shrink) for it in items if it.kind == "glue"]
+
+
+def gaps_of(gaps):
+    return [Elastic(it.size, "", it.stretch, it.shrink) for it in gaps]
+
+
+def is_endless(elastics):
+    return any(sum(it.stretch for it in elastics if it.order == order) for order in ORDERS[1:])
+
+
+def set_widths(style, numbers, is_spent, elastics):
+    """The widths to which glue and gaps are set, in the order in which they stand on the page."""
+    is_ragged = style.ragged is not None and not is_endless(elastics)
+    changes = [0] * len(elastics)
+    if numbers.total < numbers.goal and not is_spent and not is_ragged:
+        changes = shares([(it.order, it.stretch) for it in elastics], numbers.goal - numbers.total)
     elif numbers.total > numbers.goal:
-        changes = [-it for it in shares([("", it.shrink) for it in glues], numbers.total - numbers.goal)]
-    widths = iter([it.width + change for it, change in zip(glues, changes)])
-    lines, has_box = ["area text"], False
+        changes = [-it for it in shares([("", it.shrink) for it in elastics], numbers.total - numbers.goal)]
+    return [it.width + change for it, change in zip(elastics, changes)]
+
+
+def gap_line(name, gap, width):
+    return f".\\glue({name}) {gap_text(gap)}, set {points(width)}"
+
+
+def text_lines(document, items, widths):
+    """The lines of the text of a column, of which the glue has these widths."""
+    widths, lines, has_box = iter(widths), ["area text"], False
     for it in items:
         if it.kind == "insert":
             continue
@@ -66,30 +97,69 @@ def inserts(blocks):
     return found
 
 
+def gaps_between(rule, bodies, name):
+    """The gaps of an area with so many floats, with their names, in the order in which they stand on the page."""
+    seps, gap = [("sep", rule.sep)] * (len(bodies) - 1), [("gap", rule.gap)] * min(1, len(bodies))
+    return gap + seps if name == "bottom" else seps + gap
+
+
 class Printer:
     """Prints paginations of a document, whose galley is so wide."""
 
     def __init__(self, document, width):
         self.document, self.width = document, width
+        self.has_gaps = document.style.version == 3
         bodies = inserts(document.blocks)
         self.floats = [bodies.get(it.number, []) for it in document.classes]
 
-    def area(self, name, placed, dealt):
-        """The lines of an area that takes the next floats, and the counts that are then placed."""
-        lines = []
-        for own, at, count in zip(self.floats, placed, dealt):
-            for body in own[at : at + count]:
-                lines += shown(body)
-        placed = tuple(at + count for at, count in zip(placed, dealt))
-        return ([f"area {name}"] + lines if sum(dealt) else []), placed
+    def dealt(self, placed, counts):
+        """The bodies of the next floats, and the counts that are then placed."""
+        bodies = [body for own, at, count in zip(self.floats, placed, counts) for body in own[at : at + count]]
+        return bodies, tuple(at + count for at, count in zip(placed, counts))
 
-    def notes(self, items):
+    def area(self, name, bodies, widths=None):
+        """The lines of an area with floats; where the style is of version 3 with its gaps, which are set to these widths
+        or to their own. The bottom's gap stands above its floats."""
+        if not bodies:
+            return []
+        rule = getattr(self.document.style, name)
+        lines = [shown(body) for body in bodies]
+        if self.has_gaps:
+            gaps = gaps_between(rule, bodies, name)
+            widths = [it.size for _, it in gaps] if widths is None else widths
+            between = [[gap_line(kind, it, width)] for (kind, it), width in zip(gaps, widths)]
+            pairs = zip(between, lines) if name == "bottom" else zip(lines, between)
+            lines = [part for pair in pairs for part in pair]
+        return [f"area {name}"] + sum(lines, [])
+
+    def noted(self, items):
+        """The note classes that have a note among items, by number, with their notes."""
+        classes = sorted(self.document.style.notes(), key=lambda it: it.number)
+        pairs = [(it, [note for note in items if note.kind == "insert" and note.number == it.number]) for it in classes]
+        return [(it, notes) for it, notes in pairs if notes]
+
+    def notes(self, noted, widths):
         lines = []
-        for it in sorted(self.document.style.notes(), key=lambda it: it.number):
-            for note in items:
-                if note.kind == "insert" and note.number == it.number:
-                    lines += shown(note.body)
+        for (it, notes), width in zip(noted, widths):
+            if self.has_gaps:
+                lines.append(gap_line("skip", it.skip, width))
+            for note in notes:
+                lines += shown(note.body)
         return ["area notes"] + lines if lines else []
+
+    def text(self, column, items, numbers, is_spent, top, bottom):
+        """The lines of a column with text, and of its areas with these bodies."""
+        style, items = self.document.style, segment(items)
+        noted, glue = self.noted(items), glue_of(items)
+        above = gaps_of(it for _, it in gaps_between(style.top, top, "top"))
+        below = gaps_of(it for _, it in gaps_between(style.bottom, bottom, "bottom"))
+        skips = gaps_of(it.skip for it, _ in noted)
+        widths, parts = set_widths(style, numbers, is_spent, above + glue + skips + below), []
+        for part in (above, glue, skips, below):
+            parts.append(widths[: len(part)])
+            widths = widths[len(part) :]
+        lines = self.area("top", top, parts[0]) + text_lines(self.document, items, parts[1])
+        return lines + self.area("bottom", bottom, parts[3]) + self.notes(noted, parts[2])
 
     def column(self, before, number, page, column, placed):
         """The lines of a column, and the floats that are then placed."""
@@ -102,13 +172,14 @@ class Printer:
             f"bottom {counts(column.bottom)} picks {counts(column.picks)}",
             numbers_line(after.numbers, document.style.float_demerits),
         ]
-        top, placed = self.area("top", placed, column.top)
-        bottom, placed = self.area("bottom", placed, column.bottom)
-        lines += top
+        top, placed = self.dealt(placed, column.top)
+        bottom, placed = self.dealt(placed, column.bottom)
         if size > 0:
             is_spent = all(it.is_discardable() for it in items[size:])
-            lines += text_lines(document, items[:size], after.numbers, is_spent)
-        return lines + bottom + self.notes(items[:size]), placed, after
+            lines += self.text(column, items[:size], after.numbers, is_spent, top, bottom)
+        else:
+            lines += self.area("top", top)
+        return lines, placed, after
 
     def pages(self, plan, cost):
         """The lines of the page text of a pagination that is legal."""
@@ -118,8 +189,8 @@ class Printer:
         for number, page in enumerate(plan, 1):
             side = "S" if style.first == "single" else "R" if self.document.is_right(number) else "L"
             lines.append(f"page {number} side {side} run {page.run} wide {counts(page.wide)}")
-            wide, placed = self.area("wide", placed, page.wide)
-            lines += wide
+            wide, placed = self.dealt(placed, page.wide)
+            lines += self.area("wide", wide)
             for at, column in enumerate(page.columns, 1):
                 own, placed, before = self.column(before, at, page, column, placed)
                 lines += own

@@ -3,7 +3,7 @@
 import re
 import tomllib
 
-from rules import POINT, Area, Choice, Class, Item, Style, Variant
+from rules import POINT, Area, Choice, Class, Gap, Item, Style, Variant
 
 NUMBER = r"(-?\d+\.\d+)"
 BOX = re.compile(rf"\\(hbox|vbox|rule)\({NUMBER}\+{NUMBER}\)x")
@@ -14,6 +14,7 @@ GLUE = re.compile(
 KERN = re.compile(rf"\\kern ?{NUMBER}")
 PENALTY = re.compile(r"\\penalty (-?\d+)")
 INSERT = re.compile(rf"\\insert(\d+), natural size {NUMBER}")
+GAP = re.compile(rf"{NUMBER}(?: plus {NUMBER})?(?: minus {NUMBER})?$")
 VARIANT = re.compile(r"\.\\special\{pg:variant (-?\d+) (\d+)\}$")
 
 
@@ -43,7 +44,7 @@ def item(body):
         return Item("penalty", penalty=int(found[1]), body=body)
     if found := INSERT.match(first):
         return Item("insert", number=int(found[1]), size=units(found[2]), body=body)
-    return Item("mark", body=body)
+    return Item("barrier" if body == "\\special{pg:flush}" else "mark", body=body)
 
 
 def galley(text):
@@ -86,13 +87,17 @@ def galley(text):
     return width, tuple(blocks)
 
 
+def gap(text):
+    return Gap(*(units(it or "0.0") for it in GAP.match(text).groups()))
+
+
 def area(table):
-    return Area(table["count"], units(table["sep"]), units(table["gap"]))
+    return Area(table["count"], gap(table["sep"]), gap(table["gap"]))
 
 
 def insert_class(table):
     if table["kind"] == "note":
-        return Class(table["number"], "note", skip=units(table["skip"]), limit=units(table["limit"]))
+        return Class(table["number"], "note", skip=gap(table["skip"]), limit=units(table["limit"]))
     return Class(table["number"], "float", area=table["area"], distance=tuple(table["distance"]))
 
 
@@ -118,4 +123,5 @@ def style(text):
         float_count=it["float_column"]["count"],
         float_demerits=it["float_column"]["demerits"],
         classes=tuple(map(insert_class, it.get("classes", ()))),
+        ragged=units(it["ragged"]) if "ragged" in it else None,
     )

@@ -67,13 +67,7 @@ class States:
 
     def called(self, place):
         """For each float class how many floats are called before a place of the galley."""
-        block, variant, index = place
-        items = []
-        for it in self.document.blocks[:block]:
-            items += [it] if isinstance(it, rules.Item) else it.variants[0].items
-        if index > 0:
-            items += self.document.blocks[block].variants[variant].items[:index]
-        return [sum(it.kind == "insert" and it.number == one.number for it in items) for one in self.document.classes]
+        return rules.called(rules.items_before(self.document.blocks, place), self.document.classes)
 
     def split(self, state):
         """The ages of each class; None where they are not as many as the floats that wait."""

@@ -9,7 +9,7 @@ use Rattle.pg_rules.specs.Room.{Document}
 use Rattle.pg_list.specs.Flat.{is_same_place}
 use Rattle.pg_rules.specs.ColumnRules.{does_fit, is_well_formed, is_tolerable, passes_breaks, has_room, has_counts, keeps_note_limits, keeps_looseness}
 use Rattle.pg_rules.specs.History.{next_column, next_run, place_of, placed_of, context}
-use Rattle.pg_rules.specs.Legal.{unless, first_at_fault, faults_with, first_breach, misfilled, is_chained, is_near, has_wide_counts, deals_floats, has_callouts, has_run}
+use Rattle.pg_rules.specs.Legal.{unless, first_at_fault, faults_with, first_breach, misfilled, is_chained, is_near, has_wide_counts, deals_floats, has_callouts, has_run, keeps_barriers}
 use Rattle.law_columns.specs.Stands.{Stand}
 use Rattle.pg_lemmas.proofs.Bools.{both_of, both}
 
@@ -70,6 +70,7 @@ pub record Kept (doc : Document) (ms : List PageMove) : Type 0 where
   pub notes : EachKeeps (λ m ms. keeps_note_limits (context doc m ms)) ms
   pub runs : EachKeeps (λ m ms. has_run doc.style (next_run doc.style ms) m) ms
   pub looseness : EachKeeps (λ m ms. keeps_looseness (context doc m ms)) ms
+  pub barriers : EachKeeps (λ m ms. keeps_barriers doc (placed_of doc.style ms) m) ms
 
 pub kept_stand : (doc : Document) (ms : List PageMove) → Kept doc ms → Stand doc ms
 kept_stand doc [] k = tt
@@ -84,6 +85,7 @@ kept_stand doc (m ∷ ms) k =
           wide = n.1;
           deals = k.deals.0;
           callouts = k.callouts.0;
+          barriers = k.barriers.0;
           rules = record {
             fits = c.1;
             well_formed = k.well_formed.0;
@@ -114,6 +116,7 @@ kept_stand doc (m ∷ ms) k =
         runs = k.runs.1;
         looseness =
             k.looseness.1;
+        barriers = k.barriers.1;
       }),
     )
 
@@ -132,6 +135,7 @@ stand_kept doc [] s = record {
   notes = tt;
   runs = tt;
   looseness = tt;
+  barriers = tt;
 }
 stand_kept doc (m ∷ ms) (s, rest) =
     let k : Kept doc ms = stand_kept doc ms rest in
@@ -148,6 +152,7 @@ stand_kept doc (m ∷ ms) (s, rest) =
       notes = (s.stands.rules.note_limits, k.notes);
       runs = (s.stands.takes_run, k.runs);
       looseness = (s.stands.rules.looseness, k.looseness);
+      barriers = (s.stands.barriers, k.barriers);
     }
 
 -- no rule is broken exactly where the pages are filled and each column stands, and what is asked at the end
@@ -180,6 +185,7 @@ sound_of doc pages ms at_end left e =
         notes = kept _ ms a.1.1.1.1.1.1.1.1.1.1.0;
         runs = kept _ ms a.1.1.1.1.1.1.1.1.1.1.1.0;
         looseness = kept _ ms a.1.1.1.1.1.1.1.1.1.1.1.1.0;
+        barriers = kept _ ms a.1.1.1.1.1.1.1.1.1.1.1.1.1.0;
       });
       ended = c.1;
       dealt = d.1;
@@ -209,7 +215,7 @@ of_sound doc pages ms at_end left s =
                       faultless _ ms k.callouts,
                       (
                         faultless _ ms k.near,
-                        (faultless _ ms k.notes, (faultless _ ms k.runs, (faultless _ ms k.looseness, tt))),
+                        (faultless _ ms k.notes, (faultless _ ms k.runs, (faultless _ ms k.looseness, (faultless _ ms k.barriers, tt)))),
                       ),
                     ),
                   ),

@@ -1,6 +1,7 @@
 -- What follows a state in the front, up to a place in the front, whatever stands behind the front.
 use Rattle.std.proofs.Common.{◌≡◌, sym, ap, subst, ◌∙◌, ℕ, ◌+◌, ◌<◌, ◌⊎◌, inl, inr, List, ◌∷◌, ◌++◌, length, map, Bool, true, false, Option, Some, None}
-use Rattle.std.specs.Prelude.{◌==◌, if◌then◌else◌, nat_lt, ℤ, ◌<ℤ◌}
+use Rattle.std.specs.Prelude.{◌==◌, ◌||◌, if◌then◌else◌, nat_lt, ℤ, ◌<ℤ◌}
+use Rattle.pg_list.specs.Flat.{is_same_place}
 use Rattle.std.specs.List.{list_all}
 use Rattle.std.specs.Ordering.{is_gt}
 use Rattle.pg_list.specs.declared.blocks.Block.{Block}
@@ -17,10 +18,11 @@ use Rattle.pg_rules.specs.Cost.{column_cost}
 use Rattle.pg_rules.specs.Floats.{called, distance_table, entry, float_count, floats, floats_between, has_all, is_area_allowed, plus_counts, takes_wide}
 use Rattle.pg_rules.specs.Follow.{Follow, KeepsColumnRules, MayStand, age_among, age_in, context_in, fills_page, keeps_run, next_state, other_side, turns, wide_in}
 use Rattle.pg_rules.specs.History.{column_fitness, fitness_after, placed_after, with_wide}
-use Rattle.pg_rules.specs.Legal.{added}
+use Rattle.pg_rules.specs.Legal.{added, keeps_barriers}
 use Rattle.pg_rules.specs.Room.{ColumnContext, Document, is_text}
 use Rattle.law_space.specs.PageSpace.{FollowBest}
-use Rattle.pg_lemmas.proofs.Bools.{both, both_of}
+use Rattle.pg_lemmas.proofs.Bools.{both, both_of, by_bool, not_false, or_left}
+use Rattle.law_edits.proofs.Barriers.{text_keeps}
 use Rattle.law_edits.proofs.Behind.{GoesOn, front_each}
 use Rattle.law_edits.proofs.Callouts.{DealsIn, called_in, deals_in}
 use Rattle.law_edits.proofs.Columns.{twins}
@@ -144,6 +146,13 @@ module _ (style : StyleValue) {front : List Block} {next : Block} {ra rb : List 
   called_to = called_in front (next ∷ ra) style m.column.to ends_in
       ∙ sym (called_in front (next ∷ rb) style m.column.to ends_in)
 
+  barriers : keeps_barriers two u.placed m ≡ true
+  barriers = by_bool (is_same_place m.column.from m.column.to) (λ t. or_left (is_same_place m.column.from m.column.to) _ t)
+      (λ n. sym (ap (λ (b : Bool). is_same_place m.column.from m.column.to || b) (text_keeps style a m.column m.run
+      (wide_in one u m) (with_wide style u.placed m) starts_in ends_in f.stands.rules.fits f.stands.rules.well_formed
+      (not_false (is_same_place m.column.from m.column.to) n) rb u.placed (placed_after style u.placed m)))
+      ∙ f.stands.barriers)
+
   may_stand : MayStand two u.column u.run u.placed m (context_in two u m)
   may_stand = record {
     takes_run = f.stands.takes_run;
@@ -156,6 +165,7 @@ module _ (style : StyleValue) {front : List Block} {next : Block} {ra rb : List 
         m.column.bottom deals.bottom));
     callouts = ap (λ (counts : List ℕ). list_all (λ (float : ℕ × ℕ). nat_lt float.1 (entry counts float.0))
         (added one u.placed m)) (sym called_to) ∙ f.stands.callouts;
+    barriers = barriers;
     rules = subst KeepsColumnRules context_same (rules_same same f.stands.rules);
   }
 

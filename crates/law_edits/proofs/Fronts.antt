@@ -169,15 +169,15 @@ module _ (low high : ℕ) where
 
 module _ (from : Place) where
   -- the first block whose front is met
-  abbrev start : ℕ
+  abbrev pub start : ℕ
   start = if from.index == 0 then from.block else from.block + 1
 
   -- what is left of a variant
-  abbrev begun : List Block → List FlatItem
+  abbrev pub begun : List Block → List FlatItem
   begun blocks = if from.index == 0 then [] else drop from.index
       (variant_flat_items from.block from.variant (items_around blocks from))
 
-  at_is : (blocks : List Block) (picks : List ℕ) →
+  pub at_is : (blocks : List Block) (picks : List ℕ) →
       flat_items_at blocks from picks ≡ begun blocks ++ flat_items_from start (blocks_at blocks from) picks
   at_is blocks picks = by (from.index == 0)
     where

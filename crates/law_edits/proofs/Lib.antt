@@ -7,6 +7,7 @@ pub mod Floats
 pub mod Callouts
 pub mod Twins
 pub mod Columns
+pub mod Barriers
 pub mod Follows
 pub mod Cuts
 pub mod Agree

@@ -79,7 +79,7 @@ between_few j count =
 parskip_shown : IsShownBlock parskip
 unfolding pointed_at node_at named after due glue_at glue_text_at
     stretch_at amount_at shrink_at past_name order_at size_at
-parskip_shown = record {
+parskip_shown = inl (record {
   node = node.Glue (pos 0) (pos 65536) Finite (pos 0);
   first = codes "\\glue(\\parskip) 0.0 plus 1.0";
   deeper = [];
@@ -87,7 +87,7 @@ parskip_shown = record {
   says = refl;
   each = tt;
   is = refl;
-}
+})
 
 module _ (rule : LineRule) (small : IsScaled rule.width) where
   set_shown : (count j : ℕ) (lines : List (List HItem)) → AllByRecursion IsCleanLine lines →

@@ -57,6 +57,7 @@ module _ (g : GalleyValue) (s : StyleValue) (t : ℕ) (more : s.tolerance ≤ t)
       wide = k.stands.wide;
       deals = k.stands.deals;
       callouts = k.stands.callouts;
+      barriers = k.stands.barriers;
       rules = record {
         fits = k.stands.rules.fits;
         well_formed = k.stands.rules.well_formed;
@@ -110,6 +111,7 @@ module _ (g : GalleyValue) (s : StyleValue) (l : ℕ) (more : s.max_looseness �
       wide = k.stands.wide;
       deals = k.stands.deals;
       callouts = k.stands.callouts;
+      barriers = k.stands.barriers;
       rules = record {
         fits = k.stands.rules.fits;
         well_formed = k.stands.rules.well_formed;
@@ -156,6 +158,7 @@ module _ (g : GalleyValue) (s : StyleValue) (less : ℤ) (fewer : less ≤ℤ s.
       wide = k.stands.wide;
       deals = k.stands.deals;
       callouts = k.stands.callouts;
+      barriers = k.stands.barriers;
       rules = record {
         fits = k.stands.rules.fits;
         well_formed = k.stands.rules.well_formed;

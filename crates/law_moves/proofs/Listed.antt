@@ -14,7 +14,7 @@ use Rattle.pg_rules.specs.Floats.{called, entry, float_count, float_numbers, flo
 use Rattle.pg_rules.specs.Follow.{context_in, fills_page, may_turn, next_state, turns, wide_in}
 use Rattle.pg_rules.specs.History.{placed_after}
 use Rattle.pg_rules.specs.IsState.{IsState}
-use Rattle.pg_rules.specs.Legal.{has_callouts}
+use Rattle.pg_rules.specs.Legal.{has_callouts, keeps_barriers}
 use Rattle.pg_rules.specs.Room.{Document, extra, is_text, is_top_allowed, top_height}
 use Rattle.pg_table.specs.Space.{AreMoves}
 use Rattle.pg_table.specs.declared.step.Step.{Step}
@@ -30,7 +30,7 @@ use Rattle.pg_column.specs.Ends.{AreEnds, IsEndOf}
 use Rattle.law_moves.specs.Ages.{ages_left, may_wait}
 use Rattle.pg_layouts.specs.declared.layout.Layout.{Layout}
 use Rattle.pg_layouts.specs.Layouts.{float_layouts, text_layouts}
-use Rattle.law_moves.specs.Listed.{calls_all, column_fits, goes_on, listed_end, listed_floats, listed_stay, listed_steps, listed_text, listed_with, placed_with, stays_on}
+use Rattle.law_moves.specs.Listed.{calls_all, column_fits, flushes_all, goes_on, listed_end, listed_floats, listed_stay, listed_steps, listed_text, listed_with, may_begin, opens, placed_with, stays_on}
 use Rattle.law_moves.specs.Steps.{IsCeiling, area_of, fitness_cost, float_step, float_steps, kept_fitness, may_end, may_stay, move_to, stay, steps_with, text_room, text_step, text_steps, wide_of}
 use Rattle.law_places.proofs.Members.{among_contains, below_in, of_filter}
 use Rattle.law_moves.proofs.Callouts.{bound_callouts, callouts_bound}
@@ -115,27 +115,37 @@ module _ (doc : Document) (u : State) (blocks_in : AllByRecursion IsBlock doc.bl
 
       may_is : (end : End) → Among end (ends layout) → goes_on doc u layout end ≡ may_end doc u layout end
       may_is end a = by_bool (is_same_place u.place end.to)
-          (λ t. gone t (calls_all doc end.to (placed_with doc.style u.placed layout)
+          (λ t. gone t (opens doc u end.to (placed_with doc.style u.placed layout)
           && may_wait doc u end.to (placed_with doc.style u.placed layout) (turns doc.style u))
-          (has_callouts doc u.placed (move_to u layout end) && may_turn doc u (move_to u layout end)))
-          (λ f. both_same (not (is_same_place u.place end.to))
-          (has_callouts doc u.placed (move_to u layout end)) _ (may_turn doc u (move_to u layout end)) _
+          (has_callouts doc u.placed (move_to u layout end)
+          && (keeps_barriers doc u.placed (move_to u layout end) && may_turn doc u (move_to u layout end))))
+          (λ f. each_same (not (is_same_place u.place end.to))
+          (has_callouts doc u.placed (move_to u layout end)) _ (keeps_barriers doc u.placed (move_to u layout end)) _
+          (may_turn doc u (move_to u layout end)) _
           (calls_is (move_to u layout end) (end_grows end a f))
+          (ap (λ (same : Bool). same
+          || (may_begin doc u && flushes_all doc end.to.block (placed_with doc.style u.placed layout))) f)
           (column_ages doc u own (move_to u layout end) (end_grows end a f)).may)
         where
           gone : is_same_place u.place end.to ≡ true → (x y : Bool) →
               (not (is_same_place u.place end.to) && x) ≡ (not (is_same_place u.place end.to) && y)
           gone t x y = subst (λ (b : Bool). (not b && x) ≡ (not b && y)) (sym t) refl
 
-          both_same : (n x y z w : Bool) → x ≡ y → z ≡ w → (n && (y && w)) ≡ (n && (x && z))
-          both_same n x y z w p q = cc
+          grouped : (a b c : Bool) → ((a && b) && c) ≡ (a && (b && c))
+          grouped true b c = refl
+          grouped false b c = refl
+
+          alike : (x y b d z w : Bool) → x ≡ y → b ≡ d → z ≡ w → (y && (d && w)) ≡ (x && (b && z))
+          alike x y b d z w p q r = cc
+
+          each_same : (n x y b d z w : Bool) → x ≡ y → b ≡ d → z ≡ w → (n && ((y && d) && w)) ≡ (n && (x && (b && z)))
+          each_same n x y b d z w p q r = ap (λ (t : Bool). n && t) (grouped y d w ∙ alike x y b d z w p q r)
 
       end_is : (end : End) → Among end (ends layout) → may_end doc u layout end ≡ true →
           listed_end doc u layout end ≡ text_step doc u layout end
       end_is end a may =
           let t = both_of (not (is_same_place u.place end.to)) _ may in
-          let s = both_of (has_callouts doc u.placed (move_to u layout end))
-          (may_turn doc u (move_to u layout end)) t.1 in
+          let s = both_of (has_callouts doc u.placed (move_to u layout end)) _ t.1 in
           let away : is_same_place u.place end.to ≡ false = not_true (is_same_place u.place end.to) t.0 in
           let wide : wide_in doc u (move_to u layout end) ≡ wide_of doc u layout.wide =
           wide_is doc u blocks_in own (move_to u layout end) ceiling

@@ -24,12 +24,12 @@ use Rattle.pg_rules.specs.Floats.{area_height, called, dealt, entry, float_count
 use Rattle.pg_rules.specs.Follow.{Follow, KeepsColumnRules, MayStand, age_in, context_in, may_turn, next_state, wide_in}
 use Rattle.pg_rules.specs.History.{column_fitness, fitness_after, made_wide, placed_after}
 use Rattle.pg_rules.specs.IsState.{IsState}
-use Rattle.pg_rules.specs.Legal.{added, has_callouts, has_run, has_wide_counts}
+use Rattle.pg_rules.specs.Legal.{added, has_callouts, has_run, has_wide_counts, keeps_barriers}
 use Rattle.pg_rules.specs.Room.{ColumnContext, Document, bottom_height, checked_height, flat_items_of, full_height, is_bottom_allowed, is_text, is_top_allowed, room, size_of, top_height}
 use Rattle.pg_table.specs.Space.{AreMoves}
 use Rattle.pg_table.specs.declared.step.Step.{Step}
 use Rattle.law_places.proofs.Among.{Among, among_left, among_right}
-use Rattle.pg_lemmas.proofs.Bools.{both, both_of, by_bool, if_false, if_true, not_false, not_true}
+use Rattle.pg_lemmas.proofs.Bools.{both, both_of, by_bool, if_false, if_true, not_false, not_true, or_left}
 use Rattle.law_places.proofs.Callouts.{called_total}
 use Rattle.law_places.proofs.Tests.{place_refl}
 use Rattle.pg_list.proofs.Places.{same_place}
@@ -45,6 +45,7 @@ use Rattle.pg_column.specs.declared.end.End.{End}
 use Rattle.pg_column.specs.Ends.{AreEnds, HasEnd, IsBefore, IsColumnIn, IsEndOf}
 use Rattle.pg_layouts.specs.declared.layout.Layout.{Layout}
 use Rattle.pg_layouts.specs.Layouts.{float_layouts, layout_of, move_of, takes_run, text_layouts, zeros}
+use Rattle.law_moves.specs.Listed.{flushes_all, may_begin}
 use Rattle.law_moves.specs.Steps.{IsCeiling, area_of, fitness_cost, float_counts, float_step, float_steps, kept_fitness, may_end, may_stay, move_to, page_cost, stay, steps_of, steps_with, text_room, text_step, text_steps, wide_of}
 use Rattle.law_places.proofs.Members.{among_append, among_contains, contains_among, in_filter, in_flat, in_map, of_filter, of_flat, of_map}
 use Rattle.law_places.proofs.Pairs.{Pairs, all_pairs, pairs_all, pairs_append, pairs_filter, pairs_flat, pairs_map, pairs_weaker}
@@ -232,13 +233,14 @@ module _ (doc : Document) (u : State) (blocks_in : AllByRecursion IsBlock doc.bl
         counts_are = both _ _ (both _ _ (both _ _ (long_is layout.top is.top.long)
             (long_is layout.bottom is.bottom.long)) top_allowed) bottom_allowed
 
-        stands : keeps_text it ≡ true → has_callouts doc u.placed m ≡ true →
+        stands : keeps_text it ≡ true → has_callouts doc u.placed m ≡ true → keeps_barriers doc u.placed m ≡ true →
             MayStand doc u.column u.run u.placed m it
-        stands keeps callouts = record {
+        stands keeps callouts barriers = record {
           takes_run = run_is m is.run;
           wide = wide_counts m ceiling is.wide;
           deals = both _ _ wide_there (both _ _ top_there bottom_there);
           callouts = callouts;
+          barriers = barriers;
           rules = keep_rules it keeps counts_are;
         }
 
@@ -258,12 +260,14 @@ module _ (doc : Document) (u : State) (blocks_in : AllByRecursion IsBlock doc.bl
 
       module _ (end : End) (ended : Among end (ends layout)) (may : may_end doc u layout end ≡ true) where
         parts : (is_same_place u.place end.to ≡ false) × ((has_callouts doc u.placed (move_to u layout end) ≡ true)
-            × (may_turn doc u (move_to u layout end) ≡ true))
+            × ((keeps_barriers doc u.placed (move_to u layout end) ≡ true)
+            × (may_turn doc u (move_to u layout end) ≡ true)))
         parts =
             let a = both_of (not (is_same_place u.place end.to)) _ may in
-            let b = both_of (has_callouts doc u.placed (move_to u layout end))
-            (may_turn doc u (move_to u layout end)) a.1 in
-            (not_true (is_same_place u.place end.to) a.0, b)
+            let b = both_of (has_callouts doc u.placed (move_to u layout end)) _ a.1 in
+            let c = both_of (keeps_barriers doc u.placed (move_to u layout end))
+            (may_turn doc u (move_to u layout end)) b.1 in
+            (not_true (is_same_place u.place end.to) a.0, (b.0, c))
 
         abbrev at_end : ColumnContext
         at_end = context_in doc u (move_to u layout end)
@@ -286,8 +290,8 @@ module _ (doc : Document) (u : State) (blocks_in : AllByRecursion IsBlock doc.bl
         step_follows = record {
           follow = record {
             starts = place_refl u.place;
-            stands = stands end.to end.picks parts.0 is_end.keeps parts.1.0;
-            turns = parts.1.1;
+            stands = stands end.to end.picks parts.0 is_end.keeps parts.1.0 parts.1.1.0;
+            turns = parts.1.1.1;
             pays = sum_is end.cost.demerits (column_demerits at_end) end.pick_demerits (pick_demerits at_end)
                 (page_cost doc u (move_to u layout end)) (fitness_cost doc.style u.fitness end.cost.fitness)
                 (fitness_demerits u.fitness at_end) (sym demerits_are) is_end.pick_demerits
@@ -376,9 +380,12 @@ module _ (doc : Document) (u : State) (blocks_in : AllByRecursion IsBlock doc.bl
         let may : may_end doc u layout h.end ≡ true =
         subst (λ (p : Place). (not (is_same_place u.place p)
         && (has_callouts doc u.placed (move_of u layout p h.end.picks)
-        && may_turn doc u (move_of u layout p h.end.picks))) ≡ true) (sym h.to)
+        && (keeps_barriers doc u.placed (move_of u layout p h.end.picks)
+        && may_turn doc u (move_of u layout p h.end.picks)))) ≡ true) (sym h.to)
         (both (not (is_same_place u.place to)) _ (not_false (is_same_place u.place to) away)
-        (both (has_callouts doc u.placed (move_of u layout to h.end.picks)) _ f.follow.stands.callouts f.follow.turns)) in
+        (both (has_callouts doc u.placed (move_of u layout to h.end.picks)) _ f.follow.stands.callouts
+        (both (keeps_barriers doc u.placed (move_of u layout to h.end.picks)) _ f.follow.stands.barriers
+        f.follow.turns))) in
         let g : FollowBest doc u (move_to u layout h.end) (text_step doc u layout h.end).to
         (text_step doc u layout h.end).cost = step_follows layout listed h.end ended may in
         let g' : FollowBest doc u (move_of u layout to h.end.picks) (text_step doc u layout h.end).to
@@ -571,6 +578,12 @@ module _ (doc : Document) (u : State) (blocks_in : AllByRecursion IsBlock doc.bl
             ≡ entry u.placed slot + entry layout.wide slot = entry_plus doc.style u.placed layout.wide slot h in
             omega arith
 
+    -- a column without text begins and ends where it stands
+    stay_barriers : keeps_barriers doc u.placed (stay u layout) ≡ true
+    stay_barriers = or_left (is_same_place u.place u.place)
+        (may_begin doc u && flushes_all doc u.place.block (placed_after doc.style u.placed (stay u layout)))
+        (place_refl u.place)
+
     module _ (may : may_stay doc u layout ≡ true) where
       stay_parts : ((nat_lt 0 (total_count layout.top) || is_some (wide_of doc u layout.wide)) ≡ true)
           × ((has_room stays ≡ true) × (may_turn doc u (stay u layout) ≡ true))
@@ -617,6 +630,7 @@ module _ (doc : Document) (u : State) (blocks_in : AllByRecursion IsBlock doc.bl
             wide = wide_counts (stay u layout) here is.wide;
             deals = both _ _ wide_all (both _ _ top_all bottom_all);
             callouts = stay_callouts;
+            barriers = stay_barriers;
             rules = stay_rules;
           };
           turns = stay_parts.1.1;

@@ -6,10 +6,12 @@ use Rattle.pg_list.specs.Places.{place}
 use Rattle.pg_plan.specs.declared.pages.PageMove.{PageMove}
 use Rattle.pg_plan.specs.declared.states.State.{State}
 use Rattle.pg_style.specs.Values.{StyleValue}
+use Rattle.pg_list.specs.Barrier.{text_block}
 use Rattle.pg_list.specs.Flat.{is_same_place}
 use Rattle.pg_rules.specs.Cost.{run_demerits}
-use Rattle.pg_rules.specs.Floats.{called, entry, plus_counts, slots, total_count}
+use Rattle.pg_rules.specs.Floats.{called, entry, flushed, plus_counts, slots, total_count}
 use Rattle.pg_rules.specs.Follow.{fills_page, keeps_run, other_side, turns}
+use Rattle.pg_rules.specs.Legal.{are_placed, are_ready}
 use Rattle.pg_rules.specs.Room.{Document, extra}
 use Rattle.pg_table.specs.declared.step.Step.{Step}
 use Rattle.pg_column.specs.declared.end.End.{End}
@@ -48,13 +50,27 @@ abbrev pub calls_all : Document → Place → List ℕ → Bool
 calls_all doc to after =
     list_all (λ (slot : ℕ). nat_le (entry after slot) (entry (called doc.blocks doc.style to) slot)) (slots doc.style)
 
+-- so many floats of each class are called before the last barrier in front of a block, at most
+abbrev pub flushes_all : Document → ℕ → List ℕ → Bool
+flushes_all doc block placed = are_placed doc.style (flushed doc.blocks doc.style block) placed
+
 -- ---- columns of text
 
--- the column goes on, its floats are called, and none is left that waits too long
+-- the floats that are called before the state and before a barrier behind which a text from there would begin are placed
+abbrev pub may_begin : Document → State → Bool
+may_begin doc u = are_ready doc.style (called doc.blocks doc.style u.place)
+    (flushed doc.blocks doc.style (text_block doc.blocks u.place)) u.placed
+
+-- a column of text may end at a place with so many floats placed: these are called there, and those before barriers are
+-- placed
+abbrev pub opens : Document → State → Place → List ℕ → Bool
+opens doc u to placed = calls_all doc to placed && (may_begin doc u && flushes_all doc to.block placed)
+
+-- the column goes on, may end, and leaves no float waiting too long
 abbrev pub goes_on : Document → State → Layout → End → Bool
 goes_on doc u layout end =
     not (is_same_place u.place end.to)
-    && (calls_all doc end.to (placed_with doc.style u.placed layout)
+    && (opens doc u end.to (placed_with doc.style u.placed layout)
     && may_wait doc u end.to (placed_with doc.style u.placed layout) (turns doc.style u))
 
 -- the step to an end

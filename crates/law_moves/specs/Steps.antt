@@ -10,7 +10,7 @@ use Rattle.pg_rules.specs.ColumnRules.{has_room}
 use Rattle.pg_rules.specs.Cost.{differs, float_demerits, run_demerits}
 use Rattle.pg_rules.specs.Floats.{area_height, called, dealt, entry, float_numbers, floats, plus_counts, total_count}
 use Rattle.pg_rules.specs.Follow.{Follow, age_in, context_in, may_turn, next_state}
-use Rattle.pg_rules.specs.Legal.{added, has_callouts}
+use Rattle.pg_rules.specs.Legal.{added, has_callouts, keeps_barriers}
 use Rattle.pg_rules.specs.Room.{Document, extra}
 use Rattle.pg_table.specs.declared.step.Step.{Step}
 use Rattle.pg_column.specs.declared.end.End.{End}
@@ -60,11 +60,12 @@ page_cost doc u m =
 abbrev pub move_to : State → Layout → End → PageMove
 move_to u layout end = move_of u layout end.to end.picks
 
--- the column goes on, calls its floats, and leaves none waiting too long
+-- the column goes on, calls its floats, keeps barriers, and leaves no float waiting too long
 abbrev pub may_end : Document → State → Layout → End → Bool
 may_end doc u layout end =
     not (is_same_place u.place end.to)
-    && (has_callouts doc u.placed (move_to u layout end) && may_turn doc u (move_to u layout end))
+    && (has_callouts doc u.placed (move_to u layout end)
+    && (keeps_barriers doc u.placed (move_to u layout end) && may_turn doc u (move_to u layout end)))
 
 -- the step that such a column makes
 abbrev pub text_step : Document → State → Layout → End → Step State PageMove

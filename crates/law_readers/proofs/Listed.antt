@@ -1,12 +1,14 @@
 -- What the lines of a listing have said so far.
-use Rattle.std.proofs.Common.{◌≡◌, ◌∙◌, refl, sym, ap, subst, arith, ℕ, ◌+◌, ◌≤◌, ◌<◌, Bool, true, false, List, [], ◌∷◌, ◌++◌, length, append-nil, append_assoc, length-append, Option, Some, None}
+use Rattle.std.proofs.Common.{◌≡◌, ◌∙◌, refl, sym, ap, subst, arith, inl, inr, ℕ, ◌+◌, ◌≤◌, ◌<◌, Bool, true, false, List, [], ◌∷◌, ◌++◌, length, append-nil, append_assoc, length-append, Option, Some, None}
 use Rattle.std.specs.Prelude.{codes, if◌then◌else◌, is_some, nat_lt, Result, Ok, Err, ℤ, pos, neg_ℤ, nat_abs}
 use Rattle.std.specs.List.{AllByRecursion}
 use Rattle.std.specs.Str.{bytes_eq}
 use Rattle.pg_lemmas.proofs.Bools.{not_both}
 use Rattle.pg_lemmas.proofs.Lists.{all_append}
 use Rattle.pg_lemmas.proofs.Numbers.{less_true}
+use Rattle.pg_list.specs.Barrier.{barrier_body}
 use Rattle.pg_list.specs.declared.item.Item.{Item}
+use Rattle.pg_list.specs.declared.item.Item.TheVariants.{Carry}
 use Rattle.pg_list.specs.declared.variants.Variant.{Variant}
 use Rattle.pg_list.specs.declared.blocks.Block.{Block}
 use Rattle.pg_list.specs.declared.blocks.Block.TheVariants.{One, Choice}
@@ -18,7 +20,7 @@ use Rattle.pg_showbox.specs.Nodes.{node_at, node_item}
 use Rattle.pg_showbox.specs.ParsedLine.{block_line, marker_at, or_shape, pointed_at, variant_at}
 use Rattle.pg_showbox.specs.Parts.{◌>>=◌, whole_at}
 use Rattle.pg_showbox.specs.Reading.{line_read, said_in}
-use Rattle.pg_showbox.specs.State.{begun_choice, begun_variant, closed, ended_choice, last_extended, longer_last, next_variant, placed, placed_block, placed_item, step, whole_choice}
+use Rattle.pg_showbox.specs.State.{begun_choice, begun_variant, closed, ended_choice, last_extended, longer_last, next_variant, placed, placed_barrier, placed_block, placed_item, step, whole_choice}
 use Rattle.pg_showbox.specs.declared.kinds.ListKind.{ListKind}
 use Rattle.pg_showbox.specs.declared.kinds.ListKind.TheVariants.{BadLine, ChoiceInserts, ChoiceShape, Limit}
 use Rattle.pg_showbox.specs.declared.node.Node.{Node}
@@ -27,7 +29,7 @@ use Rattle.pg_showbox.specs.declared.parsed.ParsedLine.TheVariants as said
 use Rattle.pg_showbox.specs.declared.state.ReaderState.{ReaderState}
 use Rattle.pg_showbox.specs.declared.state.Within.{Within}
 use Rattle.pg_showbox.specs.declared.state.Within.TheVariants.{Outside, Listing, InChoice, InVariant}
-use Rattle.law_readers.specs.Galleys.{HaveSameInserts, IsDeeper, IsShaped, SaysBlock, SaysItem, SaysVariant, behind_point}
+use Rattle.law_readers.specs.Galleys.{HaveSameInserts, IsDeeper, IsShaped, SaysBarrier, SaysBlock, SaysItem, SaysVariant, behind_point}
 use Rattle.law_readers.specs.InOrder.{InOrder}
 use Rattle.law_readers.proofs.Ordered.{EndsInItem, ends_longer, ends_more, in_order_more, inserts_more, longer_behind, longer_blocks, longer_items, longer_some}
 
@@ -38,6 +40,7 @@ IsListedSaid said.Nothing = ⊥
 IsListedSaid said.Blank = ⊥
 IsListedSaid (said.Root width) = ⊥
 IsListedSaid (said.Item node) = Unit {0}
+IsListedSaid said.Barrier = Unit {0}
 IsListedSaid said.Deeper = Unit {0}
 IsListedSaid said.ChoiceMark = Unit {0}
 IsListedSaid (said.VariantMark looseness demerits) = Unit {0}
@@ -79,7 +82,8 @@ unfolding marker_at
 marker_listed bytes = listed_if (bytes_eq bytes (codes "choice}")) (Ok said.ChoiceMark) _
     (listed_ok said.ChoiceMark tt)
     (listed_if (bytes_eq bytes (codes "end}")) (Ok said.EndMark) _ (listed_ok said.EndMark tt)
-    (listed_on (after (codes "variant ") bytes) variant_at (Err ChoiceShape) variant_listed (listed_err ChoiceShape)))
+    (listed_if (bytes_eq bytes (codes "flush}")) (Ok said.Barrier) _ (listed_ok said.Barrier tt)
+    (listed_on (after (codes "variant ") bytes) variant_at (Err ChoiceShape) variant_listed (listed_err ChoiceShape))))
 
 pointed_listed : (bytes : List ℕ) → Listed (pointed_at bytes)
 unfolding pointed_at
@@ -184,6 +188,34 @@ module _ (width : Option ℤ) (old : List Block) (lines : List (List ℕ)) (line
     is = ap (λ (text : List ℕ). node_item node text) (sym (append-nil (behind_point line)));
   }
 
+  -- a barrier that is said by its line alone
+  barrier_says : block_line line ≡ Ok said.Barrier → SaysBarrier (line ∷ []) (Carry barrier_body)
+  barrier_says says = record {
+    first = line;
+    deeper = [];
+    are = refl;
+    says = says;
+    goes_on = tt;
+    is = ap Carry (sym (append-nil barrier_body));
+  }
+
+  -- an item between blocks
+  block_step : (item : Item) → s.within ≡ Listing → HoldsBlocks width old lines s → SaysBlock (line ∷ []) (One item) →
+      placed_block s item ≡ Ok u → Holds width old (lines ++ line ∷ []) u
+  unfolding placed_block
+  block_step item at holds says e =
+      let (_, same) = if_said (nat_lt s.count item_limit)
+      (record s { blocks = s.blocks ++ One item ∷ []; has_item = true; count = s.count + 1 }) u Limit e in
+      by_state Listing (record s { blocks = s.blocks ++ One item ∷ []; has_item = true; count = s.count + 1 })
+      at same (record {
+        mine = holds.mine ++ One item ∷ [];
+        kept = holds.kept;
+        blocks = ap (λ (blocks : List Block). blocks ++ One item ∷ []) holds.blocks
+            ∙ append_assoc old holds.mine (One item ∷ []);
+        are = in_order_more SaysBlock lines (line ∷ []) holds.mine (One item) holds.are says;
+        last = λ _. ends_more holds.mine item;
+      })
+
   longer_cut : (front : List (List ℕ)) (begin : List ℕ) (inner : List (List ℕ)) (marker : List ℕ)
       (rest : List (List ℕ)) → lines ≡ front ++ (begin ∷ (inner ++ (marker ∷ rest))) →
       lines ++ line ∷ [] ≡ front ++ (begin ∷ (inner ++ (marker ∷ (rest ++ line ∷ []))))
@@ -195,23 +227,10 @@ module _ (width : Option ℤ) (old : List Block) (lines : List (List ℕ)) (line
   item_step : (within : Within) (node : Node) → s.within ≡ within → HoldsAt within width old lines s →
       block_line line ≡ Ok (said.Item node) → placed s within (node_item node (behind_point line)) ≡ Ok u →
       Holds width old (lines ++ line ∷ []) u
-  unfolding placed placed_block placed_item
+  unfolding placed placed_item
   item_step Outside node at holds says e = absurd holds
   item_step Listing node at holds says e =
-      let (_, same) = if_said (nat_lt s.count item_limit)
-      (record s { blocks = s.blocks ++ One (node_item node (behind_point line)) ∷ []; has_item = true; count = s.count + 1 })
-      u Limit e in
-      by_state Listing
-      (record s { blocks = s.blocks ++ One (node_item node (behind_point line)) ∷ []; has_item = true; count = s.count + 1 })
-      at same (record {
-        mine = holds.mine ++ One (node_item node (behind_point line)) ∷ [];
-        kept = holds.kept;
-        blocks = ap (λ (blocks : List Block). blocks ++ One (node_item node (behind_point line)) ∷ []) holds.blocks
-            ∙ append_assoc old holds.mine (One (node_item node (behind_point line)) ∷ []);
-        are = in_order_more SaysBlock lines (line ∷ []) holds.mine (One (node_item node (behind_point line))) holds.are
-            (one_says node says);
-        last = λ _. ends_more holds.mine (node_item node (behind_point line));
-      })
+      block_step (node_item node (behind_point line)) at holds (inl (one_says node says)) e
   item_step InChoice node at holds says e = absurd cc
   item_step (InVariant looseness demerits) node at holds says e =
       let (_, same) = if_said (nat_lt s.count item_limit)
@@ -240,6 +259,16 @@ module _ (width : Option ℤ) (old : List Block) (lines : List (List ℕ)) (line
         shaped = holds.shaped;
         inserts = holds.inserts;
       })
+
+  -- ---- a barrier
+
+  barrier_step : (within : Within) → s.within ≡ within → HoldsAt within width old lines s →
+      block_line line ≡ Ok said.Barrier → placed_barrier s within ≡ Ok u → Holds width old (lines ++ line ∷ []) u
+  unfolding placed_barrier
+  barrier_step Outside at holds says e = absurd holds
+  barrier_step Listing at holds says e = block_step (Carry barrier_body) at holds (inr (barrier_says says)) e
+  barrier_step InChoice at holds says e = absurd cc
+  barrier_step (InVariant looseness demerits) at holds says e = absurd cc
 
   -- ---- a deeper line
 
@@ -495,6 +524,7 @@ module _ (width : Option ℤ) (old : List Block) (lines : List (List ℕ)) (line
   said_step said.Blank listed holds says e = absurd listed
   said_step (said.Root wide) listed holds says e = absurd listed
   said_step (said.Item node) listed holds says e = item_step s.within node refl holds says e
+  said_step said.Barrier listed holds says e = barrier_step s.within refl holds says e
   said_step said.Deeper listed holds says e = deeper_step s.within refl holds says e
   said_step said.ChoiceMark listed holds says e = choice_step s.within refl holds says e
   said_step (said.VariantMark looseness demerits) listed holds says e =

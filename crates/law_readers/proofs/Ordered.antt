@@ -1,9 +1,11 @@
 -- Parts in order: one more, and a longer last one.
-use Rattle.std.proofs.Common.{◌≡◌, ◌∙◌, refl, sym, ap, arith, ℕ, suc, ◌+◌, ◌≤◌, Bool, true, false, List, [], ◌∷◌, ◌++◌, length, append-nil, append_assoc, length-append}
+use Rattle.std.proofs.Common.{◌≡◌, ◌∙◌, refl, sym, ap, arith, inl, inr, ℕ, suc, ◌+◌, ◌≤◌, Bool, true, false, List, [], ◌∷◌, ◌++◌, length, append-nil, append_assoc, length-append}
 use Rattle.std.specs.Prelude.{take_while}
 use Rattle.std.specs.List.{prefix_len}
 use Rattle.pg_lemmas.proofs.Lists.{all_append}
+use Rattle.pg_list.specs.Barrier.{barrier_body}
 use Rattle.pg_list.specs.declared.item.Item.{Item}
+use Rattle.pg_list.specs.declared.item.Item.TheVariants.{Carry}
 use Rattle.pg_list.specs.declared.variants.Variant.{Variant}
 use Rattle.pg_list.specs.declared.blocks.Block.{Block}
 use Rattle.pg_list.specs.declared.blocks.Block.TheVariants.{One, Choice}
@@ -12,7 +14,7 @@ use Rattle.pg_list.specs.Shapes.{fits_first}
 use Rattle.pg_showbox.specs.Nodes.{node_item}
 use Rattle.pg_showbox.specs.declared.node.Node.{Node}
 use Rattle.pg_showbox.proofs.ReadBack.{longer_node}
-use Rattle.law_readers.specs.Galleys.{HaveSameInserts, IsDeeper, SaysBlock, SaysItem, behind_point, further_lines}
+use Rattle.law_readers.specs.Galleys.{HaveSameInserts, IsDeeper, SaysBarrier, SaysBlock, SaysItem, behind_point, further_lines}
 use Rattle.law_readers.specs.InOrder.{InOrder}
 
 -- one more part
@@ -65,6 +67,20 @@ says_longer lines item line says deeper =
           ∙ ap (λ (text : List ℕ). node_item says.node text)
           (append_assoc (behind_point says.first) (further_lines says.deeper) (10 ∷ behind_point line)
           ∙ ap (λ (text : List ℕ). behind_point says.first ++ text) (sym (further_more says.deeper line)));
+    }
+
+barrier_longer : (lines : List (List ℕ)) (item : Item) (line : List ℕ) → SaysBarrier lines item → IsDeeper line →
+    SaysBarrier (lines ++ line ∷ []) (with_line (behind_point line) item)
+barrier_longer lines item line says deeper =
+    record {
+      first = says.first;
+      deeper = says.deeper ++ line ∷ [];
+      are = ap (λ (l : List (List ℕ)). l ++ line ∷ []) says.are;
+      says = says.says;
+      goes_on = all_append IsDeeper says.deeper (line ∷ []) says.goes_on (deeper, tt);
+      is = ap (with_line (behind_point line)) says.is
+          ∙ ap Carry (append_assoc barrier_body (further_lines says.deeper) (10 ∷ behind_point line)
+          ∙ ap (λ (text : List ℕ). barrier_body ++ text) (sym (further_more says.deeper line)));
     }
 
 pub longer_items : (lines : List (List ℕ)) (items : List Item) (line : List ℕ) → 1 ≤ length items →
@@ -128,7 +144,8 @@ ends_longer (block ∷ next ∷ blocks) line ends =
 
 block_longer : (lines : List (List ℕ)) (block : Block) (line : List ℕ) → IsOne block → SaysBlock lines block →
     IsDeeper line → SaysBlock (lines ++ line ∷ []) (block_with_line (behind_point line) block)
-block_longer lines (One item) line one says deeper = says_longer lines item line says deeper
+block_longer lines (One item) line one (inl says) deeper = inl (says_longer lines item line says deeper)
+block_longer lines (One item) line one (inr says) deeper = inr (barrier_longer lines item line says deeper)
 block_longer lines (Choice variants) line one says deeper = absurd one
 
 pub longer_blocks : (lines : List (List ℕ)) (blocks : List Block) (line : List ℕ) → EndsInItem blocks →

@@ -1,5 +1,5 @@
 -- What the listings of a file say is read of it.
-use Rattle.std.proofs.Common.{◌≡◌, ◌∙◌, refl, sym, ap, subst, arith, ℕ, zero, suc, ◌+◌, ◌≤◌, ◌<◌, Bool, true, false, List, [], ◌∷◌, ◌++◌, length, drop, append-nil, append_assoc, length-append, take-append-drop, Option, Some, None}
+use Rattle.std.proofs.Common.{◌≡◌, ◌∙◌, refl, sym, ap, subst, arith, inl, inr, ℕ, zero, suc, ◌+◌, ◌≤◌, ◌<◌, Bool, true, false, List, [], ◌∷◌, ◌++◌, length, drop, append-nil, append_assoc, length-append, take-append-drop, Option, Some, None}
 use Rattle.std.specs.Prelude.{◌==◌, ◌&&◌, ◌||◌, codes, if◌then◌else◌, is_some, nat_lt, not, take_while, Result, Ok, Err, ℤ}
 use Rattle.std.specs.List.{AllByRecursion, prefix_len, sum_by}
 use Rattle.std.specs.Str.{bytes_eq}
@@ -8,7 +8,9 @@ use Rattle.std.proofs.lemmas.List.Sums.{sum_by-append, sum_by-cons}
 use Rattle.pg_lemmas.proofs.Bools.{by_bool, if_false, if_true}
 use Rattle.pg_lemmas.proofs.Lists.{some_is}
 use Rattle.pg_lemmas.proofs.Numbers.{less_of}
+use Rattle.pg_list.specs.Barrier.{barrier_body}
 use Rattle.pg_list.specs.declared.item.Item.{Item}
+use Rattle.pg_list.specs.declared.item.Item.TheVariants.{Carry}
 use Rattle.pg_list.specs.declared.variants.Variant.{Variant}
 use Rattle.pg_list.specs.declared.blocks.Block.{Block}
 use Rattle.pg_list.specs.declared.blocks.Block.TheVariants.{One, Choice}
@@ -20,17 +22,18 @@ use Rattle.pg_showbox.specs.Nodes.{node_item}
 use Rattle.pg_showbox.specs.ParsedLine.{block_line, galley_line, listing_line, pointed_at, root_at}
 use Rattle.pg_showbox.specs.Parts.{◌>>=◌}
 use Rattle.pg_showbox.specs.Reading.{in_listing, line_read, said_in}
-use Rattle.pg_showbox.specs.State.{begun_choice, begun_listing, begun_variant, closed, ended, ended_choice, longer_last, next_variant, or_first, placed, placed_block, placed_item, started, step, whole_choice}
+use Rattle.pg_showbox.specs.State.{begun_choice, begun_listing, begun_variant, closed, ended, ended_choice, longer_last, next_variant, or_first, placed, placed_barrier, placed_block, placed_item, started, step, whole_choice}
 use Rattle.pg_showbox.specs.declared.kinds.ListKind.{ListKind}
 use Rattle.pg_showbox.specs.declared.kinds.ListKind.TheVariants.{BadLine, Limit}
 use Rattle.pg_showbox.specs.declared.node.Node.{Node}
+use Rattle.pg_showbox.specs.declared.node.Node.TheVariants as node
 use Rattle.pg_showbox.specs.declared.parsed.ParsedLine.{ParsedLine}
 use Rattle.pg_showbox.specs.declared.parsed.ParsedLine.TheVariants as said
 use Rattle.pg_showbox.specs.declared.state.ReaderState.{ReaderState}
 use Rattle.pg_showbox.specs.declared.state.Within.{Within}
 use Rattle.pg_showbox.specs.declared.state.Within.TheVariants.{Outside, Listing, InChoice, InVariant}
 use Rattle.pg_showbox.proofs.ReadBack.{longer_node}
-use Rattle.law_readers.specs.Galleys.{HasWidth, HaveSameInserts, IsDeeper, IsFirstWidth, IsShaped, Listing as AListing, ListingsAreRead, SaysBlock, SaysBlocks, SaysChoice, SaysItem, SaysVariant, begins_listing, behind_point, further_lines, is_listed, listings}
+use Rattle.law_readers.specs.Galleys.{HasWidth, HaveSameInserts, IsDeeper, IsFirstWidth, IsShaped, Listing as AListing, ListingsAreRead, SaysBarrier, SaysBlock, SaysBlocks, SaysChoice, SaysItem, SaysVariant, begins_listing, behind_point, further_lines, is_listed, listings}
 use Rattle.law_readers.specs.InOrder.{InOrder}
 use Rattle.law_readers.specs.LinesRead.{lines_read}
 use Rattle.law_readers.proofs.Behind.{BeginsBehind, behind, behind_begins, behind_more, behind_none, behind_shorter, front_behind}
@@ -167,43 +170,64 @@ module _ (is_file : Bool) where
         },
       )
 
-  placed_one : (s : ReaderState) (item : Item) → s.within ≡ Listing → s.count < item_limit →
-      placed s s.within item
-      ≡ Ok (record s { blocks = s.blocks ++ One item ∷ []; has_item = true; count = s.count + 1 })
-  unfolding placed placed_block
-  placed_one s item at less =
-      ap (λ (w : Within). placed s w item) at
-      ∙ if_true (nat_lt s.count item_limit)
+  next_block : (s : ReaderState) (item : Item) → s.count < item_limit →
+      placed_block s item ≡ Ok (record s { blocks = s.blocks ++ One item ∷ []; has_item = true; count = s.count + 1 })
+  unfolding placed_block
+  next_block s item less = if_true (nat_lt s.count item_limit)
       (Ok (record s { blocks = s.blocks ++ One item ∷ []; has_item = true; count = s.count + 1 })) (Err Limit)
       (less_of s.count item_limit less)
 
-  item_goes : (s : ReaderState) (lines : List (List ℕ)) (item : Item) → SaysItem lines item → s.within ≡ Listing →
-      s.count < item_limit → (u : ReaderState) × Goes s lines u × Blocks s u (One item ∷ [])
-  unfolding step
-  item_goes s lines item says at less =
-      let (u, goes, is) = deepen says.deeper (record s {
-        blocks = s.blocks ++ One (node_item says.node (behind_point says.first)) ∷ [];
-        has_item = true;
-        count = s.count + 1;
-      }) s.blocks says.node (behind_point says.first) says.goes_on at refl refl in (
+  placed_one : (s : ReaderState) (item : Item) → s.within ≡ Listing → s.count < item_limit →
+      placed s s.within item
+      ≡ Ok (record s { blocks = s.blocks ++ One item ∷ []; has_item = true; count = s.count + 1 })
+  unfolding placed
+  placed_one s item at less = ap (λ (w : Within). placed s w item) at ∙ next_block s item less
+
+  barrier_placed : (s : ReaderState) → s.within ≡ Listing → s.count < item_limit → placed_barrier s s.within
+      ≡ Ok (record s { blocks = s.blocks ++ One (Carry barrier_body) ∷ []; has_item = true; count = s.count + 1 })
+  unfolding placed_barrier
+  barrier_placed s at less = ap (λ (w : Within). placed_barrier s w) at ∙ next_block s (Carry barrier_body) less
+
+  -- an item whose first line places it with this body
+  lines_go : (s : ReaderState) (lines deeper : List (List ℕ)) (first : List ℕ) (node : Node) (body : List ℕ)
+      (item : Item) → lines ≡ first ∷ deeper → item ≡ node_item node (body ++ further_lines deeper) →
+      line_read is_file s first
+      ≡ Ok (record s { blocks = s.blocks ++ One (node_item node body) ∷ []; has_item = true; count = s.count + 1 }) →
+      AllByRecursion IsDeeper deeper → s.within ≡ Listing →
+      (u : ReaderState) × Goes s lines u × Blocks s u (One item ∷ [])
+  lines_go s lines deeper first node body item are whole reads goes_on at =
+      let (u, goes, is) = deepen deeper
+      (record s { blocks = s.blocks ++ One (node_item node body) ∷ []; has_item = true; count = s.count + 1 })
+      s.blocks node body goes_on at refl refl in (
         u,
-        subst (λ (l : List (List ℕ)). Goes s l u) (sym says.are) (
-          record s {
-            blocks = s.blocks ++ One (node_item says.node (behind_point says.first)) ∷ [];
-            has_item = true;
-            count = s.count + 1;
-          },
-          read_listed is_file s says.first (said.Item says.node) (inside_of Listing s.within at refl) says.says
-              ∙ placed_one s (node_item says.node (behind_point says.first)) at less,
+        subst (λ (l : List (List ℕ)). Goes s l u) (sym are) (
+          record s { blocks = s.blocks ++ One (node_item node body) ∷ []; has_item = true; count = s.count + 1 },
+          reads,
           goes,
         ),
         record {
           within = is.within;
           width = is.width;
-          are = is.are ∙ ap (λ (it : Item). s.blocks ++ One it ∷ []) (sym says.is);
+          are = is.are ∙ ap (λ (it : Item). s.blocks ++ One it ∷ []) (sym whole);
           count = (let total = is.count in let one = one_count (One item) in omega (arith, total, one));
         },
       )
+
+  item_goes : (s : ReaderState) (lines : List (List ℕ)) (item : Item) → SaysItem lines item → s.within ≡ Listing →
+      s.count < item_limit → (u : ReaderState) × Goes s lines u × Blocks s u (One item ∷ [])
+  unfolding step
+  item_goes s lines item says at less =
+      lines_go s lines says.deeper says.first says.node (behind_point says.first) item says.are says.is
+      (read_listed is_file s says.first (said.Item says.node) (inside_of Listing s.within at refl) says.says
+      ∙ placed_one s (node_item says.node (behind_point says.first)) at less) says.goes_on at
+
+  barrier_goes : (s : ReaderState) (lines : List (List ℕ)) (item : Item) → SaysBarrier lines item →
+      s.within ≡ Listing → s.count < item_limit → (u : ReaderState) × Goes s lines u × Blocks s u (One item ∷ [])
+  unfolding step
+  barrier_goes s lines item says at less =
+      lines_go s lines says.deeper says.first node.Carry barrier_body item says.are says.is
+      (read_listed is_file s says.first said.Barrier (inside_of Listing s.within at refl) says.says
+      ∙ barrier_placed s at less) says.goes_on at
 
   -- ---- an item of a variant
 
@@ -555,7 +579,8 @@ module _ (is_file : Bool) where
 
   block_goes : (block : Block) (s : ReaderState) (lines : List (List ℕ)) → SaysBlock lines block → s.within ≡ Listing →
       s.count + block_size block ≤ item_limit → (u : ReaderState) × Goes s lines u × Blocks s u (block ∷ [])
-  block_goes (One item) s lines says at room = item_goes s lines item says at (omega (arith, room))
+  block_goes (One item) s lines (inl says) at room = item_goes s lines item says at (omega (arith, room))
+  block_goes (One item) s lines (inr says) at room = barrier_goes s lines item says at (omega (arith, room))
   block_goes (Choice variants) s lines says at room = choice_goes s lines variants says at room
 
   pub blocks_go : (blocks : List Block) (s : ReaderState) (lines : List (List ℕ)) → InOrder SaysBlock lines blocks →

@@ -2,7 +2,9 @@
 use Rattle.std.specs.Prelude.{◌≡◌, ◌≤◌, ◌⊎◌, ◌↔◌, ℕ, ◌||◌, Bool, true, false, not, if◌then◌else◌, is_some, take_while, codes, List, [], ◌∷◌, ◌++◌, length, Option, None, Some, Ok, Err, ℤ}
 use Rattle.std.specs.List.{AllByRecursion}
 use Rattle.std.specs.Str.{bytes_eq}
+use Rattle.pg_list.specs.Barrier.{barrier_body}
 use Rattle.pg_list.specs.declared.item.Item.{Item}
+use Rattle.pg_list.specs.declared.item.Item.TheVariants.{Carry}
 use Rattle.pg_list.specs.declared.variants.Variant.{Variant}
 use Rattle.pg_list.specs.declared.blocks.Block.{Block}
 use Rattle.pg_list.specs.declared.blocks.Block.TheVariants.{One, Choice}
@@ -44,6 +46,15 @@ pub record SaysItem (lines : List (List ℕ)) (item : Item) : Type 0 where
   pub goes_on : AllByRecursion IsDeeper deeper
   pub is : item ≡ node_item node (behind_point first ++ further_lines deeper)
 
+-- the first line is a barrier, deeper lines follow it, and the body is all of them without their first points
+pub record SaysBarrier (lines : List (List ℕ)) (item : Item) : Type 0 where
+  pub first : List ℕ
+  pub deeper : List (List ℕ)
+  pub are : lines ≡ first ∷ deeper
+  pub says : block_line first ≡ Ok said.Barrier
+  pub goes_on : AllByRecursion IsDeeper deeper
+  pub is : item ≡ Carry (barrier_body ++ further_lines deeper)
+
 -- ---- choices
 
 -- a marker with looseness and demerits, and the lines of the items of the variant
@@ -78,9 +89,9 @@ pub record SaysChoice (lines : List (List ℕ)) (variants : List Variant) : Type
   pub shaped : AllByRecursion IsShaped variants
   pub inserts : HaveSameInserts variants
 
--- the lines of an item, or of a choice
+-- the lines of an item, of a barrier, or of a choice
 abbrev pub SaysBlock : List (List ℕ) → Block → Type 0
-SaysBlock lines (One item) = SaysItem lines item
+SaysBlock lines (One item) = SaysItem lines item ⊎ SaysBarrier lines item
 SaysBlock lines (Choice variants) = SaysChoice lines variants
 
 -- ---- listings

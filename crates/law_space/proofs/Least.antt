@@ -224,6 +224,7 @@ module _ (doc : Document) (u : State) (m : PageMove) (v : State) (c : ℤ) (f : 
           wide = f.stands.wide;
           deals = f.stands.deals;
           callouts = f.stands.callouts;
+          barriers = f.stands.barriers;
           rules = record {
             fits = t1.0;
             well_formed = t2.0;

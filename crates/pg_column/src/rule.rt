@@ -23,7 +23,7 @@ pub enum TextRule {
 }
 
 impl TextRule {
-    /// The number of the rule among the thirteen.
+    /// The number of the rule among those of a legal pagination.
     pub fn number(self) -> u8
         ensures { result ≡ rule_number self }
     {

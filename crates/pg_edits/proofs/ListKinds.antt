@@ -14,7 +14,7 @@ use Rattle.pg_showbox.specs.Nodes.{amount_at, box_at, carry_or_unknown, glue_at,
 use Rattle.pg_showbox.specs.ParsedLine.{block_line, marker_at, or_shape, pointed_at, variant_at}
 use Rattle.pg_showbox.specs.Parts.{◌>>=◌, class_at, digits_at, due, fixed_size, or_bad, past_width, size_at, size_from, whole_at}
 use Rattle.pg_showbox.specs.Reading.{at_line, line_read, run, said_in, then_ok}
-use Rattle.pg_showbox.specs.State.{begun_choice, begun_listing, begun_variant, closed, ended, ended_choice, longer_last, next_variant, placed, placed_block, placed_item, started, step, whole_choice}
+use Rattle.pg_showbox.specs.State.{begun_choice, begun_listing, begun_variant, closed, ended, ended_choice, longer_last, next_variant, placed, placed_barrier, placed_block, placed_item, started, step, whole_choice}
 use Rattle.pg_showbox.specs.declared.kinds.ListFault.{ListFault}
 use Rattle.pg_showbox.specs.declared.kinds.ListKind.{ListKind}
 use Rattle.pg_showbox.specs.declared.kinds.ListKind.TheVariants.{BadLine, UnknownNode, BadNumber, OutOfRange, Truncated, InfiniteShrink, RunningSize, NegativeSize, ChoiceShape, ChoiceInserts, Limit}
@@ -245,6 +245,13 @@ placed_named s Listing item = search named
 placed_named s InChoice item = search named
 placed_named s (InVariant looseness demerits) item = search named
 
+barrier_named : (s : ReaderState) (within : Within) → Named (placed_barrier s within)
+unfolding placed_barrier placed_block
+barrier_named s Outside = search named
+barrier_named s Listing = search named
+barrier_named s InChoice = search named
+barrier_named s (InVariant looseness demerits) = search named
+
 longer_named : (s : ReaderState) (within : Within) (line : List ℕ) → Named (longer_last s within line)
 unfolding longer_last
 longer_named s within line = search named
@@ -296,6 +303,7 @@ step_named s said.Nothing line = search named
 step_named s said.Blank line = search ended_named
 step_named s (said.Root width) line = search listing_named
 step_named s (said.Item node) line = search placed_named
+step_named s said.Barrier line = search barrier_named
 step_named s said.Deeper line = search longer_named
 step_named s said.ChoiceMark line = search choice_named
 step_named s (said.VariantMark looseness demerits) line = search begun_named

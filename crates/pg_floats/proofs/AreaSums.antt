@@ -22,7 +22,7 @@ use Rattle.pg_floats.specs.declared.callouts.Callout.{Callout}
 use Rattle.pg_floats.specs.AreFloats.{AreFloats, height_of}
 use Rattle.pg_floats.specs.Areas.{sizes_together, next_of, has_next, has_dealt, dealt_count, dealt_sizes, area_size}
 use Rattle.pg_floats.specs.Areas.{IsDealt}
-use Rattle.pg_floats.specs.Callouts.{callouts_from, class_floats}
+use Rattle.pg_floats.specs.Callouts.{callouts_from, class_floats, no_barrier}
 use Rattle.pg_floats.specs.FloatsValue.{ClassFloatsValue, IsInRange, total_of}
 use Rattle.pg_floats.proofs.Lists.{size_of, sizes_from, flat_first}
 use Rattle.pg_lemmas.proofs.Numbers.{length_is}
@@ -133,8 +133,8 @@ unfolding sizes_of_all
 the_floats_are blocks [] all = refl
 the_floats_are blocks (number ∷ numbers) all =
     ap (λ (xs : List ℤ). xs ∷ map (λ number. sizes_of number (flat blocks [])) numbers)
-    (ap (λ (xs : List Item). sizes_of number xs) (flat_first blocks) ∙ sym (sizes_from number 0 blocks all))
-    ∙ ap (λ (xs : List (List ℤ)). map size_of (callouts_from number 0 blocks) ∷ xs) (the_floats_are blocks numbers all)
+    (ap (λ (xs : List Item). sizes_of number xs) (flat_first blocks) ∙ sym (sizes_from number no_barrier 0 blocks all))
+    ∙ ap (λ (xs : List (List ℤ)). map size_of (callouts_from number no_barrier 0 blocks) ∷ xs) (the_floats_are blocks numbers all)
 
 -- ---- the height
 

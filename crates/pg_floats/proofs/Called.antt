@@ -7,6 +7,7 @@ use Rattle.std.specs.Option.{option_map_or}
 use Rattle.std.specs.List.{AllByRecursion, cons_option}
 use Rattle.std.specs.List.Sorted.{IsPartitionedBy, IsPartitionPoint}
 use Rattle.std.proofs.lemmas.Bool.Decides.{nat_tests}
+use Rattle.pg_list.specs.Barrier.{is_barrier}
 use Rattle.pg_list.specs.declared.item.Item.{Item}
 use Rattle.pg_list.specs.declared.blocks.Block.{Block}
 use Rattle.pg_list.specs.declared.galley.Place.{Place}
@@ -14,11 +15,11 @@ use Rattle.pg_list.specs.Places.{picked_items, items_around}
 use Rattle.pg_list.specs.Shapes.{IsBlock}
 use Rattle.pg_list.specs.Flat.{flat, items_before}
 use Rattle.pg_style.specs.Values.{StyleValue}
-use Rattle.pg_rules.specs.Floats.{sizes_of, insert_size, float_numbers, called, entry}
+use Rattle.pg_rules.specs.Floats.{sizes_of, insert_size, float_numbers, entry}
 use Rattle.law_places.proofs.Measures.{inserted_append}
 use Rattle.pg_floats.specs.declared.callouts.Callout.{Callout}
 use Rattle.pg_floats.specs.AreFloats.{AreFloats, float_size}
-use Rattle.pg_floats.specs.Callouts.{callouts_in, callouts_from, class_floats}
+use Rattle.pg_floats.specs.Callouts.{callouts_in, callouts_from, class_floats, next_barrier, no_barrier}
 use Rattle.pg_floats.specs.FloatsValue.{ClassFloatsValue, callout_at}
 use Rattle.pg_floats.proofs.Parts.{found, take_short}
 use Rattle.pg_floats.proofs.Lists.{length_from, sizes_from, size_of, flat_first}
@@ -27,49 +28,71 @@ use Rattle.pg_lemmas.proofs.Numbers.{less_of}
 
 -- ---- the callouts of a class stand by block
 
-in_block : (P : ℕ → Type 0) (number b : ℕ) (items : List Item) → P b →
-    AllByRecursion (λ (c : Callout). P c.block) (callouts_in number b items)
-in_block P number b [] h = tt
-in_block P number b (item ∷ items) h =
-    by (insert_size number item) (callouts_in number b items) (in_block P number b items h)
+in_block : (P : ℕ → Type 0) (number b k : ℕ) (items : List Item) → P b →
+    AllByRecursion (λ (c : Callout). P c.block) (callouts_in number b k items)
+in_block P number b k [] h = tt
+in_block P number b k (item ∷ items) h =
+    by (insert_size number item) (callouts_in number b k items) (in_block P number b k items h)
   where
     by : (o : Option ℤ) (xs : List Callout) → AllByRecursion (λ (c : Callout). P c.block) xs →
         AllByRecursion (λ (c : Callout). P c.block)
-        (cons_option (option_map (λ (size : ℤ). record { block = b; size = unsigned_abs size }) o) xs)
+        (cons_option (option_map (λ (size : ℤ). record { block = b; barrier = k; size = unsigned_abs size }) o) xs)
     by None xs a = a
     by (Some z) xs a = (h, a)
 
-lt_no : (m n : ℕ) → n ≤ m → nat_lt m n ≡ false
+pub lt_no : (m n : ℕ) → n ≤ m → nat_lt m n ≡ false
 lt_no m n h = grind (arith, nat_tests)
 
-all_below : (number b n : ℕ) (blocks : List Block) → n + length blocks ≤ b →
-    AllByRecursion (λ (c : Callout). nat_lt c.block b ≡ true) (callouts_from number n blocks)
-all_below number b n [] h = tt
-all_below number b n (block ∷ blocks) h =
-    all_append _ (callouts_in number n (picked_items block 0)) (callouts_from number (n + 1) blocks)
-    (in_block (λ m. nat_lt m b ≡ true) number n (picked_items block 0) (less_of n b (omega (arith, h))))
-    (all_below number b (n + 1) blocks (omega (arith, h)))
+all_below : (number past b n : ℕ) (blocks : List Block) → n + length blocks ≤ b →
+    AllByRecursion (λ (c : Callout). nat_lt c.block b ≡ true) (callouts_from number past n blocks)
+all_below number past b n [] h = tt
+all_below number past b n (block ∷ blocks) h =
+    all_append _ (callouts_in number n (next_barrier past n (block ∷ blocks)) (picked_items block 0))
+    (callouts_from number past (n + 1) blocks)
+    (in_block (λ m. nat_lt m b ≡ true) number n (next_barrier past n (block ∷ blocks)) (picked_items block 0)
+    (less_of n b (omega (arith, h))))
+    (all_below number past b (n + 1) blocks (omega (arith, h)))
 
-all_above : (number b n : ℕ) (blocks : List Block) → b ≤ n →
-    AllByRecursion (λ (c : Callout). nat_lt c.block b ≡ false) (callouts_from number n blocks)
-all_above number b n [] h = tt
-all_above number b n (block ∷ blocks) h =
-    all_append _ (callouts_in number n (picked_items block 0)) (callouts_from number (n + 1) blocks)
-    (in_block (λ m. nat_lt m b ≡ false) number n (picked_items block 0) (lt_no n b h))
-    (all_above number b (n + 1) blocks (omega (arith, h)))
+all_above : (number past b n : ℕ) (blocks : List Block) → b ≤ n →
+    AllByRecursion (λ (c : Callout). nat_lt c.block b ≡ false) (callouts_from number past n blocks)
+all_above number past b n [] h = tt
+all_above number past b n (block ∷ blocks) h =
+    all_append _ (callouts_in number n (next_barrier past n (block ∷ blocks)) (picked_items block 0))
+    (callouts_from number past (n + 1) blocks)
+    (in_block (λ m. nat_lt m b ≡ false) number n (next_barrier past n (block ∷ blocks)) (picked_items block 0)
+    (lt_no n b h))
+    (all_above number past b (n + 1) blocks (omega (arith, h)))
 
-cut : (number b n : ℕ) (blocks : List Block) →
-    callouts_from number n blocks ≡ callouts_from number n (take b blocks)
-    ++ callouts_from number (n + length (take b blocks)) (drop b blocks)
-cut number zero n blocks = ap (λ m. callouts_from number m blocks) (omega arith)
-cut number (suc b) n [] = refl
-cut number (suc b) n (block ∷ blocks) =
+-- the first barrier behind the blocks up to the b-th
+abbrev past_cut : ℕ → ℕ → ℕ → List Block → ℕ
+past_cut past b n blocks = next_barrier past (n + length (take b blocks)) (drop b blocks)
+
+next_cut : (past b n : ℕ) (blocks : List Block) →
+    next_barrier past n blocks ≡ next_barrier (past_cut past b n blocks) n (take b blocks)
+next_cut past zero n blocks = ap (λ m. next_barrier past m blocks) (omega arith)
+next_cut past (suc b) n [] = refl
+next_cut past (suc b) n (block ∷ blocks) =
     let e : n + 1 + length (take b blocks) ≡ n + suc (length (take b blocks)) = omega arith in
-    ap (λ xs. callouts_in number n (picked_items block 0) ++ xs)
-    (cut number b (n + 1) blocks
-    ∙ ap (λ m. callouts_from number (n + 1) (take b blocks) ++ callouts_from number m (drop b blocks)) e)
-    ∙ sym (append_assoc (callouts_in number n (picked_items block 0)) (callouts_from number (n + 1) (take b blocks))
-    (callouts_from number (n + suc (length (take b blocks))) (drop b blocks)))
+    ap (λ m. if is_barrier block then n else m) (next_cut past b (n + 1) blocks
+    ∙ ap (λ m. next_barrier (next_barrier past m (drop b blocks)) (n + 1) (take b blocks)) e)
+
+cut : (number past b n : ℕ) (blocks : List Block) →
+    callouts_from number past n blocks ≡ callouts_from number (past_cut past b n blocks) n (take b blocks)
+    ++ callouts_from number past (n + length (take b blocks)) (drop b blocks)
+cut number past zero n blocks = ap (λ m. callouts_from number past m blocks) (omega arith)
+cut number past (suc b) n [] = refl
+cut number past (suc b) n (block ∷ blocks) =
+    let e : n + 1 + length (take b blocks) ≡ n + suc (length (take b blocks)) = omega arith in
+    let own : List Callout = callouts_in number n (next_barrier past n (block ∷ blocks)) (picked_items block 0) in
+    ap (λ xs. own ++ xs) (cut number past b (n + 1) blocks
+    ∙ ap (λ m. callouts_from number (next_barrier past m (drop b blocks)) (n + 1) (take b blocks)
+    ++ callouts_from number past m (drop b blocks)) e)
+    ∙ sym (append_assoc own (callouts_from number (past_cut past (suc b) n (block ∷ blocks)) (n + 1) (take b blocks))
+    (callouts_from number past (n + suc (length (take b blocks))) (drop b blocks)))
+    ∙ ap (λ k. (callouts_in number n k (picked_items block 0)
+    ++ callouts_from number (past_cut past (suc b) n (block ∷ blocks)) (n + 1) (take b blocks))
+    ++ callouts_from number past (n + suc (length (take b blocks))) (drop b blocks))
+    (next_cut past (suc b) n (block ∷ blocks))
 
 cut_long : (b : ℕ) (blocks : List Block) → (drop b blocks ≡ []) ⊎ (length (take b blocks) ≡ b)
 cut_long zero blocks = inr refl
@@ -81,30 +104,30 @@ all_take zero blocks all = tt
 all_take (suc b) [] all = tt
 all_take (suc b) (block ∷ blocks) all = (all.0, all_take b blocks all.1)
 
-rest_above : (number b : ℕ) (blocks : List Block) →
+rest_above : (number past b : ℕ) (blocks : List Block) →
     AllByRecursion (λ (c : Callout). nat_lt c.block b ≡ false)
-    (callouts_from number (0 + length (take b blocks)) (drop b blocks))
-rest_above number b blocks = elim (cut_long b blocks) [
+    (callouts_from number past (0 + length (take b blocks)) (drop b blocks))
+rest_above number past b blocks = elim (cut_long b blocks) [
   | inl none ↦ subst (λ (rest : List Block). AllByRecursion (λ (c : Callout). nat_lt c.block b ≡ false)
-      (callouts_from number (0 + length (take b blocks)) rest)) (sym none) tt
-  | inr long ↦ all_above number b (0 + length (take b blocks)) (drop b blocks) (omega (arith, long))
+      (callouts_from number past (0 + length (take b blocks)) rest)) (sym none) tt
+  | inr long ↦ all_above number past b (0 + length (take b blocks)) (drop b blocks) (omega (arith, long))
 ]
 
-pub above_is : (number b n : ℕ) (blocks : List Block) → AllByRecursion IsBlock blocks →
-    n ≤ length (callouts_from number 0 blocks) →
-    (IsPartitionedBy (λ (c : Callout). nat_lt c.block b) (callouts_from number 0 blocks) →
+pub above_is : (number past b n : ℕ) (blocks : List Block) → AllByRecursion IsBlock blocks →
+    n ≤ length (callouts_from number past 0 blocks) →
+    (IsPartitionedBy (λ (c : Callout). nat_lt c.block b) (callouts_from number past 0 blocks) →
     IsPartitionPoint (λ (c : Callout). nat_lt c.block b ≡ true) (λ (c : Callout). nat_lt c.block b ≡ false)
-    (callouts_from number 0 blocks) n) →
+    (callouts_from number past 0 blocks) n) →
     n ≡ length (sizes_of number (flat (take b blocks) []))
-above_is number b n blocks all le point =
+above_is number past b n blocks all le point =
     let p : Callout → Bool = λ c. nat_lt c.block b in
-    let xs : List Callout = callouts_from number 0 (take b blocks) in
-    let ys : List Callout = callouts_from number (0 + length (take b blocks)) (drop b blocks) in
-    let e : callouts_from number 0 blocks ≡ xs ++ ys = cut number b 0 blocks in
-    let a = all_below number b 0 (take b blocks) (omega (arith, take_short b blocks)) in
-    found p (record { block = 0; size = 0 }) xs ys (callouts_from number 0 blocks) n e a (rest_above number b blocks)
-    le point
-    ∙ length_from number 0 (take b blocks) (all_take b blocks all)
+    let xs : List Callout = callouts_from number (past_cut past b 0 blocks) 0 (take b blocks) in
+    let ys : List Callout = callouts_from number past (0 + length (take b blocks)) (drop b blocks) in
+    let e : callouts_from number past 0 blocks ≡ xs ++ ys = cut number past b 0 blocks in
+    let a = all_below number (past_cut past b 0 blocks) b 0 (take b blocks) (omega (arith, take_short b blocks)) in
+    found p (record { block = 0; barrier = 0; size = 0 }) xs ys (callouts_from number past 0 blocks) n e a
+    (rest_above number past b blocks) le point
+    ∙ length_from number (past_cut past b 0 blocks) 0 (take b blocks) (all_take b blocks all)
 
 -- ---- with the items of the variant
 
@@ -155,25 +178,23 @@ entry_none blocks f [] slot e = refl
 entry_none blocks f (n ∷ numbers) zero e = absurd (cc)
 entry_none blocks f (n ∷ numbers) (suc slot) e = entry_none blocks f numbers slot e
 
-pub called_none : (blocks : List Block) (style : StyleValue) (at : Place) (list : List ClassFloatsValue)
+-- what is counted class by class, where the list has no such slot
+pub counted_none : (blocks : List Block) (style : StyleValue) (count : ℕ → ℕ) (list : List ClassFloatsValue)
     (slot : ℕ) → AreFloats blocks style list →
-    slice_get list slot ≡ None → 0 ≡ entry (called blocks style at) slot
-called_none blocks style at list slot are e =
-    sym (entry_none blocks (λ number. length (sizes_of number (items_before blocks at))) (float_numbers style) slot
-    (ap (λ xs. slice_get xs slot) (sym are.floats_are) ∙ e))
+    slice_get list slot ≡ None → 0 ≡ entry (map count (float_numbers style)) slot
+counted_none blocks style count list slot are e =
+    sym (entry_none blocks count (float_numbers style) slot (ap (λ xs. slice_get xs slot) (sym are.floats_are) ∙ e))
 
-pub called_some : (blocks : List Block) (style : StyleValue) (at : Place) (list : List ClassFloatsValue)
+-- and where it has
+pub counted_some : (blocks : List Block) (style : StyleValue) (count : ℕ → ℕ) (list : List ClassFloatsValue)
     (slot n : ℕ) (kept : ClassFloatsValue) → AreFloats blocks style list →
     slice_get list slot ≡ Some kept →
-    ((blocks : List Block) (number : ℕ) → AllByRecursion IsBlock blocks → kept ≡ class_floats blocks number →
-    n ≡ length (sizes_of number (items_before blocks at))) →
-    n ≡ entry (called blocks style at) slot
-called_some blocks style at list slot n kept are e count =
+    ((number : ℕ) → AllByRecursion IsBlock blocks → kept ≡ class_floats blocks number → n ≡ count number) →
+    n ≡ entry (map count (float_numbers style)) slot
+counted_some blocks style count list slot n kept are e counts =
     let is = slot_is blocks (float_numbers style) slot kept (ap (λ xs. slice_get xs slot) (sym are.floats_are)
     ∙ e) in
-    count blocks is.number are.shape is.same
-    ∙ sym (entry_at (λ number. length (sizes_of number (items_before blocks at)))
-    (float_numbers style) slot is.number is.there)
+    counts is.number are.shape is.same ∙ sym (entry_at count (float_numbers style) slot is.number is.there)
 
 -- ---- sizes
 
@@ -196,7 +217,7 @@ size_is blocks style list slot number are =
         (slice_get (map (λ number. sizes_of number (flat blocks [])) numbers) slot) None
     by [] slot = refl
     by (n ∷ numbers) zero =
-        sym (mapped_at size_of (callouts_from n 0 blocks) number)
-        ∙ (ap (λ (xs : List ℤ). slice_get xs number) (sizes_from n 0 blocks are.shape)
+        sym (mapped_at size_of (callouts_from n no_barrier 0 blocks) number)
+        ∙ (ap (λ (xs : List ℤ). slice_get xs number) (sizes_from n no_barrier 0 blocks are.shape)
         ∙ ap (λ (xs : List Item). slice_get (sizes_of n xs) number) (sym (flat_first blocks)))
     by (n ∷ numbers) (suc slot) = by numbers slot

@@ -1,5 +1,6 @@
 pub mod AreaSums
 pub mod Called
+mod Flushed
 pub mod Lists
 pub mod Numbers
 pub mod Parts

@@ -29,7 +29,7 @@ use Rattle.pg_floats.specs.declared.fault.FloatFault.{FloatFault}
 use Rattle.pg_floats.specs.declared.fault.FloatFault.TheVariants.{Class as FaultClass, Limit, Memory}
 use Rattle.pg_floats.specs.AreFloats.{AreFloats, HasFloats, IsWithinLimit, float_total}
 use Rattle.pg_floats.specs.FloatsValue.{ClassFloatsValue, total_of}
-use Rattle.pg_floats.specs.Callouts.{callouts_in, callouts_from, class_floats, first_items, insert_class, unknown_among}
+use Rattle.pg_floats.specs.Callouts.{callouts_in, callouts_from, class_floats, first_items, insert_class, next_barrier, no_barrier, unknown_among}
 use Rattle.pg_floats.specs.Callouts.{unknown_blocks, lists_from}
 use Rattle.pg_list.proofs.Sizes.{picked_le}
 use Rattle.law_places.proofs.Sizes.{sizes_few}
@@ -51,7 +51,7 @@ first_from n (Choice variants ∷ blocks) =
 pub flat_first : (blocks : List Block) → flat blocks [] ≡ first_items blocks
 flat_first blocks = first_from 0 blocks
 
-picked_range : (block : Block) → IsBlock block → AllByRecursion IsItemInRange (picked_items block 0)
+pub picked_range : (block : Block) → IsBlock block → AllByRecursion IsItemInRange (picked_items block 0)
 picked_range (One item) is = (is, tt)
 picked_range (Choice []) is = tt
 picked_range (Choice (variant ∷ variants)) is = is.ranges.0
@@ -61,40 +61,41 @@ picked_range (Choice (variant ∷ variants)) is = is.ranges.0
 abbrev pub size_of : Callout → ℤ
 size_of callout = pos callout.size
 
-sizes_in : (number b : ℕ) (items : List Item) → AllByRecursion IsItemInRange items →
-    map size_of (callouts_in number b items) ≡ sizes_of number items
-sizes_in number b [] all = refl
-sizes_in number b (BoxItem h d body ∷ items) all = sizes_in number b items all.1
-sizes_in number b (Rule h d body ∷ items) all = sizes_in number b items all.1
-sizes_in number b (Glue w s o k body ∷ items) all = sizes_in number b items all.1
-sizes_in number b (Kern w body ∷ items) all = sizes_in number b items all.1
-sizes_in number b (Penalty v body ∷ items) all = sizes_in number b items all.1
-sizes_in number b (Insert c z body ∷ items) all =
-    by (c == number) (callouts_in number b items) (sizes_of number items) (sizes_in number b items all.1)
+pub sizes_in : (number b k : ℕ) (items : List Item) → AllByRecursion IsItemInRange items →
+    map size_of (callouts_in number b k items) ≡ sizes_of number items
+sizes_in number b k [] all = refl
+sizes_in number b k (BoxItem h d body ∷ items) all = sizes_in number b k items all.1
+sizes_in number b k (Rule h d body ∷ items) all = sizes_in number b k items all.1
+sizes_in number b k (Glue w s o r body ∷ items) all = sizes_in number b k items all.1
+sizes_in number b k (Kern w body ∷ items) all = sizes_in number b k items all.1
+sizes_in number b k (Penalty v body ∷ items) all = sizes_in number b k items all.1
+sizes_in number b k (Insert c z body ∷ items) all =
+    by (c == number) (callouts_in number b k items) (sizes_of number items) (sizes_in number b k items all.1)
   where
     by : (t : Bool) (xs : List Callout) (ys : List ℤ) → map size_of xs ≡ ys →
         map size_of (cons_option
-        (option_map (λ (size : ℤ). record { block = b; size = unsigned_abs size })
+        (option_map (λ (size : ℤ). record { block = b; barrier = k; size = unsigned_abs size })
         (if t then Some z else None)) xs) ≡ cons_option (if t then Some z else None) ys
     by true xs ys e = let from = all.0.1 in let same : pos (unsigned_abs z) ≡ z = omega (arith, ints, from) in cc
     by false xs ys e = e
-sizes_in number b (Carry body ∷ items) all = sizes_in number b items all.1
+sizes_in number b k (Carry body ∷ items) all = sizes_in number b k items all.1
 
-pub sizes_from : (number n : ℕ) (blocks : List Block) → AllByRecursion IsBlock blocks →
-    map size_of (callouts_from number n blocks) ≡ sizes_of number (first_items blocks)
-sizes_from number n [] all = refl
-sizes_from number n (block ∷ blocks) all =
-    map-append size_of (callouts_in number n (picked_items block 0)) (callouts_from number (n + 1) blocks)
-    ∙ (ap (λ (xs : List ℤ). xs ++ map size_of (callouts_from number (n + 1) blocks))
-    (sizes_in number n (picked_items block 0) (picked_range block all.0))
-    ∙ (ap (λ (xs : List ℤ). sizes_of number (picked_items block 0) ++ xs) (sizes_from number (n + 1) blocks all.1)
+pub sizes_from : (number past n : ℕ) (blocks : List Block) → AllByRecursion IsBlock blocks →
+    map size_of (callouts_from number past n blocks) ≡ sizes_of number (first_items blocks)
+sizes_from number past n [] all = refl
+sizes_from number past n (block ∷ blocks) all =
+    map-append size_of (callouts_in number n (next_barrier past n (block ∷ blocks)) (picked_items block 0))
+    (callouts_from number past (n + 1) blocks)
+    ∙ (ap (λ (xs : List ℤ). xs ++ map size_of (callouts_from number past (n + 1) blocks))
+    (sizes_in number n (next_barrier past n (block ∷ blocks)) (picked_items block 0) (picked_range block all.0))
+    ∙ (ap (λ (xs : List ℤ). sizes_of number (picked_items block 0) ++ xs) (sizes_from number past (n + 1) blocks all.1)
     ∙ sym (filter_map-append (insert_size number) (picked_items block 0) (first_items blocks))))
 
-pub length_from : (number n : ℕ) (blocks : List Block) → AllByRecursion IsBlock blocks →
-    length (callouts_from number n blocks) ≡ length (sizes_of number (flat blocks []))
-length_from number n blocks all =
-    sym (length-map (callouts_from number n blocks) size_of)
-    ∙ (ap length (sizes_from number n blocks all)
+pub length_from : (number past n : ℕ) (blocks : List Block) → AllByRecursion IsBlock blocks →
+    length (callouts_from number past n blocks) ≡ length (sizes_of number (flat blocks []))
+length_from number past n blocks all =
+    sym (length-map (callouts_from number past n blocks) size_of)
+    ∙ (ap length (sizes_from number past n blocks all)
     ∙ ap (λ (xs : List Item). length (sizes_of number xs)) (sym (flat_first blocks)))
 
 -- ---- how many
@@ -115,10 +116,10 @@ first_few (block ∷ blocks) =
       sum_by-cons block_size block blocks,
     )
 
-pub class_few : (number n : ℕ) (blocks : List Block) → AllByRecursion IsBlock blocks →
-    length (callouts_from number n blocks) ≤ item_count blocks
-class_few number n blocks all =
-    let e = length_from number n blocks all in
+pub class_few : (number past n : ℕ) (blocks : List Block) → AllByRecursion IsBlock blocks →
+    length (callouts_from number past n blocks) ≤ item_count blocks
+class_few number past n blocks all =
+    let e = length_from number past n blocks all in
     let f = ap (λ (xs : List Item). length (sizes_of number xs)) (flat_first blocks) in
     omega (arith, e, f, sizes_few number (first_items blocks), first_few blocks)
 
@@ -141,7 +142,7 @@ total_few blocks (class ∷ classes) all =
     by : (t : Bool) (xs : List Class) → total_of (map (class_list blocks) xs) ≤ item_count blocks * length classes →
         total_of (map (class_list blocks) (if t then class ∷ xs else xs)) ≤ item_count blocks * suc (length classes)
     by true xs h =
-        let one = class_few class.number 0 blocks all in
+        let one = class_few class.number no_barrier 0 blocks all in
         let s = sum_by-cons (λ (floats : ClassFloatsValue). length floats.callouts) (class_list blocks class)
         (map (class_list blocks) xs) in
         omega (arith, one, s, h)
@@ -187,7 +188,7 @@ the_total_is blocks [] all = refl
 the_total_is blocks (number ∷ numbers) all =
     sum_by-cons (λ (floats : ClassFloatsValue). length floats.callouts) (class_floats blocks number)
     (map (class_floats blocks) numbers)
-    ∙ (ap (λ n. n + total_of (map (class_floats blocks) numbers)) (length_from number 0 blocks all)
+    ∙ (ap (λ n. n + total_of (map (class_floats blocks) numbers)) (length_from number no_barrier 0 blocks all)
     ∙ (ap (λ n. length (sizes_of number (flat blocks [])) + n) (the_total_is blocks numbers all)
     ∙ sym (sum_by-cons (λ (sizes : List ℤ). length sizes) (sizes_of number (flat blocks []))
     (map (λ number. sizes_of number (flat blocks [])) numbers))))

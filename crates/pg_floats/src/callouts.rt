@@ -7,17 +7,21 @@ ghost use Rattle.pg_list.specs.Ranges.{IsItemInRange};
 ghost use Rattle.pg_list.specs.Shapes.{IsBlock};
 ghost use Rattle.pg_list.specs.Places.{picked_items};
 ghost use Rattle.pg_floats.specs.FloatsValue.{IsInRange};
-ghost use Rattle.pg_floats.specs.Callouts.{callout_of as callout_of_item, callouts_in, callouts_from};
+ghost use Rattle.pg_floats.specs.Callouts.{callout_of as callout_of_item, callouts_in, callouts_from, next_barrier as next_barrier_of, no_barrier};
 
-use pg_list::{Block, Item};
+use pg_list::{Block, Item, block_is_barrier};
 use std::alloc::{AllocError, Global};
 use std::marker::Model;
 use std::slice;
 
-/// Where a float is called, and its size in scaled points.
+// What stands for the block of a barrier where there is none.
+const NO_BARRIER: u32 = u32::MAX;
+
+/// Where a float is called, the block of the first barrier behind it, and its size in scaled points.
 #[derive(Clone, Copy, PartialEq, Eq)]
 pub struct Callout {
     pub block: u32,
+    pub barrier: u32,
     pub size: u32,
 }
 
@@ -73,9 +77,9 @@ impl Callouts {
     }
 }
 
-fn callout_of(item: &Item, number: u8, block: u32) -> Option<Callout>
+fn callout_of(item: &Item, number: u8, block: u32, barrier: u32) -> Option<Callout>
     requires { IsItemInRange item.now }
-    ensures value { result ≡ callout_of_item number block item.now }
+    ensures value { result ≡ callout_of_item number block barrier item.now }
     ensures range { IfSome result IsInRange }
 {
     match item {
@@ -83,6 +87,7 @@ fn callout_of(item: &Item, number: u8, block: u32) -> Option<Callout>
             if *class == number {
                 Some(Callout {
                     block,
+                    barrier,
                     size: size.unsigned_abs(),
                 })
             } else {
@@ -99,13 +104,14 @@ fn push_callouts(
     items: &[Item],
     number: u8,
     block: u32,
+    barrier: u32,
 ) -> Result<(), AllocError>
     requires { AllByRecursion IsItemInRange items.now }
-    ensures { OnOk result (out.new ≡ out.old ++ callouts_in number block items.now) }
+    ensures { OnOk result (out.new ≡ out.old ++ callouts_in number block barrier items.now) }
 {
     let mut rest = items;
     'items: while let [item, after @ ..] = rest {
-        if let Some(callout) = callout_of(item, number, block) {
+        if let Some(callout) = callout_of(item, number, block, barrier) {
             out.push(callout)?;
         }
         rest = after;
@@ -128,19 +134,40 @@ pub fn first_items_of(block: &Block) -> &[Item]
     }
 }
 
+// The number of the first barrier among blocks, the first of which has this number; none has `NO_BARRIER`.
+fn next_barrier(blocks: &[Block], first: u32) -> u32
+    requires { first + length blocks.now ≤ item_limit }
+    ensures { result ≡ next_barrier_of no_barrier first blocks.now }
+{
+    let mut rest = blocks;
+    let mut index = first;
+    'each: while let [block, after @ ..] = rest {
+        if block_is_barrier(block) {
+            return index;
+        }
+        rest = after;
+        index += 1;
+    }
+    NO_BARRIER
+}
+
 /// The callouts of a class in a galley.
 pub fn callouts_of(alloc: Global, blocks: &[Block], number: u8) -> Result<Callouts, AllocError>
     requires shape { AllByRecursion IsBlock blocks.now }
     requires few { length blocks.now ≤ item_limit }
-    ensures { IfOk result (λ callouts. callouts ≡ callouts_from number 0 blocks.now) }
+    ensures { IfOk result (λ callouts. callouts ≡ callouts_from number no_barrier 0 blocks.now) }
 {
     let mut callouts = Callouts::new(alloc);
     let mut rest = blocks;
     let mut index = 0u32;
+    let mut barrier = next_barrier(blocks, 0);
     'each: while let [block, after @ ..] = rest {
-        push_callouts(&mut callouts, first_items_of(block), number, index)?;
+        push_callouts(&mut callouts, first_items_of(block), number, index, barrier)?;
         rest = after;
         index += 1;
+        if block_is_barrier(block) {
+            barrier = next_barrier(rest, index);
+        }
     }
     Ok(callouts)
 }

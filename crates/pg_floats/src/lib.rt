@@ -33,5 +33,5 @@ pub use fault::FloatFault;
 pub use laws::{queues_count_history, queues_stay_young};
 pub use list::FloatList;
 pub use queue::{Late, Queue};
-pub use remains::{has_dealt_all, is_spent_at};
+pub use remains::{has_dealt_all, is_spent_at, text_block_at};
 pub use spot::{Spot, slots_of, table_of};

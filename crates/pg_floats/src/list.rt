@@ -1,6 +1,6 @@
 //! The list of floats.
 ghost use Rattle.std.specs.Prelude.{◌≡◌, ◌<◌, ◌≤◌, ◌+◌, ◌^◌, ◌++◌, ◌∷◌, [], ℕ, List, Some, None, Ok, Err, OnOk};
-ghost use Rattle.std.specs.Prelude.{IfOk, IfSome, MatchOption, length, true, false, nat_lt, pos, slice_get};
+ghost use Rattle.std.specs.Prelude.{IfOk, IfSome, MatchOption, length, take, true, false, nat_lt, pos, slice_get};
 ghost use Rattle.std.specs.Prelude.{option_copied};
 ghost use Rattle.std.specs.List.{AllByRecursion};
 ghost use Rattle.std.specs.List.Sorted.{IsPartitionedBy, IsPartitionPoint};
@@ -9,8 +9,9 @@ ghost use Rattle.pg_list.specs.Shapes.{IsBlock};
 ghost use Rattle.pg_list.specs.declared.blocks.Block.{Block as ABlock};
 ghost use Rattle.pg_style.specs.Values.{StyleValue};
 ghost use Rattle.pg_style.specs.Ranges.{AreClasses};
-ghost use Rattle.pg_list.specs.Flat.{items_before};
-ghost use Rattle.pg_rules.specs.Floats.{called, entry, floats, sizes_of};
+ghost use Rattle.pg_list.specs.Barrier.{up_to_barrier};
+ghost use Rattle.pg_list.specs.Flat.{flat, items_before};
+ghost use Rattle.pg_rules.specs.Floats.{called, entry, floats, flushed, sizes_of};
 ghost use Rattle.pg_floats.specs.declared.callouts.Callout.{Callout as ACallout};
 ghost use Rattle.pg_floats.specs.Areas.{has_dealt, IsDealt};
 ghost use Rattle.pg_floats.specs.FloatsValue.{callout_at, AreKept, IsInRange, total_of};
@@ -231,6 +232,27 @@ fn called_in(floats: &ClassFloats, place: Place) -> u32
     (above + within) as u32
 }
 
+// How many callouts stand in front of barriers before a block.
+fn flushed_above(callouts: &[Callout], block: u32) -> usize
+    ensures point { IsPartitionedBy (λ (callout : ACallout). nat_lt callout.barrier block) callouts.now →
+        IsPartitionPoint (λ (callout : ACallout). nat_lt callout.barrier block ≡ true)
+        (λ (callout : ACallout). nat_lt callout.barrier block ≡ false) callouts.now result }
+    ensures within { result ≤ length callouts.now }
+{
+    callouts.partition_point(|callout| callout.barrier < block)
+}
+
+// How many floats of a class are called before the last barrier in front of a block.
+fn flushed_in(floats: &ClassFloats, block: u32) -> u32
+    requires { length floats.now.callouts ≤ 2 ^ 12 }
+    ensures value { (blocks : List ABlock) (number : ℕ) → AllByRecursion IsBlock blocks →
+        floats.now ≡ class_floats blocks number →
+        result ≡ length (sizes_of number (flat (up_to_barrier (take block blocks)) [])) }
+    ensures few { result ≤ 2 ^ 12 }
+{
+    flushed_above(floats.callouts.as_slice(), block) as u32
+}
+
 fn size_of(callout: &Callout) -> i32
     requires { IsInRange callout.now }
     ensures { result ≡ pos callout.now.size }
@@ -309,6 +331,21 @@ impl FloatList {
         match self.floats_at(slot) {
             None => 0,
             Some(floats) => called_in(floats, place),
+        }
+    }
+
+    /// How many floats of a slot are called before the last barrier in front of a block of the galley; none where there
+    /// is no barrier.
+    pub fn flushed(&self, galley: &Galley, block: u32, slot: usize) -> u32
+        ensures value { (style : StyleValue) → AreFloats galley.now.blocks style self.now →
+            result ≡ entry (flushed galley.now.blocks style block) slot }
+        ensures few { result ≤ 2 ^ 12 }
+    {
+        // the clause alone speaks of the galley
+        let _ = galley;
+        match self.floats_at(slot) {
+            None => 0,
+            Some(floats) => flushed_in(floats, block),
         }
     }
 

@@ -1,6 +1,7 @@
-//! What stands behind a last column.
+//! What stands behind a last column, and where a text begins.
 ghost use Rattle.std.specs.Prelude.{◌≡◌, ◌≤◌, ◌^◌, ◌==◌, length};
 ghost use Rattle.std.specs.List.{AllByRecursion, list_all, range_with_len};
+ghost use Rattle.pg_list.specs.Barrier.{text_block as text_block_of};
 ghost use Rattle.pg_list.specs.Shapes.{IsBlock};
 ghost use Rattle.pg_list.specs.Flat.{end_of};
 ghost use Rattle.pg_rules.specs.Floats.{called, entry as entry_of};
@@ -11,7 +12,7 @@ ghost use Rattle.pg_floats.specs.Given.{IsListOf};
 
 use crate::{FloatList, entry};
 use pg_breaks::is_spent;
-use pg_list::{Block, Galley, Place};
+use pg_list::{Block, Galley, Place, text_block};
 use pg_style::Style;
 
 // The blocks of a galley, which keep their shape and are few.
@@ -77,4 +78,11 @@ pub fn is_spent_at(galley: &Galley, at: Place) -> bool
 {
     let _ = all_blocks(galley).len();
     is_spent(galley, at)
+}
+
+/// The block in which the first box or rule from a place on stands; the number of the galley's blocks where there is none.
+pub fn text_block_at(galley: &Galley, at: Place) -> u32
+    ensures { result ≡ text_block_of galley.now.blocks at }
+{
+    text_block(all_blocks(galley), at)
 }

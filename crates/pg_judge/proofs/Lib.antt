@@ -1,6 +1,7 @@
 pub mod Columns
 pub mod Deals
 pub mod Distances
+pub mod Flushed
 pub mod LeastRules
 pub mod MoveVerdict
 pub mod PageCounts

@@ -1,5 +1,5 @@
 -- The verdict on a column behind others, from those on its parts.
-use Rattle.std.proofs.Common.{◌≡◌, refl, sym, ◌∙◌, ℕ, arith, List, Bool, true, false, Option, Some}
+use Rattle.std.proofs.Common.{◌≡◌, refl, sym, ap, ◌∙◌, ℕ, suc, ◌+◌, arith, List, [], ◌∷◌, ◌++◌, length, Bool, true, false, Option, Some, None}
 use Rattle.std.specs.Prelude.{◌&&◌, nat_lt, if◌then◌else◌, Result, Ok, Err}
 use Rattle.std.specs.List.{AllByRecursion}
 use Rattle.std.specs.Option.{option_or}
@@ -8,14 +8,15 @@ use Rattle.pg_plan.specs.declared.pages.PageMove.{PageMove}
 use Rattle.pg_rules.specs.ColumnRules.{is_well_formed, is_tolerable, passes_breaks, has_room, has_counts, keeps_note_limits, keeps_looseness}
 use Rattle.pg_rules.specs.Floats.{floats}
 use Rattle.pg_rules.specs.History.{context, next_column, next_run, placed_of}
-use Rattle.pg_rules.specs.Legal.{deals_floats, has_callouts, has_run, has_wide_counts, is_chained, is_near, unless}
+use Rattle.pg_rules.specs.Legal.{deals_floats, has_callouts, has_run, has_wide_counts, is_chained, is_near, keeps_barriers, unless}
 use Rattle.pg_rules.specs.Room.{Document}
 use Rattle.pg_column.specs.Judged.{text_fault}
 use Rattle.pg_lemmas.proofs.Numbers.{less_of, less_true}
 use Rattle.pg_judge.specs.Judged.{JudgesColumn}
-use Rattle.pg_judge.specs.Moves.{JudgesMove, decided, least_rule}
-use Rattle.pg_judge.specs.Verdict.{first_false, tests_on}
+use Rattle.pg_judge.specs.Moves.{JudgesMost, JudgesMove, decided, least_rule, with_barriers}
+use Rattle.pg_judge.specs.Verdict.{first_false, most_tests, tests_on}
 use Rattle.pg_judge.specs.declared.judged.ColumnCost.{ColumnCost}
+use Rattle.pg_judge.specs.declared.moves.MoveCost.{MoveCost}
 use Rattle.pg_floats.proofs.Capped.{AreFew}
 use Rattle.pg_judge.proofs.Deals.{AreAdded}
 use Rattle.pg_judge.proofs.LeastRules.{added_rule, least_is}
@@ -27,7 +28,7 @@ module _ (doc : Document) (all : AllByRecursion IsBlock doc.blocks) (few : AreFe
       (deals_floats doc (placed_of doc.style ms) m (context doc m ms)) (has_callouts doc (placed_of doc.style ms) m)
       (is_near doc m ms)
 
-  least : first_false 2 (tests_on doc m ms)
+  least : first_false 2 (most_tests doc m ms)
       ≡ least_rule (text_fault (context doc m ms)) added_fault (has_run doc.style (next_run doc.style ms) m)
   least = rw chained (sym (least_is (is_well_formed (context doc m ms)) (is_tolerable (context doc m ms))
       (passes_breaks (context doc m ms)) (has_room (context doc m ms))
@@ -38,15 +39,15 @@ module _ (doc : Document) (all : AllByRecursion IsBlock doc.blocks) (few : AreFe
 
   pub move_is : (own : Result ColumnCost ℕ) (added : Result ℕ ℕ) (run : Bool) → JudgesColumn (context doc m ms) own →
       AreAdded doc all few m ms added → run ≡ has_run doc.style (next_run doc.style ms) m →
-      JudgesMove doc m ms (decided own added run)
+      JudgesMost doc m ms (decided own added run)
   move_is (Ok own) (Ok price) true a b r = (least ∙ rw (a.0, b.0, sym r) refl, a.1, b.1)
   move_is (Ok own) (Ok price) false a b r = least ∙ rw (a.0, b.0, sym r) refl
   move_is (Ok own) (Err rule) run a b r = least ∙ rw (a.0, b) refl
   move_is (Err rule) (Err other) run a b r =
       by (nat_lt rule 7) (least ∙ rw (a, b) refl)
     where
-      by : (t : Bool) → first_false 2 (tests_on doc m ms) ≡ (if t then Some rule else Some other) →
-          JudgesMove doc m ms (if t then Err rule else Err other)
+      by : (t : Bool) → first_false 2 (most_tests doc m ms) ≡ (if t then Some rule else Some other) →
+          JudgesMost doc m ms (if t then Err rule else Err other)
       by true e = e
       by false e = e
   move_is (Err rule) (Ok price) run a b r =
@@ -55,11 +56,37 @@ module _ (doc : Document) (all : AllByRecursion IsBlock doc.blocks) (few : AreFe
       wider : (rule : ℕ) → nat_lt rule 7 ≡ true → nat_lt rule 12 ≡ true
       wider rule e = less_of rule 12 (let h = less_true rule 7 e in omega (arith, h))
 
-      by : (s t u : Bool) → (s ≡ true → t ≡ true) → first_false 2 (tests_on doc m ms)
+      by : (s t u : Bool) → (s ≡ true → t ≡ true) → first_false 2 (most_tests doc m ms)
           ≡ (if s then Some rule else (if t then Some rule else option_or (unless u 12) (Some rule))) →
-          JudgesMove doc m ms (if t then Err rule else (if u then Err rule else Err 12))
+          JudgesMost doc m ms (if t then Err rule else (if u then Err rule else Err 12))
       by true true u h e = e
       by true false u h e = let k : false ≡ true = h refl in absurd cc
       by false true u h e = e
       by false false true h e = e
       by false false false h e = e
+
+-- ---- with the last rule
+
+-- one more test behind others
+last_test : (rule : ℕ) (tests : List Bool) (b : Bool) → first_false rule (tests ++ b ∷ [])
+    ≡ option_or (first_false rule tests) (unless b (rule + length tests))
+last_test rule [] true = refl
+last_test rule [] false = ap Some (omega arith)
+last_test rule (true ∷ tests) b =
+    let e : rule + 1 + length tests ≡ rule + suc (length tests) = omega arith in
+    last_test (rule + 1) tests b ∙ ap (λ (n : ℕ). option_or (first_false (rule + 1) tests) (unless b n)) e
+last_test rule (false ∷ tests) b = refl
+
+pub with_last : (doc : Document) (m : PageMove) (ms : List PageMove) (most : Result MoveCost ℕ) (keeps : Bool) →
+    JudgesMost doc m ms most → keeps ≡ keeps_barriers doc (placed_of doc.style ms) m →
+    JudgesMove doc m ms (with_barriers most keeps)
+with_last doc m ms most keeps h e = by most keeps h
+    (last_test 2 (most_tests doc m ms) (keeps_barriers doc (placed_of doc.style ms) m)
+    ∙ ap (λ (b : Bool). option_or (first_false 2 (most_tests doc m ms)) (unless b 14)) (sym e))
+  where
+    by : (most : Result MoveCost ℕ) (keeps : Bool) → JudgesMost doc m ms most →
+        first_false 2 (tests_on doc m ms) ≡ option_or (first_false 2 (most_tests doc m ms)) (unless keeps 14) →
+        JudgesMove doc m ms (with_barriers most keeps)
+    by (Ok it) true h f = (f ∙ ap (λ (o : Option ℕ). option_or o None) h.0, h.1, h.2)
+    by (Ok it) false h f = f ∙ ap (λ (o : Option ℕ). option_or o (Some 14)) h.0
+    by (Err rule) keeps h f = f ∙ ap (λ (o : Option ℕ). option_or o (unless keeps 14)) h

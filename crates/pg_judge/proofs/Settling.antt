@@ -24,7 +24,7 @@ use Rattle.pg_judge.proofs.Verdict.{breach_is, is_test_from, second_stays}
 use Rattle.std.proofs.lemmas.Bool.{eqb-true}
 
 fault_is : (s d : Bool) → end_fault s d ≡ first_false 2 (s ∷ true ∷ true ∷ true ∷ true ∷ true ∷ d ∷ true ∷ true ∷ true
-    ∷ true ∷ true ∷ [])
+    ∷ true ∷ true ∷ true ∷ [])
 fault_is true true = refl
 fault_is true false = refl
 fault_is false d = refl
@@ -67,8 +67,8 @@ pub settles_going : (doc : Document) (ms : List PageMove) (it : Progress) → Is
     Settles doc ms (answered o paid)
 settles_going doc ms it prog going spent dealt s d rule r o e paid p =
     let fault = r ∙ (fault_is spent dealt ∙ (ap (λ (b : Bool). first_false 2 (b ∷ true ∷ true ∷ true ∷ true ∷ true ∷ dealt
-    ∷ true ∷ true ∷ true ∷ true ∷ true ∷ [])) s ∙ ap (λ (b : Bool). first_false 2 (ends_spent doc ms ∷ true ∷ true
-    ∷ true ∷ true ∷ true ∷ b ∷ true ∷ true ∷ true ∷ true ∷ true ∷ [])) d)) in
+    ∷ true ∷ true ∷ true ∷ true ∷ true ∷ true ∷ [])) s ∙ ap (λ (b : Bool). first_false 2 (ends_spent doc ms ∷ true ∷ true
+    ∷ true ∷ true ∷ true ∷ b ∷ true ∷ true ∷ true ∷ true ∷ true ∷ true ∷ [])) d)) in
     settled_by doc ms o paid (e ∙ (ap (λ (x : Option (ℕ × ℕ)). lesser x rule it.number) prog.broken
     ∙ (ap (λ (x : Option ℕ). lesser (broken_by doc ms) x it.number) fault
     ∙ ap (lesser (broken_by doc ms) (first_false 2 (tests_at_end doc ms))) prog.number)))

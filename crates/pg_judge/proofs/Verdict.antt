@@ -10,7 +10,7 @@ use Rattle.pg_plan.specs.Order.{columns}
 use Rattle.pg_style.specs.Values.{StyleValue}
 use Rattle.pg_rules.specs.ColumnRules.{is_well_formed, is_tolerable, passes_breaks, has_room, has_counts, keeps_note_limits, keeps_looseness}
 use Rattle.pg_rules.specs.History.{next_column, next_run, placed_of, context}
-use Rattle.pg_rules.specs.Legal.{breach, deals_floats, document, ends_spent, faults, first_at_fault, first_breach, has_callouts, has_dealt_all, has_run, has_wide_counts, is_chained, is_near, misfilled, unless}
+use Rattle.pg_rules.specs.Legal.{breach, deals_floats, document, ends_spent, faults, first_at_fault, first_breach, has_callouts, has_dealt_all, has_run, has_wide_counts, is_chained, is_near, keeps_barriers, misfilled, unless}
 use Rattle.pg_rules.specs.Room.{Document}
 use Rattle.pg_judge.specs.Verdict.{behind_pages, broken_at_end, broken_by, first_false, lesser, tests_at_end, tests_on}
 
@@ -87,7 +87,7 @@ is_joined rule (Some column ∷ faults) (false ∷ tests) n e =
 
 -- ---- all columns
 
--- the columns at which rules 2 to 13 are broken first
+-- the columns at which rules 2 to 14 are broken first
 faults_of : Document → List PageMove → List (Option ℕ)
 faults_of doc ms =
     first_at_fault (is_chained doc) ms
@@ -102,6 +102,7 @@ faults_of doc ms =
     ∷ first_at_fault (λ m ms. keeps_note_limits (context doc m ms)) ms
     ∷ first_at_fault (λ m ms. has_run doc.style (next_run doc.style ms) m) ms
     ∷ first_at_fault (λ m ms. keeps_looseness (context doc m ms)) ms
+    ∷ first_at_fault (λ m ms. keeps_barriers doc (placed_of doc.style ms) m) ms
     ∷ []
 
 at_once : (doc : Document) (m : PageMove) (ms : List PageMove) → first_breach 2 (faults_of doc (m ∷ ms))
@@ -109,15 +110,15 @@ at_once : (doc : Document) (m : PageMove) (ms : List PageMove) → first_breach 
 unfolding faults_of joined
 at_once doc m ms = refl
 
-twelve : (doc : Document) (ms : List PageMove) → length (faults_of doc ms) ≡ 12
+thirteen : (doc : Document) (ms : List PageMove) → length (faults_of doc ms) ≡ 13
 unfolding faults_of
-twelve doc ms = refl
+thirteen doc ms = refl
 
 broken_is : (doc : Document) (ms : List PageMove) → first_breach 2 (faults_of doc ms) ≡ broken_by doc ms
 unfolding faults_of
 broken_is doc [] = refl
 broken_is doc (m ∷ ms) = at_once doc m ms
-    ∙ (is_joined 2 (faults_of doc ms) (tests_on doc m ms) (length ms + 1) (twelve doc ms)
+    ∙ (is_joined 2 (faults_of doc ms) (tests_on doc m ms) (length ms + 1) (thirteen doc ms)
     ∙ ap (λ (o : Option (ℕ × ℕ)). lesser o (first_false 2 (tests_on doc m ms)) (length ms + 1)) (broken_is doc ms))
 
 -- ---- with the end
@@ -126,12 +127,12 @@ or_none : (o : Option ℕ) → option_or o None ≡ o
 or_none None = refl
 or_none (Some n) = refl
 
-ended : (a b c d e f g h i j k l end left : Option ℕ) →
-    (option_or a end ∷ b ∷ c ∷ d ∷ e ∷ f ∷ option_or g left ∷ h ∷ i ∷ j ∷ k ∷ l ∷ [])
+ended : (a b c d e f g h i j k l m end left : Option ℕ) →
+    (option_or a end ∷ b ∷ c ∷ d ∷ e ∷ f ∷ option_or g left ∷ h ∷ i ∷ j ∷ k ∷ l ∷ m ∷ [])
     ≡ (option_or a end ∷ option_or b None ∷ option_or c None ∷ option_or d None ∷ option_or e None ∷ option_or f None
     ∷ option_or g left ∷ option_or h None ∷ option_or i None ∷ option_or j None ∷ option_or k None ∷ option_or l None
-    ∷ [])
-ended a b c d e f g h i j k l end left = rw (
+    ∷ option_or m None ∷ [])
+ended a b c d e f g h i j k l m end left = rw (
   or_none b,
   or_none c,
   or_none d,
@@ -142,9 +143,10 @@ ended a b c d e f g h i j k l end left = rw (
   or_none j,
   or_none k,
   or_none l,
+  or_none m,
 ) refl
 
--- the columns at which rules 2 to 13 are broken first, with what stands behind the last
+-- the columns at which rules 2 to 14 are broken first, with what stands behind the last
 faults_at_end : Document → List PageMove → List (Option ℕ)
 faults_at_end doc ms = joined (faults_of doc ms) (tests_at_end doc ms) (length ms)
 
@@ -169,6 +171,7 @@ split doc plan = ap (λ (xs : List (Option ℕ)). misfilled doc.style.columns (r
     (first_at_fault (λ m ms. keeps_note_limits (context doc m ms)) (columns plan))
     (first_at_fault (λ m ms. has_run doc.style (next_run doc.style ms) m) (columns plan))
     (first_at_fault (λ m ms. keeps_looseness (context doc m ms)) (columns plan))
+    (first_at_fault (λ m ms. keeps_barriers doc (placed_of doc.style ms) m) (columns plan))
     (unless (ends_spent doc (columns plan)) (length (columns plan)))
     (unless (has_dealt_all doc (placed_of doc.style (columns plan))) (length (columns plan))))
 
@@ -182,7 +185,7 @@ breach_is galley style plan =
     ∙ (behind (misfilled style.columns (reverse plan.pages)) (faults_at_end doc (columns plan))
     ∙ ap (behind_pages (misfilled style.columns (reverse plan.pages)))
     (is_joined 2 (faults_of doc (columns plan)) (tests_at_end doc (columns plan)) (length (columns plan))
-    (twelve doc (columns plan))
+    (thirteen doc (columns plan))
     ∙ ap (λ (o : Option (ℕ × ℕ)). lesser o (first_false 2 (tests_at_end doc (columns plan))) (length (columns plan)))
     (broken_is doc (columns plan))))
 

@@ -9,7 +9,7 @@ use Rattle.pg_rules.specs.History.{context, next_column, placed_of}
 use Rattle.pg_rules.specs.Legal.{added, distance, unless}
 use Rattle.pg_rules.specs.Room.{Document}
 use Rattle.pg_judge.specs.Judged.{IsColumnCost}
-use Rattle.pg_judge.specs.Verdict.{first_false, tests_on}
+use Rattle.pg_judge.specs.Verdict.{first_false, most_tests, tests_on}
 use Rattle.pg_judge.specs.declared.judged.ColumnCost.{ColumnCost}
 use Rattle.pg_judge.specs.declared.moves.MoveCost.{MoveCost}
 
@@ -39,8 +39,21 @@ abbrev pub fitness_cost : StyleValue → Option ℕ → Option ℕ → ℕ
 fitness_cost style last own = option_map_or (λ (a : ℕ). option_map_or
     (λ (b : ℕ). if differs a b then style.fitness else 0) own 0) last 0
 
--- the cost of a column behind others, or the least of rules 2 to 13 that it breaks
-abbrev pub JudgesMove : Document → PageMove → List PageMove → Result MoveCost ℕ → Type 0
-JudgesMove doc m ms (Ok it) = (first_false 2 (tests_on doc m ms) ≡ None) × IsColumnCost (context doc m ms) it.own
+-- the verdict from that on the rules before the last, and that on barriers
+abbrev pub with_barriers : Result MoveCost ℕ → Bool → Result MoveCost ℕ
+with_barriers (Ok it) keeps = if keeps then Ok it else Err 14
+with_barriers (Err rule) keeps = Err rule
+
+-- the cost of a column behind others, or the least rule that it breaks, by these tests of rules from 2 on
+abbrev pub JudgesBy : List Bool → Document → PageMove → List PageMove → Result MoveCost ℕ → Type 0
+JudgesBy tests doc m ms (Ok it) = (first_false 2 tests ≡ None) × IsColumnCost (context doc m ms) it.own
     × (pos it.price ≡ float_demerits doc.style (distance doc m ms) (added doc (placed_of doc.style ms) m))
-JudgesMove doc m ms (Err rule) = first_false 2 (tests_on doc m ms) ≡ Some rule
+JudgesBy tests doc m ms (Err rule) = first_false 2 tests ≡ Some rule
+
+-- by rules 2 to 13
+abbrev pub JudgesMost : Document → PageMove → List PageMove → Result MoveCost ℕ → Type 0
+JudgesMost doc m ms = JudgesBy (most_tests doc m ms) doc m ms
+
+-- by all rules but the first
+abbrev pub JudgesMove : Document → PageMove → List PageMove → Result MoveCost ℕ → Type 0
+JudgesMove doc m ms = JudgesBy (tests_on doc m ms) doc m ms

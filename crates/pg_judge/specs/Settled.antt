@@ -15,7 +15,7 @@ use Rattle.pg_judge.specs.declared.rule.JudgeFault.TheVariants.{Broken, Memory}
 abbrev pub end_fault : Bool → Bool → Option ℕ
 end_fault spent dealt = if not spent then Some 2 else (if not dealt then Some 8 else None)
 
--- the cost of all columns, or the least of rules 2 to 13 that is broken; or memory ran out
+-- the cost of all columns, or the least of rules 2 to 14 that is broken; or memory ran out
 abbrev pub Settles : Document → List PageMove → Result ℤ JudgeFault → Type 0
 Settles doc ms (Ok paid) = (broken_at_end doc ms ≡ None) × (paid ≡ cost_of doc ms)
 Settles doc ms (Err (Broken rule column)) = broken_at_end doc ms ≡ Some (rule, column)

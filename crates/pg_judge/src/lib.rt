@@ -7,6 +7,7 @@
 #![tactic(auto)]
 
 mod added;
+mod barriers;
 mod ending;
 mod floats;
 mod judged;

@@ -7,7 +7,7 @@ ghost use Rattle.pg_rules.specs.Legal.{document};
 ghost use Rattle.pg_rules.specs.Room.{ColumnContext};
 ghost use Rattle.pg_column.specs.Fits.{does_fit_from};
 ghost use Rattle.pg_judge.specs.Judged.{JudgesColumn};
-ghost use Rattle.pg_judge.specs.Moves.{decided, fitness_cost};
+ghost use Rattle.pg_judge.specs.Moves.{decided, fitness_cost, with_barriers as with_barriers_of};
 ghost use Rattle.pg_judge.specs.Seats.{AreHeights, IsSeat};
 
 use crate::judged::{ColumnCost, judge_floats, judge_text};
@@ -123,6 +123,16 @@ pub fn decide(
             }
             Err(other) => { if rule < 7 { Err(rule) } else { Err(other) } }
         },
+    }
+}
+
+/// The verdict from that on the rules before the last, and that on barriers.
+pub fn with_barriers(most: Result<MoveCost, u8>, keeps: bool) -> Result<MoveCost, u8>
+    ensures { result ≡ with_barriers_of most keeps }
+{
+    match most {
+        Ok(it) => { if keeps { Ok(it) } else { Err(14) } }
+        Err(rule) => Err(rule),
     }
 }
 

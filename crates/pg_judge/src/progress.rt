@@ -18,7 +18,10 @@ ghost use Rattle.pg_judge.specs.Progress.{AreCounted, IsAdvanced, IsGoing, IsKep
 ghost use Rattle.pg_judge.specs.Verdict.{lesser};
 
 use crate::added::{Counted, judge_added, wide_height};
-use crate::moves::{MoveCost, cost_with, decide, fitness_price, is_run_kept, judge_own, run_price};
+use crate::barriers::keeps_barriers;
+use crate::moves::{
+    MoveCost, cost_with, decide, fitness_price, is_run_kept, judge_own, run_price, with_barriers,
+};
 use crate::picks::pick_demerits;
 use crate::seat::{is_same_place, seat_of};
 use pg_column::fits_from;
@@ -205,7 +208,17 @@ impl Progress {
             counted,
             &seat,
         );
-        decide(own, added, self.has_run(style, run))
+        let most = decide(own, added, self.has_run(style, run));
+        let keeps = keeps_barriers(
+            galley,
+            style,
+            list,
+            self.slots,
+            column,
+            self.placed.as_slice(),
+            counted.after.as_slice(),
+        );
+        with_barriers(most, keeps)
     }
 }
 

@@ -124,7 +124,7 @@ fn judge_columns(
     }
 }
 
-/// The cost of a pagination that breaks no rule, or else the least rule that it breaks, from 1 to 13, with the first
+/// The cost of a pagination that breaks no rule, or else the least rule that it breaks, from 1 to 14, with the first
 /// column that breaks it, counted from 1.
 ///
 /// Conditions: the list is of this galley and style, as `FloatList::of` makes it, and the pagination has fewer than

@@ -14,13 +14,14 @@ use Rattle.law_walk.specs.Candidates.{Candidate}
 use Rattle.pg_list.specs.Flat.{is_same_place}
 use Rattle.pg_lemmas.proofs.Lists.{one_more}
 use Rattle.pg_layouts.specs.declared.layout.Layout.{Layout}
-use Rattle.pg_rules.specs.Floats.{called}
 use Rattle.pg_rules.specs.Follow.{turns}
 use Rattle.pg_rules.specs.Room.{Document}
 use Rattle.pg_table.specs.declared.step.Step.{Step}
 use Rattle.law_moves.specs.Ages.{may_wait}
-use Rattle.law_moves.specs.Listed.{calls_all, goes_on, listed_end, listed_with, placed_with}
+use Rattle.law_moves.specs.Listed.{goes_on, listed_end, listed_with, opens, placed_with}
 use Rattle.law_moves.specs.Steps.{text_room}
+use Rattle.pg_sources.specs.Document.{before_of}
+use Rattle.pg_sources.specs.declared.calls.Before.{Before}
 use Rattle.pg_rooms.specs.Laid.{laid_of}
 use Rattle.pg_rooms.specs.declared.laid.Laid.{Laid}
 use Rattle.pg_rooms.specs.PlaceEnds.{AreGroups, ArePlaceEnds, ends_in, groups_in}
@@ -55,10 +56,10 @@ module _ (doc : Document) (u : State) (laid : Laid) (is : laid ≡ laid_of doc u
       by true c e = refl
       by false c e = absurd cc
 
-  uncalled : (end : RoomEnd) → calls_all doc end.to laid.after ≡ false → Stops end
-  uncalled end f = by (not (is_same_place u.place end.to))
-      (calls_all doc end.to (placed_with doc.style u.placed laid.layout)) _
-      (subst (λ (after : List ℕ). calls_all doc end.to after ≡ false) after_is f)
+  unopened : (end : RoomEnd) → opens doc u end.to laid.after ≡ false → Stops end
+  unopened end f = by (not (is_same_place u.place end.to))
+      (opens doc u end.to (placed_with doc.style u.placed laid.layout)) _
+      (subst (λ (after : List ℕ). opens doc u end.to after ≡ false) after_is f)
     where
       by : (a b c : Bool) → b ≡ false → (a && (b && c)) ≡ false
       by a true c e = absurd cc
@@ -67,7 +68,7 @@ module _ (doc : Document) (u : State) (laid : Laid) (is : laid ≡ laid_of doc u
 
   too_old : (end : RoomEnd) → may_wait doc u end.to laid.after (turns doc.style u) ≡ false → Stops end
   too_old end f = by (not (is_same_place u.place end.to))
-      (calls_all doc end.to (placed_with doc.style u.placed laid.layout)) _
+      (opens doc u end.to (placed_with doc.style u.placed laid.layout)) _
       (subst (λ (after : List ℕ). may_wait doc u end.to after (turns doc.style u) ≡ false) after_is f)
     where
       by : (a b c : Bool) → c ≡ false → (a && (b && c)) ≡ false
@@ -75,11 +76,11 @@ module _ (doc : Document) (u : State) (laid : Laid) (is : laid ≡ laid_of doc u
       by true false c e = refl
       by false b c e = refl
 
-  goes : (end : RoomEnd) → is_same_place u.place end.to ≡ false → calls_all doc end.to laid.after ≡ true →
+  goes : (end : RoomEnd) → is_same_place u.place end.to ≡ false → opens doc u end.to laid.after ≡ true →
       may_wait doc u end.to laid.after (turns doc.style u) ≡ true → goes_on doc u laid.layout (end_of cs end) ≡ true
   goes end away calls waits = by (is_same_place u.place end.to)
-      (calls_all doc end.to (placed_with doc.style u.placed laid.layout)) _ away
-      (subst (λ (after : List ℕ). calls_all doc end.to after ≡ true) after_is calls)
+      (opens doc u end.to (placed_with doc.style u.placed laid.layout)) _ away
+      (subst (λ (after : List ℕ). opens doc u end.to after ≡ true) after_is calls)
       (subst (λ (after : List ℕ). may_wait doc u end.to after (turns doc.style u) ≡ true) after_is waits)
     where
       by : (a b c : Bool) → a ≡ false → b ≡ true → c ≡ true → (not a && (b && c)) ≡ true
@@ -135,38 +136,38 @@ module _ (doc : Document) (u : State) (laid : Laid) (is : laid ≡ laid_of doc u
 
   -- ---- ends before each of which the same floats are called
 
-  module _ (counts : List ℕ) where
+  module _ (before : Before) where
     abbrev IsCalled : RoomEnd → Type 0
-    IsCalled end = counts ≡ called doc.blocks doc.style end.to
+    IsCalled end = before ≡ before_of doc end.to
 
     all_of : (P : RoomEnd → Type 0) → ((end : RoomEnd) → IsCalled end → P end) → (ends : List RoomEnd) →
         AllByRecursion IsCalled ends → AllByRecursion P ends
     all_of P f [] all = tt
     all_of P f (end ∷ ends) all = (f end all.0, all_of P f ends all.1)
 
-    pub group_uncalled : (ends : List RoomEnd) (after : List ℕ) (old : List (Step State PageMove)) (b : Bool) →
+    pub group_closed : (ends : List RoomEnd) (after : List ℕ) (old : List (Step State PageMove)) (b : Bool) →
         after ≡ laid.after → b ≡ false →
-        ((to : Place) → counts ≡ called doc.blocks doc.style to → b ≡ calls_all doc to after) →
+        ((to : Place) → before ≡ before_of doc to → b ≡ opens doc u to after) →
         AllByRecursion IsCalled ends → Adds spared old (listed_of doc u cs laid.layout ends) old
-    group_uncalled ends after old b a f tells all = none_step ends old (all_of Stops
-        (λ end e. uncalled end (subst (λ (x : List ℕ). calls_all doc end.to x ≡ false) a (sym (tells end.to e) ∙ f)))
+    group_closed ends after old b a f tells all = none_step ends old (all_of Stops
+        (λ end e. unopened end (subst (λ (x : List ℕ). opens doc u end.to x ≡ false) a (sym (tells end.to e) ∙ f)))
         ends all)
 
     pub group_old : (ends : List RoomEnd) (old : List (Step State PageMove)) (settled : Option Settled) →
         settled ≡ None →
-        ((to : Place) → counts ≡ called doc.blocks doc.style to → Settles doc u to laid.after settled) →
+        ((to : Place) → before ≡ before_of doc to → Settles doc u to laid.after settled) →
         AllByRecursion IsCalled ends → Adds spared old (listed_of doc u cs laid.layout ends) old
     group_old ends old settled e tells all = none_step ends old (all_of Stops
         (λ end i. too_old end (subst (Settles doc u end.to laid.after) e (tells end.to i))) ends all)
 
     pub group_open : (ends : List RoomEnd) (after : List ℕ) (b : Bool) (settled : Option Settled) (it : Settled) →
         after ≡ laid.after → b ≡ true →
-        ((to : Place) → counts ≡ called doc.blocks doc.style to → b ≡ calls_all doc to after) → settled ≡ Some it →
-        ((to : Place) → counts ≡ called doc.blocks doc.style to → Settles doc u to laid.after settled) →
+        ((to : Place) → before ≡ before_of doc to → b ≡ opens doc u to after) → settled ≡ Some it →
+        ((to : Place) → before ≡ before_of doc to → Settles doc u to laid.after settled) →
         AllByRecursion IsCalled ends → AllByRecursion (λ (end : RoomEnd). IsOpenAt doc u laid it end.to) ends
     group_open ends after b settled it a t calls e tells all = all_of (λ (end : RoomEnd). IsOpenAt doc u laid it end.to)
         (λ end i. (
-          subst (λ (x : List ℕ). calls_all doc end.to x ≡ true) a (sym (calls end.to i) ∙ t),
+          subst (λ (x : List ℕ). opens doc u end.to x ≡ true) a (sym (calls end.to i) ∙ t),
           subst (Settles doc u end.to laid.after) e (tells end.to i),
         )) ends all
 
@@ -244,20 +245,20 @@ group_more doc u spared cs layout n ends rest later old mid new l so_far k = rec
 }
 
 pub group_next : (doc : Document) (u : State) (spared : State → ℤ → Bool) (cs : List Candidate) (layout : Layout)
-    (groups left after : List Group) (group : Group) (counts : List ℕ) (ends rest first later : List RoomEnd)
-    (old mid new : List (Step State PageMove)) → left ≡ group ∷ after → counts ≡ group.called →
+    (groups left after : List Group) (group : Group) (before : Before) (ends rest first later : List RoomEnd)
+    (old mid new : List (Step State PageMove)) → left ≡ group ∷ after → before ≡ group.before →
     first ≡ take group.count rest → later ≡ drop group.count rest →
     (AreGroups doc groups ends → AreGroups doc left rest × Going doc u spared cs layout ends rest old mid) →
-    (AllByRecursion (λ (end : RoomEnd). counts ≡ called doc.blocks doc.style end.to) first →
+    (AllByRecursion (λ (end : RoomEnd). before ≡ before_of doc end.to) first →
     Adds spared mid (listed_of doc u cs layout first) new) → AreGroups doc groups ends →
     AreGroups doc after later × Going doc u spared cs layout ends later old new
-group_next doc u spared cs layout groups left after group counts ends rest first later old mid new split c f l so_far
+group_next doc u spared cs layout groups left after group before ends rest first later old mid new split c f l so_far
     step all =
     let got = so_far all in
     let here : AreGroups doc (group ∷ after) rest = subst (λ (gs : List Group). AreGroups doc gs rest) split got.0 in
-    let called_here : AllByRecursion (λ (end : RoomEnd). counts ≡ called doc.blocks doc.style end.to) first =
-    subst (AllByRecursion (λ (end : RoomEnd). counts ≡ called doc.blocks doc.style end.to)) (sym f)
-    (subst (λ (xs : List ℕ). AllByRecursion (λ (end : RoomEnd). xs ≡ called doc.blocks doc.style end.to)
+    let called_here : AllByRecursion (λ (end : RoomEnd). before ≡ before_of doc end.to) first =
+    subst (AllByRecursion (λ (end : RoomEnd). before ≡ before_of doc end.to)) (sym f)
+    (subst (λ (it : Before). AllByRecursion (λ (end : RoomEnd). it ≡ before_of doc end.to)
     (take group.count rest)) (sym c) here.0) in (
       subst (AreGroups doc after) (sym l) here.1,
       group_more doc u spared cs layout group.count ends rest later old mid new l got.1

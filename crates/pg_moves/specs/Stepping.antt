@@ -16,7 +16,7 @@ use Rattle.law_walk.specs.Candidates.{Candidate}
 use Rattle.pg_candidates.specs.RoomEnds.{ends_of}
 use Rattle.pg_candidates.specs.declared.room_end.RoomEnd.{RoomEnd}
 use Rattle.law_moves.specs.Laws.{AreEndsOf}
-use Rattle.law_moves.specs.Listed.{calls_all, column_fits, listed_stay, listed_text, listed_with, stays_on}
+use Rattle.law_moves.specs.Listed.{column_fits, listed_stay, listed_text, listed_with, opens, stays_on}
 use Rattle.pg_rooms.specs.PlaceEnds.{ends_in}
 use Rattle.pg_rooms.specs.declared.place_ends.RoomEnds.{RoomEnds}
 use Rattle.pg_states.specs.Settling.{Settles}
@@ -61,10 +61,10 @@ pub record IsBehind (style : StyleValue) (u : State) (laid : Laid) (settled : Se
   pub small : nat_abs it.page ≤ 2 ^ 52
   pub tail : it.tail ≡ rank_tail it.state
 
--- a place before which the floats of a layout are called and none is left too old, and this is left and paid
+-- a place at which a column of a layout may end and no float is left too old, and this is left and paid
 abbrev pub IsOpenAt : Document → State → Laid → Settled → Place → Type 0
 IsOpenAt doc u laid settled at =
-    (calls_all doc at laid.after ≡ true) × Settles doc u at laid.after (Some settled)
+    (opens doc u at laid.after ≡ true) × Settles doc u at laid.after (Some settled)
 
 -- the steps to the ends in the room of a layout, with the picks of these candidates
 abbrev pub steps_in : Document → State → List Candidate → List RoomEnds → Laid → List (Step State PageMove)

@@ -3,10 +3,9 @@ ghost use Rattle.std.specs.Prelude.{◌≡◌, take, drop, OnOk};
 ghost use Rattle.std.specs.List.{AllByRecursion};
 ghost use Rattle.pg_candidates.specs.RoomEnds.{ends_of};
 ghost use Rattle.pg_candidates.specs.declared.room_end.RoomEnd.{RoomEnd as ARoomEnd};
-ghost use Rattle.pg_rules.specs.Floats.{called as called_of};
 ghost use Rattle.pg_rules.specs.IsState.{IsState};
 ghost use Rattle.law_moves.specs.Listed.{listed_with};
-ghost use Rattle.pg_sources.specs.Document.{doc_of};
+ghost use Rattle.pg_sources.specs.Document.{before_of, doc_of};
 ghost use Rattle.pg_rooms.specs.Laid.{laid_of};
 ghost use Rattle.pg_rooms.specs.PlaceEnds.{AreGroups};
 ghost use Rattle.pg_states.specs.Settling.{known_of};
@@ -17,19 +16,19 @@ use pg_candidates::{NearList, RoomEnd};
 use pg_plan::State;
 use pg_rooms::{Group, Laid};
 use pg_small::{SmallMove, SmallState};
-use pg_sources::Sources;
-use pg_states::{Known, calls_all, settle};
+use pg_sources::{Before, Sources};
+use pg_states::{Known, may_end, settle};
 use pg_table::{StepList, Wants};
 use std::alloc::AllocError;
 
-// Adds the wanted steps to ends before each of which the same floats are called.
+// Adds the wanted steps to ends before each of which, and before whose barriers, the same floats are called.
 fn add_group<W: Wants<State = SmallState>>(
     sources: &Sources<'_>,
     near: &NearList,
     state: &State,
     known: &Known,
     laid: &Laid,
-    called: &[u16],
+    before: &Before,
     ends: &[RoomEnd],
     wants: &W,
     steps: &mut StepList<SmallState, SmallMove>,
@@ -38,15 +37,15 @@ fn add_group<W: Wants<State = SmallState>>(
     requires known { known.now ≡ known_of (doc_of sources.now) state.now }
     requires laid { laid.now ≡ laid_of (doc_of sources.now) state.now laid.now.layout }
     ensures { OnOk result (AllByRecursion (λ (end : ARoomEnd).
-        called.now ≡ called_of sources.now.galley.now.blocks sources.now.style.now end.to) ends.now →
+        before.now ≡ before_of (doc_of sources.now) end.to) ends.now →
         Adds (W.spares wants.now) steps.old
         (listed_with (doc_of sources.now) state.now (λ layout. ends_of near.now.candidates ends.now) laid.now.layout)
         steps.new) }
 {
-    if !calls_all(sources, called, laid.after.as_slice()) {
+    if !may_end(sources, known, before, laid.after.as_slice()) {
         return Ok(());
     }
-    match settle(sources, state, known, called, &laid.after)? {
+    match settle(sources, state, known, before.called.as_slice(), &laid.after)? {
         None => Ok(()),
         Some(settled) => add_ends(sources, near, state, laid, ends, &settled, wants, steps),
     }
@@ -102,7 +101,7 @@ pub fn add_groups<W: Wants<State = SmallState>>(
             state,
             known,
             laid,
-            group.called.as_slice(),
+            &group.before,
             first,
             wants,
             steps,

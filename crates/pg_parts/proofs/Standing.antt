@@ -66,7 +66,8 @@ keeps_all doc m ms it =
     (passed 5 _ _ rules.passes (passed 6 _ _ rules.room
     (passed 7 _ _ (both (has_counts (context doc m ms)) (has_wide_counts doc (next_column doc.style ms) m) rules.counts
     it.stands.wide) (passed 8 _ _ it.stands.deals (passed 9 _ _ it.stands.callouts (passed 10 _ _ it.near
-    (passed 11 _ _ rules.note_limits (passed 12 _ _ it.stands.takes_run (passed 13 _ _ rules.looseness refl)))))))))))
+    (passed 11 _ _ rules.note_limits (passed 12 _ _ it.stands.takes_run (passed 13 _ _ rules.looseness
+    (passed 14 _ _ it.stands.barriers refl))))))))))))
 
 pub keeps_text : (it : ColumnContext) → KeepsColumnRules it → text_fault it ≡ None
 keeps_text it rules =

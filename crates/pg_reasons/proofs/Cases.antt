@@ -9,7 +9,7 @@ use Rattle.pg_column.specs.Judged.{text_fault}
 use Rattle.pg_rules.specs.ColumnRules.{has_room, is_tolerable, is_well_formed, keeps_looseness, keeps_note_limits, passes_breaks}
 use Rattle.pg_rules.specs.Cost.{column_cost}
 use Rattle.pg_rules.specs.Follow.{KeepsColumnRules, age_in, context_in, may_turn, next_state}
-use Rattle.pg_rules.specs.Legal.{added, document, has_callouts, unless}
+use Rattle.pg_rules.specs.Legal.{added, document, has_callouts, keeps_barriers, unless}
 use Rattle.pg_rules.specs.Room.{ColumnContext, Document}
 use Rattle.law_columns.proofs.Faults.{or_none, unless_none}
 use Rattle.pg_reasons.specs.Reasons.{CasesFollow, FollowersAreCases, IsCase, MayFollow, fault_behind}
@@ -71,7 +71,8 @@ module _ (g : GalleyValue) (s : StyleValue) where
   follows : (u : State) (m : PageMove) → IsCase doc u m → fault_behind doc u m ≡ None → MayFollow doc u m
   follows u m case e =
       let a = or_none (text_fault (context_in doc u m)) _ e in
-      let b = or_none (unless (has_callouts doc u.placed m) 9) (unless (may_turn doc u m) 10) a.1 in
+      let b = or_none (unless (has_callouts doc u.placed m) 9) _ a.1 in
+      let d = or_none (unless (may_turn doc u m) 10) (unless (keeps_barriers doc u.placed m) 14) b.1 in
       let k : Kept (context_in doc u m) = all_kept (context_in doc u m) a.0 in (
         next_state doc u m,
         (
@@ -83,6 +84,7 @@ module _ (g : GalleyValue) (s : StyleValue) where
               wide = case.wide;
               deals = case.deals;
               callouts = unless_none (has_callouts doc u.placed m) 9 b.0;
+              barriers = unless_none (keeps_barriers doc u.placed m) 14 d.1;
               rules = record {
                 fits = case.fits;
                 well_formed = k.well_formed;
@@ -94,7 +96,7 @@ module _ (g : GalleyValue) (s : StyleValue) where
                 looseness = k.looseness;
               };
             };
-            turns = unless_none (may_turn doc u m) 10 b.1;
+            turns = unless_none (may_turn doc u m) 10 d.0;
             pays = refl;
             leads = refl;
           },
@@ -105,8 +107,9 @@ module _ (g : GalleyValue) (s : StyleValue) where
   faultless u m (v, (c, f)) =
       none_both (text_fault (context_in doc u m)) _
       (kept_all (context_in doc u m) (rules_of (context_in doc u m) f.stands.rules))
-      (none_both (unless (has_callouts doc u.placed m) 9) (unless (may_turn doc u m) 10)
-      (told (has_callouts doc u.placed m) 9 f.stands.callouts) (told (may_turn doc u m) 10 f.turns))
+      (none_both (unless (has_callouts doc u.placed m) 9) _ (told (has_callouts doc u.placed m) 9 f.stands.callouts)
+      (none_both (unless (may_turn doc u m) 10) (unless (keeps_barriers doc u.placed m) 14)
+      (told (may_turn doc u m) 10 f.turns) (told (keeps_barriers doc u.placed m) 14 f.stands.barriers)))
 
   pub cases : CasesFollow g s
   cases u m case = (follows u m case, faultless u m)

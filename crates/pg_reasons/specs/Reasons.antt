@@ -9,7 +9,7 @@ use Rattle.pg_list.specs.Flat.{is_same_place}
 use Rattle.pg_column.specs.Judged.{text_fault}
 use Rattle.pg_rules.specs.ColumnRules.{does_fit, has_counts}
 use Rattle.pg_rules.specs.Follow.{Follow, context_in, may_turn}
-use Rattle.pg_rules.specs.Legal.{deals_floats, document, has_callouts, has_run, has_wide_counts, unless}
+use Rattle.pg_rules.specs.Legal.{deals_floats, document, has_callouts, has_run, has_wide_counts, keeps_barriers, unless}
 use Rattle.pg_list.specs.declared.galley.Place.{Place}
 use Rattle.pg_rules.specs.Room.{ColumnContext, Document, is_text, room}
 
@@ -25,10 +25,11 @@ pub record IsCase (doc : Document) (u : State) (m : PageMove) : Type 0 where
   pub counts : has_counts (context_in doc u m) ≡ true
 
 -- the least rule that a case breaks: on its text; or 9, where a float stands before its call; or 10, where one would wait
--- too long
+-- too long; or 14, where one would wait past a barrier
 abbrev pub fault_behind : Document → State → PageMove → Option ℕ
 fault_behind doc u m = option_or (text_fault (context_in doc u m))
-    (option_or (unless (has_callouts doc u.placed m) 9) (unless (may_turn doc u m) 10))
+    (option_or (unless (has_callouts doc u.placed m) 9)
+    (option_or (unless (may_turn doc u m) 10) (unless (keeps_barriers doc u.placed m) 14)))
 
 -- the column may follow
 abbrev pub MayFollow : Document → State → PageMove → Type 0

@@ -1,26 +1,21 @@
 -- Ends in groups.
-use Rattle.std.proofs.Common.{◌≡◌, sym, ap, subst, ◌∙◌, ℕ, ◌+◌, ◌-◌, ◌≤◌, ◌<◌, suc, arith, true, Bool, get_or, pos}
-use Rattle.std.specs.Prelude.{List, [], ◌∷◌, ◌++◌, length, take, drop, ◌==◌, ◌&&◌}
-use Rattle.std.specs.Cmp.{unsigned_Decides}
-use Rattle.std.specs.Cmp.Lexicographic.{pointwise}
+use Rattle.std.proofs.Common.{◌≡◌, sym, ap, subst, ◌∙◌, ℕ, ◌+◌, ◌-◌, ◌≤◌, ◌<◌, suc, arith, get_or, pos}
+use Rattle.std.specs.Prelude.{List, [], ◌∷◌, ◌++◌, length, take, drop, ◌&&◌}
 use Rattle.std.specs.List.{AllByRecursion}
 use Rattle.std.proofs.Math.Seq.{take-length}
 use Rattle.std.proofs.lemmas.List.{append_assoc, append-nil, drop_all, get_or_default, length-drop}
-use Rattle.std.proofs.lemmas.Slice.Eq.{slice_eq-Decides}
 use Rattle.pg_candidates.specs.declared.room_end.RoomEnd.{RoomEnd}
 use Rattle.pg_list.proofs.Places.{same_place}
 use Rattle.pg_lemmas.proofs.Bools.{both, both_of}
 use Rattle.pg_lemmas.proofs.Lists.{all_append, all_take, no_items, one_more}
 use Rattle.pg_list.specs.declared.galley.Place.{Place}
-use Rattle.pg_rules.specs.Floats.{called, float_numbers}
+use Rattle.pg_rules.specs.Floats.{float_numbers}
 use Rattle.pg_rules.specs.Room.{Document}
-use Rattle.pg_rooms.proofs.Called.{none_called}
+use Rattle.pg_sources.specs.Document.{before_of}
+use Rattle.pg_sources.specs.declared.calls.Before.{Before}
+use Rattle.pg_rooms.proofs.Called.{no_before, none_called}
 use Rattle.pg_rooms.specs.PlaceEnds.{AreGroups}
 use Rattle.pg_rooms.specs.declared.grouping.Group.{Group}
-
--- counts that are equal one by one are the same
-pub one_list : (a b : List ℕ) (r : Bool) → r ≡ pointwise (λ (x y : ℕ). x == y) a b → r ≡ true → a ≡ b
-one_list a b r e t = (slice_eq-Decides unsigned_Decides a b r e).0 t
 
 -- what holds of each of the first elements, and of the next
 pub all_more : {X : Type 0} (P : X → Type 0) (xs : List X) (i : ℕ) (x : X) → i < length xs → x ≡ get_or xs i x →
@@ -46,14 +41,14 @@ no_end = record {
 pub one_group : (doc : Document) (groups now : List Group) (ends rest after left : List RoomEnd) (first : RoomEnd)
     (group : Group) (k : ℕ) →
     ((more : List Group) → AreGroups doc more rest → AreGroups doc (groups ++ more) ends) → rest ≡ first ∷ after →
-    group.count ≡ k + 1 → group.called ≡ called doc.blocks doc.style first.to →
-    AllByRecursion (λ (end : RoomEnd). group.called ≡ called doc.blocks doc.style end.to) (take k after) →
+    group.count ≡ k + 1 → group.before ≡ before_of doc first.to →
+    AllByRecursion (λ (end : RoomEnd). group.before ≡ before_of doc end.to) (take k after) →
     now ≡ groups ++ group ∷ [] → left ≡ drop k after →
     (more : List Group) → AreGroups doc more left → AreGroups doc (now ++ more) ends
 one_group doc groups now ends rest after left first group k old split count here same push cut more g =
     let next : suc k ≡ group.count = omega (arith, count) in
     let front : AreGroups doc (group ∷ more) (first ∷ after) =
-    subst (λ (n : ℕ). AllByRecursion (λ (end : RoomEnd). group.called ≡ called doc.blocks doc.style end.to)
+    subst (λ (n : ℕ). AllByRecursion (λ (end : RoomEnd). group.before ≡ before_of doc end.to)
     (take n (first ∷ after)) × AreGroups doc more (drop n (first ∷ after))) next
     ((here, same), subst (AreGroups doc more) cut g) in
     subst (λ (gs : List Group). AreGroups doc gs ends)
@@ -90,15 +85,15 @@ all_grouped doc groups ends rest old none =
 
 -- all ends are one group, where no class is of floats
 pub group_of_all : (doc : Document) (old now : List Group) (ends : List RoomEnd) (group : Group) →
-    length (float_numbers doc.style) ≡ 0 → group.called ≡ [] → group.count ≡ length ends → old ≡ [] →
+    length (float_numbers doc.style) ≡ 0 → group.before ≡ no_before → group.count ≡ length ends → old ≡ [] →
     now ≡ old ++ group ∷ [] → AreGroups doc now ends
 group_of_all doc old now ends group none nothing count new push =
-    let all = subst (λ (counts : List ℕ). AllByRecursion (λ (end : RoomEnd).
-    counts ≡ called doc.blocks doc.style end.to) ends) (sym nothing) (none_called doc ends none) in
+    let all = subst (λ (before : Before). AllByRecursion (λ (end : RoomEnd).
+    before ≡ before_of doc end.to) ends) (sym nothing) (none_called doc ends none) in
     let few : length ends ≤ group.count = omega (arith, count) in
     subst (λ (groups : List Group). AreGroups doc groups ends)
     (sym (push ∙ ap (λ (groups : List Group). groups ++ group ∷ []) new)) (
-      all_take (λ (end : RoomEnd). group.called ≡ called doc.blocks doc.style end.to) group.count ends all,
+      all_take (λ (end : RoomEnd). group.before ≡ before_of doc end.to) group.count ends all,
       drop_all group.count ends few,
     )
 

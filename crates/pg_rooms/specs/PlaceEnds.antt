@@ -4,23 +4,24 @@ use Rattle.std.specs.List.{AllByRecursion}
 use Rattle.std.specs.Ordering.{int_eq}
 use Rattle.pg_list.specs.declared.galley.Place.{Place}
 use Rattle.pg_column.specs.Ends.{AreEnds}
-use Rattle.pg_rules.specs.Floats.{called}
 use Rattle.pg_rules.specs.Room.{Document}
 use Rattle.law_walk.specs.Candidates.{Candidate}
 use Rattle.law_walk.specs.Reached.{tallest}
 use Rattle.pg_candidates.specs.Nears.{AreNearFrom}
 use Rattle.pg_candidates.specs.RoomEnds.{ends_of}
 use Rattle.pg_candidates.specs.declared.room_end.RoomEnd.{RoomEnd}
+use Rattle.pg_sources.specs.Document.{before_of}
 use Rattle.pg_rooms.specs.Calls.{AreCalls}
 use Rattle.pg_rooms.specs.declared.grouping.Group.{Group}
 use Rattle.pg_rooms.specs.declared.place_ends.PlaceEnds.{PlaceEnds}
 use Rattle.pg_rooms.specs.declared.place_ends.RoomEnds.{RoomEnds}
 
--- groups of ends that follow one another: before each end of a group its floats of each class are called
+-- groups of ends that follow one another: before each end of a group, and before the last barrier in front of it, its
+-- floats of each class are called
 abbrev pub AreGroups : Document → List Group → List RoomEnd → Type 0
 AreGroups doc [] ends = ends ≡ []
 AreGroups doc (group ∷ groups) ends =
-    AllByRecursion (λ (end : RoomEnd). group.called ≡ called doc.blocks doc.style end.to) (take group.count ends)
+    AllByRecursion (λ (end : RoomEnd). group.before ≡ before_of doc end.to) (take group.count ends)
     × AreGroups doc groups (drop group.count ends)
 
 -- all ends in one room, of these candidates, and their groups

@@ -1,17 +1,18 @@
-//! What is called before the places at which columns end, worked out once for each of them.
+//! What is called before the places at which columns end, and before the barriers in front of them, worked out once for
+//! each of them.
 ghost use Rattle.std.specs.Prelude.{◌≡◌, ◌≤◌, [], length, true, Contains, IfOk, IfSome, OnOk};
-ghost use Rattle.pg_rules.specs.Floats.{called};
 ghost use Rattle.pg_rules.specs.Room.{Document};
-ghost use Rattle.pg_sources.specs.Document.{doc_of};
+ghost use Rattle.pg_sources.specs.Document.{before_of, doc_of};
 ghost use Rattle.pg_rooms.specs.Calls.{AreCalls, IsLike};
 
 use pg_list::Place;
-use pg_plan::{Counts, compare_places};
-use pg_sources::Sources;
+use pg_plan::compare_places;
+use pg_sources::{Before, Sources};
 use std::alloc::{AllocError, Global};
 use std::cmp::Ordering;
 
-/// A place, and one before which the same floats are called. Neighbours with the same floats before them share it.
+/// A place, and one before which the same floats are called, also before the last barrier. Neighbours with the same
+/// floats before them share it.
 #[derive(Clone, Copy)]
 pub struct Call {
     pub at: Place,
@@ -99,11 +100,10 @@ fn like_at(calls: &[Call], at: usize, place: Place) -> Option<Place>
 }
 
 // Whether so many floats are called before a place.
-fn calls_so_many(sources: &Sources<'_>, counts: &Counts, place: Place) -> Result<bool, AllocError>
-    ensures { IfOk result (λ same. same ≡ true →
-        called sources.now.galley.now.blocks sources.now.style.now place ≡ counts.now) }
+fn calls_so_many(sources: &Sources<'_>, before: &Before, place: Place) -> Result<bool, AllocError>
+    ensures { IfOk result (λ same. same ≡ true → before_of (doc_of sources.now) place ≡ before.now) }
 {
-    Ok(sources.called(place)? == *counts)
+    Ok(sources.before(place)?.is_same(before))
 }
 
 // The place that the call at an index names, where so many floats are called before it.
@@ -111,15 +111,14 @@ fn like_with(
     sources: &Sources<'_>,
     calls: &[Call],
     at: usize,
-    counts: &Counts,
+    before: &Before,
 ) -> Result<Option<Place>, AllocError>
-    ensures { IfOk result (λ o. IfSome o (λ like.
-        called sources.now.galley.now.blocks sources.now.style.now like ≡ counts.now)) }
+    ensures { IfOk result (λ o. IfSome o (λ like. before_of (doc_of sources.now) like ≡ before.now)) }
 {
     let Some(call) = calls.get(at) else {
         return Ok(None);
     };
-    if !calls_so_many(sources, counts, call.like)? {
+    if !calls_so_many(sources, before, call.like)? {
         return Ok(None);
     }
     Ok(Some(call.like))
@@ -130,25 +129,24 @@ fn like_before(
     sources: &Sources<'_>,
     calls: &[Call],
     at: usize,
-    counts: &Counts,
+    before: &Before,
 ) -> Result<Option<Place>, AllocError>
-    ensures { IfOk result (λ o. IfSome o (λ like.
-        called sources.now.galley.now.blocks sources.now.style.now like ≡ counts.now)) }
+    ensures { IfOk result (λ o. IfSome o (λ like. before_of (doc_of sources.now) like ≡ before.now)) }
 {
     if at == 0 {
         return Ok(None);
     }
-    like_with(sources, calls, at - 1, counts)
+    like_with(sources, calls, at - 1, before)
 }
 
 // The first of two places that is there, or else the third one.
-fn one_of(before: Option<Place>, behind: Option<Place>, place: Place) -> Place
-    ensures { (doc : Document) → IfSome before (λ like. IsLike doc like place) →
-        IfSome behind (λ like. IsLike doc like place) → IsLike doc result place }
+fn one_of(first: Option<Place>, next: Option<Place>, place: Place) -> Place
+    ensures { (doc : Document) → IfSome first (λ like. IsLike doc like place) →
+        IfSome next (λ like. IsLike doc like place) → IsLike doc result place }
 {
-    match before {
+    match first {
         Some(like) => like,
-        None => match behind {
+        None => match next {
             Some(like) => like,
             None => place,
         },
@@ -165,10 +163,10 @@ fn like_near(
 ) -> Result<Place, AllocError>
     ensures { IfOk result (λ like. IsLike (doc_of sources.now) like place) }
 {
-    let counts = sources.called(place)?;
-    let before = like_before(sources, calls, at, &counts)?;
-    let behind = like_with(sources, calls, at, &counts)?;
-    Ok(one_of(before, behind, place))
+    let before = sources.before(place)?;
+    let first = like_before(sources, calls, at, &before)?;
+    let next = like_with(sources, calls, at, &before)?;
+    Ok(one_of(first, next, place))
 }
 
 // Adds the call of a place behind so many others, and answers the place that it names.
@@ -195,17 +193,17 @@ fn add_beside(
     sources: &Sources<'_>,
     calls: &mut Vec<Call>,
     at: usize,
-    counts: &Counts,
+    before: &Before,
     like: Place,
     place: Place,
 ) -> Result<Place, AllocError>
     requires within { at ≤ length calls.old.items }
-    requires counts { counts.now ≡ called sources.now.galley.now.blocks sources.now.style.now like }
+    requires before { before.now ≡ before_of (doc_of sources.now) like }
     ensures like { IfOk result (λ its. IsLike (doc_of sources.now) its place) }
     ensures calls { OnOk result (AreCalls (doc_of sources.now) calls.old.items →
         AreCalls (doc_of sources.now) calls.new.items) }
 {
-    if !calls_so_many(sources, counts, place)? {
+    if !calls_so_many(sources, before, place)? {
         return add_call(sources, calls, at, place);
     }
     calls.insert(at, Call { at: place, like })?;
@@ -237,11 +235,11 @@ pub(crate) fn like_of(
 pub(crate) fn like_beside(
     sources: &Sources<'_>,
     calls: &mut Calls,
-    counts: &Counts,
+    before: &Before,
     like: Place,
     place: Place,
 ) -> Result<Place, AllocError>
-    requires { counts.now ≡ called sources.now.galley.now.blocks sources.now.style.now like }
+    requires { before.now ≡ before_of (doc_of sources.now) like }
     ensures like { IfOk result (λ its. AreCalls (doc_of sources.now) calls.old.items.items →
         IsLike (doc_of sources.now) its place) }
     ensures calls { OnOk result (AreCalls (doc_of sources.now) calls.old.items.items →
@@ -251,6 +249,6 @@ pub(crate) fn like_beside(
     calls.at = at;
     match like_at(calls.items.as_slice(), at, place) {
         Some(its) => Ok(its),
-        None => add_beside(sources, &mut calls.items, at, counts, like, place),
+        None => add_beside(sources, &mut calls.items, at, before, like, place),
     }
 }

@@ -1,9 +1,9 @@
-//! Ends in groups before which the same floats are called.
+//! Ends in groups before which, and before whose barriers, the same floats are called.
 ghost use Rattle.std.specs.Prelude.{◌≡◌, ◌≤◌, true, IfOk, OnOk, length, take};
 ghost use Rattle.std.specs.List.{AllByRecursion};
 ghost use Rattle.pg_candidates.specs.declared.room_end.RoomEnd.{RoomEnd as ARoomEnd};
-ghost use Rattle.pg_rules.specs.Floats.{called, float_numbers};
-ghost use Rattle.pg_sources.specs.Document.{doc_of};
+ghost use Rattle.pg_rules.specs.Floats.{float_numbers};
+ghost use Rattle.pg_sources.specs.Document.{before_of, doc_of};
 ghost use Rattle.pg_rooms.specs.Calls.{AreCalls, IsLike};
 ghost use Rattle.pg_rooms.specs.PlaceEnds.{AreGroups};
 
@@ -11,13 +11,14 @@ use crate::calls::{Call, Calls, first_from, is_same, like_beside, like_of};
 use pg_candidates::RoomEnd;
 use pg_list::Place;
 use pg_plan::Counts;
-use pg_sources::Sources;
+use pg_sources::{Before, Sources};
 use std::alloc::AllocError;
 
-/// So many ends that follow one another, before each of which so many floats of each class are called.
+/// So many ends that follow one another, before each of which, and before whose barriers, so many floats of each class
+/// are called.
 #[derive(Drop)]
 pub struct Group {
-    pub called: Counts,
+    pub before: Before,
     pub count: usize,
 }
 
@@ -26,11 +27,11 @@ pub struct Group {
 fn count_same(
     sources: &Sources<'_>,
     calls: &mut Calls,
-    counts: &Counts,
+    before: &Before,
     like: Place,
     ends: &[RoomEnd],
 ) -> Result<usize, AllocError>
-    requires { counts.now ≡ called sources.now.galley.now.blocks sources.now.style.now like }
+    requires { before.now ≡ before_of (doc_of sources.now) like }
     ensures same { IfOk result (λ count. AreCalls (doc_of sources.now) calls.old.items.items →
         AllByRecursion (λ (end : ARoomEnd). IsLike (doc_of sources.now) like end.to) (take count ends.now)) }
     ensures calls { OnOk result (AreCalls (doc_of sources.now) calls.old.items.items →
@@ -39,7 +40,7 @@ fn count_same(
 {
     let mut count = 0;
     for end in ends {
-        let its = like_beside(sources, calls, counts, like, end.to)?;
+        let its = like_beside(sources, calls, before, like, end.to)?;
         if !is_same(like, its) {
             return Ok(count);
         }
@@ -64,8 +65,12 @@ fn group_all(sources: &Sources<'_>, ends: &[RoomEnd]) -> Result<Vec<Group>, Allo
     if ends.is_empty() {
         return Ok(groups);
     }
-    groups.push(Group {
+    let before = Before {
         called: Counts::new(sources.alloc),
+        flushed: Counts::new(sources.alloc),
+    };
+    groups.push(Group {
+        before,
         count: ends.len(),
     })?;
     Ok(groups)
@@ -100,10 +105,10 @@ pub(crate) fn group_ends(
     calls.at = first_call(calls.items.as_slice(), ends);
     'groups: while let [first, after @ ..] = rest {
         let like = like_of(sources, calls, first.to)?;
-        let called = sources.called(like)?;
-        let more = count_same(sources, calls, &called, like, after)?;
+        let before = sources.before(like)?;
+        let more = count_same(sources, calls, &before, like, after)?;
         groups.push(Group {
-            called,
+            before,
             count: more + 1,
         })?;
         rest = &after[more..];

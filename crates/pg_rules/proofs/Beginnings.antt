@@ -37,6 +37,7 @@ wide_follow = record {
     wide = refl;
     deals = refl;
     callouts = refl;
+    barriers = refl;
     rules = record { fits = refl; well_formed = refl; tolerable = refl; passes = refl; room = refl; counts = refl; note_limits = refl; looseness = refl };
   };
   turns = refl;

@@ -1,8 +1,9 @@
 -- Small galleys, styles and paginations on which the definitions are computed.
 use Rattle.std.proofs.Common.{zero, suc, ℕ, ℤ, pos, negsuc, List, [], ◌∷◌, Some, None}
 use Rattle.std.specs.Prelude.{map, ◌*◌}
+use Rattle.pg_list.specs.Barrier.{barrier_body}
 use Rattle.pg_list.specs.declared.item.Item.{Item}
-use Rattle.pg_list.specs.declared.item.Item.TheVariants.{BoxItem, Glue, Kern, Penalty, Insert}
+use Rattle.pg_list.specs.declared.item.Item.TheVariants.{BoxItem, Carry, Glue, Kern, Penalty, Insert}
 use Rattle.pg_list.specs.declared.item.Order.TheVariants.{Finite, Fil}
 use Rattle.pg_list.specs.declared.blocks.Block.{Block}
 use Rattle.pg_list.specs.declared.blocks.Block.TheVariants.{One, Choice}
@@ -51,6 +52,9 @@ eject = Penalty (negsuc 9999) []
 
 abbrev pub insert : ℕ → ℕ → Item
 insert class size = Insert class (points size) []
+
+abbrev pub barrier : Item
+barrier = Carry barrier_body
 
 -- ---- styles
 
@@ -144,6 +148,24 @@ floats_begun = pages (page (0 ∷ []) (text_column (at 0) (at 5) (0 ∷ []) ∷ 
 
 abbrev pub floats_plan : Pagination
 floats_plan = pages (page (0 ∷ []) (text_column (at 0) (at 5) (0 ∷ []) ∷ []) ∷ page (0 ∷ []) (floats_at (at 5) 1 ∷ []) ∷ page (0 ∷ []) (floats_at (at 5) 1 ∷ []) ∷ [])
+
+-- a line and a float, and a line behind a barrier, where a page ends in front of the barrier, or behind it
+abbrev pub barrier_behind_eject : GalleyValue
+barrier_behind_eject = galley (line ∷ insert 100 10 ∷ eject ∷ barrier ∷ line ∷ [])
+
+abbrev pub barrier_before_eject : GalleyValue
+barrier_before_eject = galley (line ∷ insert 100 10 ∷ barrier ∷ eject ∷ line ∷ [])
+
+-- a page up to this place and one from there on, with so many floats at their tops
+abbrev pub cut_at : ℕ → ℕ → ℕ → Pagination
+cut_at cut first second =
+    pages (page (0 ∷ []) (record { from = at 0; to = at cut; top = first ∷ []; bottom = 0 ∷ []; picks = [] } ∷ [])
+    ∷ page (0 ∷ []) (record { from = at cut; to = at 5; top = second ∷ []; bottom = 0 ∷ []; picks = [] } ∷ []) ∷ [])
+
+-- the float on a page of its own between them
+abbrev pub float_between : Pagination
+float_between = pages (page (0 ∷ []) (text_column (at 0) (at 2) (0 ∷ []) ∷ []) ∷ page (0 ∷ []) (floats_at (at 2) 1 ∷ [])
+    ∷ page (0 ∷ []) (text_column (at 2) (at 5) (0 ∷ []) ∷ []) ∷ [])
 
 -- a line and a float that may stand above or below it
 abbrev pub top_or_bottom : GalleyValue

@@ -1,10 +1,11 @@
 -- For each rule a pagination that breaks it and no rule before it, and the first column at which it does.
-use Rattle.std.proofs.Common.{◌≡◌, refl, pos, [], ◌∷◌, Some}
+use Rattle.std.proofs.Common.{◌≡◌, refl, pos, [], ◌∷◌, None, Some}
+use Rattle.pg_list.specs.Barrier.{barrier_body}
 use Rattle.pg_list.specs.declared.item.Item.TheVariants.{Carry}
 use Rattle.pg_list.specs.declared.blocks.Block.TheVariants.{Choice}
 use Rattle.pg_style.specs.declared.style.First.TheVariants.{Left}
 use Rattle.pg_rules.specs.Legal.{breach}
-use Rattle.pg_rules.proofs.Examples.{points, line, plain, galley, at, text_column, floats_at, page, pages, two_pages, ten_lines, forced, one_note, note_style, two_floats, floats_style, floats_plan, floats_begun, tied_lines, runs_style, runs_plan, one_choice, choice_style, choice_plan}
+use Rattle.pg_rules.proofs.Examples.{points, line, plain, galley, at, text_column, floats_at, page, pages, two_pages, ten_lines, forced, one_note, note_style, two_floats, floats_style, floats_plan, floats_begun, barrier_behind_eject, barrier_before_eject, cut_at, float_between, tied_lines, runs_style, runs_plan, one_choice, choice_style, choice_plan}
 
 -- 1, full pages: a page without a column
 full_pages : breach ten_lines (plain 58) (pages (page [] [] ∷ [])) ≡ Some (1, 1)
@@ -82,3 +83,22 @@ runs_and_spreads = refl
 looseness : breach one_choice (choice_style 0) choice_plan ≡ Some (13, 1)
 unfolding breach
 looseness = refl
+
+-- 14, barriers: the float stands above the text that begins behind the barrier
+float_behind_a_barrier : breach barrier_behind_eject (floats_style (0 ∷ 100 ∷ 400 ∷ [])) (cut_at 2 0 1) ≡ Some (14, 2)
+unfolding breach barrier_body
+float_behind_a_barrier = refl
+
+-- the text ends behind the barrier, and the float waits
+float_passed_by_a_barrier : breach barrier_before_eject (floats_style (0 ∷ 100 ∷ 400 ∷ [])) (cut_at 3 0 1) ≡ Some (14, 1)
+unfolding breach barrier_body
+float_passed_by_a_barrier = refl
+
+-- both barriers are kept where the float stands before, or with the text that ends behind
+float_before_a_barrier : breach barrier_behind_eject (floats_style (0 ∷ 100 ∷ 400 ∷ [])) float_between ≡ None
+unfolding breach barrier_body
+float_before_a_barrier = refl
+
+float_with_a_barrier : breach barrier_before_eject (floats_style (0 ∷ 100 ∷ 400 ∷ [])) (cut_at 3 1 0) ≡ None
+unfolding breach barrier_body
+float_with_a_barrier = refl

@@ -12,6 +12,7 @@ use Rattle.pg_style.specs.declared.style.Kind.TheVariants.{Note, Float}
 use Rattle.pg_style.specs.declared.style.Area.{Area}
 use Rattle.pg_style.specs.declared.style.Area.TheVariants.{Top, Bottom, Both, Wide}
 use Rattle.pg_style.specs.Values.{AreaRuleValue}
+use Rattle.pg_list.specs.Barrier.{up_to_barrier}
 use Rattle.pg_list.specs.Flat.{flat, items_before}
 use Rattle.pg_list.specs.declared.galley.Place.{Place}
 use Rattle.pg_list.specs.Whole.{whole_sum_by}
@@ -51,6 +52,11 @@ floats blocks style = map (λ number. sizes_of number (flat blocks [])) (float_n
 -- for each float class, how many of its floats are called before a place
 abbrev pub called : List Block → StyleValue → Place → List ℕ
 called blocks style at = map (λ number. length (sizes_of number (items_before blocks at))) (float_numbers style)
+
+-- for each float class, how many of its floats are called before the last barrier in front of a block
+abbrev pub flushed : List Block → StyleValue → ℕ → List ℕ
+flushed blocks style block =
+    map (λ number. length (sizes_of number (flat (up_to_barrier (take block blocks)) []))) (float_numbers style)
 
 -- the slots of the float classes
 abbrev pub slots : StyleValue → List ℕ

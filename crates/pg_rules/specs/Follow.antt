@@ -11,7 +11,7 @@ use Rattle.pg_rules.specs.Cost.{column_cost}
 use Rattle.pg_list.specs.Flat.{is_same_place}
 use Rattle.pg_rules.specs.Floats.{called, floats_between}
 use Rattle.pg_rules.specs.History.{context_with, made_wide, placed_after, is_called, fitness_after}
-use Rattle.pg_rules.specs.Legal.{has_wide_counts, deals_floats, has_callouts, has_run, added}
+use Rattle.pg_rules.specs.Legal.{has_wide_counts, deals_floats, has_callouts, has_run, keeps_barriers, added}
 use Rattle.pg_rules.specs.Floats.{distance_table}
 use Rattle.pg_rules.specs.Room.{Document, ColumnContext}
 
@@ -101,6 +101,7 @@ pub record MayStand (doc : Document) (column : ℕ) (must : Option ℕ) (placed 
   pub wide : has_wide_counts doc column m ≡ true
   pub deals : deals_floats doc placed m it ≡ true
   pub callouts : has_callouts doc placed m ≡ true
+  pub barriers : keeps_barriers doc placed m ≡ true
   pub rules : KeepsColumnRules it
 
 -- the column, with its run and wide counts, may come after the state, and gives the next at this cost

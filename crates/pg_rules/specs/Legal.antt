@@ -1,5 +1,5 @@
 -- The rules that a pagination keeps, and the column at which each is broken first.
-use Rattle.std.specs.Prelude.{◌≡◌, ℕ, ◌+◌, ◌-◌, Bool, true, false, ◌==◌, ◌&&◌, nat_lt, nat_le, if◌then◌else◌, List, [], ◌∷◌, length, reverse, Option, Some, None, slice_get, ℤ, is_some}
+use Rattle.std.specs.Prelude.{◌≡◌, ℕ, ◌+◌, ◌-◌, Bool, true, false, ◌==◌, ◌&&◌, ◌||◌, nat_lt, nat_le, if◌then◌else◌, List, [], ◌∷◌, length, reverse, Option, Some, None, slice_get, ℤ, is_some}
 use Rattle.std.specs.List.{list_all, enumerate_from}
 use Rattle.std.specs.Option.{option_map_or, option_or}
 use Rattle.pg_list.specs.GalleyValue.{GalleyValue}
@@ -9,10 +9,11 @@ use Rattle.pg_plan.specs.declared.pages.Page.{Page}
 use Rattle.pg_plan.specs.declared.pages.Pagination.{Pagination}
 use Rattle.pg_style.specs.Values.{StyleValue}
 use Rattle.pg_style.specs.declared.style.Area.{Area}
+use Rattle.pg_list.specs.Barrier.{text_block}
 use Rattle.pg_list.specs.Break.{is_spent}
 use Rattle.pg_rules.specs.ColumnRules.{does_fit, is_well_formed, is_tolerable, passes_breaks, has_room, has_counts, has_dealable, keeps_note_limits, keeps_looseness}
 use Rattle.pg_list.specs.Flat.{FlatItem, is_same_place, flat_items_at}
-use Rattle.pg_rules.specs.Floats.{total_count, float_numbers, floats, has_all, entry, float_class, is_area_allowed, takes_wide, floats_between, distance_table}
+use Rattle.pg_rules.specs.Floats.{called, total_count, float_numbers, floats, flushed, has_all, entry, float_class, is_area_allowed, slots, takes_wide, floats_between, distance_table}
 use Rattle.pg_rules.specs.History.{next_column, next_page, next_run, place_of, placed_of, placed_after, is_called, calling_page, context}
 use Rattle.pg_rules.specs.Room.{Document, ColumnContext}
 use Rattle.pg_list.specs.declared.galley.Place.{Place}
@@ -52,6 +53,25 @@ abbrev pub is_near : Document → PageMove → List PageMove → Bool
 is_near doc m ms =
     list_all (λ (float : ℕ × ℕ). nat_lt (distance doc m ms float) (length (distance_table doc.style float.0)))
     (added doc (placed_of doc.style ms) m)
+
+-- no class has fewer floats placed than these
+abbrev pub are_placed : StyleValue → List ℕ → List ℕ → Bool
+are_placed style called placed = list_all (λ (slot : ℕ). nat_le (entry called slot) (entry placed slot)) (slots style)
+
+-- of each class no called float waits, or all those that are called before a barrier are placed
+abbrev pub are_ready : StyleValue → List ℕ → List ℕ → List ℕ → Bool
+are_ready style called flushed placed =
+    list_all (λ (slot : ℕ). nat_le (entry called slot) (entry placed slot)
+    || nat_le (entry flushed slot) (entry placed slot)) (slots style)
+
+-- rule 14, barriers: where a text begins behind a barrier, the floats that are called before its column and before that
+-- barrier are placed before the column; where it ends behind one, those that are called before that with the column
+abbrev pub keeps_barriers : Document → List ℕ → PageMove → Bool
+keeps_barriers doc placed m =
+    is_same_place m.column.from m.column.to
+    || (are_ready doc.style (called doc.blocks doc.style m.column.from)
+    (flushed doc.blocks doc.style (text_block doc.blocks m.column.from)) placed
+    && are_placed doc.style (flushed doc.blocks doc.style m.column.to.block) (placed_after doc.style placed m))
 
 -- ---- rules on the whole
 
@@ -125,6 +145,8 @@ faults_with doc pages ms at_end left =
     ∷ first_at_fault (λ m ms. has_run doc.style (next_run doc.style ms) m) ms
     -- 13 looseness
     ∷ first_at_fault (λ m ms. keeps_looseness (context doc m ms)) ms
+    -- 14 barriers
+    ∷ first_at_fault (λ m ms. keeps_barriers doc (placed_of doc.style ms) m) ms
     ∷ []
 
 -- the galley's blocks and the style

@@ -1,8 +1,10 @@
 -- What is printed reads back, line by line.
-use Rattle.std.proofs.Common.{◌≡◌, ◌∙◌, ◌≤◌, ◌<◌, ◌+◌, ◌^◌, ℕ, suc, ap, sym, arith, List, [], ◌∷◌, ◌++◌, refl, length, true, false, subst, append_assoc, append-nil, Bool}
+use Rattle.std.proofs.Common.{◌≡◌, ◌∙◌, ◌≤◌, ◌<◌, ◌+◌, ◌^◌, ℕ, suc, ap, sym, arith, List, [], ◌∷◌, ◌++◌, refl, length, true, false, subst, append_assoc, append-nil, Bool, inl, inr}
 use Rattle.std.specs.Prelude.{IsTrue, Result, Ok, Option, None, codes, ◌==◌, not, ◌&&◌}
 use Rattle.std.specs.List.{AllByRecursion, flat_map}
+use Rattle.pg_list.specs.Barrier.{barrier_body}
 use Rattle.pg_list.specs.declared.item.Item.{Item}
+use Rattle.pg_list.specs.declared.item.Item.TheVariants.{Carry}
 use Rattle.pg_list.specs.declared.variants.Variant.{Variant}
 use Rattle.pg_list.specs.declared.blocks.Block.{Block}
 use Rattle.pg_list.specs.declared.blocks.Block.TheVariants as block
@@ -19,7 +21,7 @@ use Rattle.pg_scan.specs.Lines.{lines_of, raw_lines, joined, trimmed, is_no_feed
 use Rattle.pg_scan.specs.Parts.{after, past}
 use Rattle.pg_showbox.specs.Nodes.{node_item}
 use Rattle.pg_showbox.specs.ParsedLine.{pointed_at, marker_at, variant_at, block_line, listing_line, galley_line}
-use Rattle.pg_showbox.specs.State.{step, longer_last, placed, placed_block, placed_item, begun_choice, begun_variant, next_variant, closed, whole_choice, ended_choice}
+use Rattle.pg_showbox.specs.State.{step, longer_last, placed, placed_barrier, placed_block, placed_item, begun_choice, begun_variant, next_variant, closed, whole_choice, ended_choice}
 use Rattle.pg_showbox.specs.Reading.{in_listing, said_in, line_read, run}
 use Rattle.std.specs.Prelude.{ℤ}
 use Rattle.std.proofs.lemmas.Bool.{lt-ltb}
@@ -28,7 +30,7 @@ use Rattle.pg_list.specs.Counts.{block_size, item_count, item_limit}
 use Rattle.pg_list.specs.Shapes.{IsBlock}
 use Rattle.pg_showbox.specs.Text.{pointed_byte, body_text, block_text, items_text, choice_line, end_line, variant_front, variant_numbers, variant_text}
 use Rattle.pg_scan.specs.Lines.{IsClean}
-use Rattle.pg_showbox.specs.Shown.{IsDeeper, IsShown, IsShownBlock, deeper_text}
+use Rattle.pg_showbox.specs.Shown.{IsDeeper, IsShown, IsShownBarrier, IsShownBlock, deeper_text}
 use Rattle.pg_showbox.proofs.RunLemmas.{run_more}
 use Rattle.pg_scan.proofs.LineLemmas.{no_return}
 use Rattle.pg_showbox.proofs.WholeReads.{whole_reads}
@@ -232,6 +234,47 @@ one_reads width blocks has_item count item shown few =
     (λ x. in_list width (blocks ++ block.One x ∷ []) true (count + 1)) item shown refl
     (list_last width blocks count) (λ x. list_place width blocks has_item count x few)
 
+-- fixed lines
+abbrev no_feeds : List ℕ → Bool
+no_feeds [] = true
+no_feeds (c ∷ cs) = is_no_feed c && no_feeds cs
+
+pub all_no_feeds : (line : List ℕ) → IsTrue (no_feeds line) → AllByRecursion (λ c. IsTrue (is_no_feed c)) line
+all_no_feeds [] e = tt
+all_no_feeds (c ∷ cs) e = let p = true_both (is_no_feed c) (no_feeds cs) e in (p.0, all_no_feeds cs p.1)
+
+-- a barrier, with its deeper lines
+barrier_clean : IsClean (46 ∷ barrier_body)
+unfolding barrier_body trimmed
+barrier_clean = record { no_feed = all_no_feeds (46 ∷ codes "\\special{pg:flush}") refl; no_return = refl }
+
+barrier_says : pointed_at barrier_body ≡ Ok said.Barrier
+unfolding barrier_body pointed_at marker_at after
+barrier_says = refl
+
+barrier_step : (width : Option ℤ) (blocks : List Block) (has_item : Bool) (count : ℕ) → count < item_limit
+    → step (in_list width blocks has_item count) said.Barrier (46 ∷ barrier_body)
+    ≡ Ok (in_list width (blocks ++ block.One (Carry barrier_body) ∷ []) true (count + 1))
+unfolding step placed_barrier placed_block
+barrier_step width blocks has_item count few = rw (lt-ltb count item_limit few) refl
+
+barrier_reads : (width : Option ℤ) (blocks : List Block) (has_item : Bool) (count : ℕ) (item : Item) → IsShownBarrier item
+    → count < item_limit
+    → Reads (in_list width blocks has_item count) (body_text (body_of item))
+    (in_list width (blocks ++ block.One item ∷ []) true (count + 1))
+barrier_reads width blocks has_item count item shown few =
+    let s = in_list width blocks has_item count in
+    let K : Item → ReaderState = λ x. in_list width (blocks ++ block.One x ∷ []) true (count + 1) in
+    let body = barrier_body ++ deeper_text shown.deeper in
+    let one = reads_line s (K (Carry barrier_body)) (46 ∷ barrier_body) barrier_clean
+    (pointed_line s barrier_body said.Barrier refl barrier_says ∙ barrier_step width blocks has_item count few) in
+    let more = deeper_reads K node.Carry barrier_body shown.deeper (list_last width blocks count) shown.each in
+    let all = reads_then s (K (Carry barrier_body)) (K (Carry body)) ((46 ∷ barrier_body) ++ 10 ∷ [])
+    (deeper_lines shown.deeper) one more in
+    subst (λ (x : Item). Reads s (body_text (body_of x)) (K x)) (sym shown.is)
+    (subst (λ (t : List ℕ). Reads s t (K (Carry body)))
+    (sym (body_lines barrier_body shown.deeper barrier_clean.no_feed.1 shown.each)) all)
+
 -- a block, after which an item may be longer or not
 abbrev pub BlockReads : Option ℤ → List Block → Bool → ℕ → Block → Type 0
 BlockReads width blocks has_item count b = (more : Bool) × Reads (in_list width blocks has_item count) (block_text b)
@@ -310,15 +353,6 @@ items_read width blocks variants l d items has_item count (x ∷ more) shown few
           (subst (λ (m : ℕ). Reads from (items_text (x ∷ more))
           (in_var width blocks variants l d ((items ++ x ∷ []) ++ more) rest.0 m)) n all),
     )
-
--- fixed lines
-abbrev no_feeds : List ℕ → Bool
-no_feeds [] = true
-no_feeds (c ∷ cs) = is_no_feed c && no_feeds cs
-
-pub all_no_feeds : (line : List ℕ) → IsTrue (no_feeds line) → AllByRecursion (λ c. IsTrue (is_no_feed c)) line
-all_no_feeds [] e = tt
-all_no_feeds (c ∷ cs) e = let p = true_both (is_no_feed c) (no_feeds cs) e in (p.0, all_no_feeds cs p.1)
 
 choice_clean : IsClean (46 ∷ codes "\\special{pg:choice}")
 unfolding trimmed
@@ -611,8 +645,10 @@ choice_reads width blocks has_item count (variant ∷ variants) shown is few =
 
 block_reads : (width : Option ℤ) (blocks : List Block) (has_item : Bool) (count : ℕ) (b : Block) → IsShownBlock b
     → IsBlock b → count + block_size b ≤ item_limit → BlockReads width blocks has_item count b
-block_reads width blocks has_item count (block.One item) shown is few =
+block_reads width blocks has_item count (block.One item) (inl shown) is few =
     (true, one_reads width blocks has_item count item shown (omega arith))
+block_reads width blocks has_item count (block.One item) (inr shown) is few =
+    (true, barrier_reads width blocks has_item count item shown (omega arith))
 block_reads width blocks has_item count (block.Choice variants) shown is few =
     (false, choice_reads width blocks has_item count variants shown is few)
 

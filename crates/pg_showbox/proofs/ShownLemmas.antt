@@ -6,7 +6,9 @@ use Rattle.std.specs.Str.{bytes_eq}
 use Rattle.std.proofs.lemmas.Slice.Eq.{bytes_eq-Decides}
 use Rattle.std.proofs.lemmas.Bool.{cases_Bool}
 use Rattle.std.proofs.lemmas.List.{take-append-drop}
+use Rattle.pg_list.specs.Barrier.{barrier_body}
 use Rattle.pg_list.specs.declared.item.Item.{Item}
+use Rattle.pg_list.specs.declared.item.Item.TheVariants.{Carry}
 use Rattle.pg_list.specs.declared.variants.Variant.{Variant}
 use Rattle.pg_list.specs.declared.blocks.Block.{Block}
 use Rattle.pg_list.specs.declared.blocks.Block.TheVariants as block
@@ -27,9 +29,9 @@ use Rattle.pg_showbox.specs.declared.state.Within.{Within}
 use Rattle.pg_showbox.specs.declared.state.Within.TheVariants.{Outside, Listing, InChoice, InVariant}
 use Rattle.pg_showbox.specs.Nodes.{node_item}
 use Rattle.pg_showbox.specs.ParsedLine.{root_at, ends_cut, pointed_at, block_line, listing_line, galley_line}
-use Rattle.pg_showbox.specs.State.{started, placed, placed_block, placed_item, longer_last, last_extended, closed, ended, begun_listing, begun_choice, begun_variant, next_variant, whole_choice, ended_choice, or_first, step}
+use Rattle.pg_showbox.specs.State.{started, placed, placed_barrier, placed_block, placed_item, longer_last, last_extended, closed, ended, begun_listing, begun_choice, begun_variant, next_variant, whole_choice, ended_choice, or_first, step}
 use Rattle.pg_showbox.specs.Reading.{at_line, then_ok, in_listing, said_in, line_read, run, all_read}
-use Rattle.pg_showbox.specs.Shown.{IsDeeper, IsShown, IsShownBlock, deeper_text}
+use Rattle.pg_showbox.specs.Shown.{IsDeeper, IsShown, IsShownBarrier, IsShownBlock, deeper_text}
 use Rattle.pg_showbox.proofs.StateLemmas.{if_ok, bind_ok}
 use Rattle.pg_showbox.proofs.ReadBack.{longer_node, past_point}
 use Rattle.pg_lemmas.proofs.Lists.{all_append}
@@ -55,6 +57,16 @@ longer_shown line item deeper h = record {
       ∙ ap (λ (t : List ℕ). h.first ++ t) (deeper_snoc h.deeper line));
 }
 
+barrier_longer : (line : List ℕ) (item : Item) → IsDeeper line → IsShownBarrier item
+    → IsShownBarrier (with_line line item)
+barrier_longer line item deeper h = record {
+  deeper = h.deeper ++ line ∷ [];
+  each = all_append IsDeeper h.deeper (line ∷ []) h.each (deeper, tt);
+  is = ap (with_line line) h.is
+      ∙ ap Carry (append_assoc barrier_body (deeper_text h.deeper) (10 ∷ line)
+      ∙ ap (λ (t : List ℕ). barrier_body ++ t) (deeper_snoc h.deeper line));
+}
+
 extended_shown : (line : List ℕ) (items : List Item) → IsDeeper line → AllByRecursion IsShown items
     → AllByRecursion IsShown (extended line items)
 extended_shown line [] deeper h = tt
@@ -62,7 +74,8 @@ extended_shown line (item ∷ []) deeper h = (longer_shown line item deeper h.0,
 extended_shown line (item ∷ next ∷ items) deeper h = (h.0, extended_shown line (next ∷ items) deeper h.1)
 
 block_longer : (line : List ℕ) (b : Block) → IsDeeper line → IsShownBlock b → IsShownBlock (block_with_line line b)
-block_longer line (block.One item) deeper h = longer_shown line item deeper h
+block_longer line (block.One item) deeper (inl h) = inl (longer_shown line item deeper h)
+block_longer line (block.One item) deeper (inr h) = inr (barrier_longer line item deeper h)
 block_longer line (block.Choice variants) deeper h = h
 
 blocks_longer : (line : List ℕ) (blocks : List Block) → IsDeeper line → AllByRecursion IsShownBlock blocks
@@ -79,6 +92,7 @@ IsMark said.Nothing = ⊤
 IsMark said.Blank = ⊤
 IsMark (said.Root width) = ⊤
 IsMark (said.Item node) = ⊥
+IsMark said.Barrier = ⊤
 IsMark said.Deeper = ⊥
 IsMark said.ChoiceMark = ⊤
 IsMark (said.VariantMark looseness demerits) = ⊤
@@ -182,7 +196,8 @@ pub record AreShown (s : ReaderState) : Type 0 where
   pub variants : AllByRecursion IsShownVariant s.variants
   pub items : AllByRecursion IsShown s.items
 
-placed_block_shown : (s t : ReaderState) (item : Item) → AreShown s → IsShown item → placed_block s item ≡ Ok t → AreShown t
+placed_block_shown : (s t : ReaderState) (item : Item) → AreShown s → IsShownBlock (block.One item)
+    → placed_block s item ≡ Ok t → AreShown t
 unfolding placed_block
 placed_block_shown s t item h is e =
     let p = if_ok (nat_lt s.count item_limit)
@@ -210,9 +225,17 @@ placed_shown : (s t : ReaderState) (within : Within) (item : Item) → AreShown 
     → AreShown t
 unfolding placed
 placed_shown s t Outside item h is e = absurd (cc)
-placed_shown s t Listing item h is e = placed_block_shown s t item h is e
+placed_shown s t Listing item h is e = placed_block_shown s t item h (inl is) e
 placed_shown s t InChoice item h is e = absurd (cc)
 placed_shown s t (InVariant l d) item h is e = placed_item_shown s t item h is e
+
+barrier_shown : (s t : ReaderState) (within : Within) → AreShown s → placed_barrier s within ≡ Ok t → AreShown t
+unfolding placed_barrier
+barrier_shown s t Outside h e = absurd (cc)
+barrier_shown s t Listing h e = placed_block_shown s t (Carry barrier_body) h
+    (inr (record { deeper = []; each = tt; is = ap Carry (sym (append-nil barrier_body)) })) e
+barrier_shown s t InChoice h e = absurd (cc)
+barrier_shown s t (InVariant l d) h e = absurd (cc)
 
 block_longer_shown : (s : ReaderState) (line : List ℕ) → AreShown s → IsDeeper line
     → AreShown (record s { blocks = extended_blocks line s.blocks })
@@ -343,6 +366,7 @@ step_shown s t (said.Root width) line clean p h e = begun_listing_shown s t widt
 step_shown s t (said.Item node) line clean (inl wrong) h e = absurd wrong
 step_shown s t (said.Item node) line clean (inr p) h e =
     placed_shown s t s.within (node_item node (past (codes ".") line)) h (item_shown line p.0 node clean p.1 p.2) e
+step_shown s t said.Barrier line clean p h e = barrier_shown s t s.within h e
 step_shown s t said.Deeper line clean (inl wrong) h e = absurd wrong
 step_shown s t said.Deeper line clean (inr p) h e =
     longer_last_shown s t s.within (past (codes ".") line) h (line_deeper line p.0 clean p.1 p.2) e

@@ -4,7 +4,9 @@ use Rattle.std.specs.Prelude.{Result, Ok, Err, Bool, Option, Some, None, ℤ, na
 use Rattle.std.proofs.lemmas.Bool.{cases_Bool}
 use Rattle.std.proofs.lemmas.Bool.Decides.{nat_tests}
 use Rattle.std.proofs.lemmas.List.Sums.{sum_by-cons, sum_by_push}
+use Rattle.pg_list.specs.Barrier.{barrier_body}
 use Rattle.pg_list.specs.declared.item.Item.{Item}
+use Rattle.pg_list.specs.declared.item.Item.TheVariants.{Carry}
 use Rattle.pg_list.specs.declared.variants.Variant.{Variant}
 use Rattle.pg_list.specs.declared.blocks.Block.{Block}
 use Rattle.pg_list.specs.declared.blocks.Block.TheVariants as block
@@ -25,7 +27,7 @@ use Rattle.pg_showbox.specs.Parts.{◌>>=◌}
 use Rattle.pg_scan.specs.Parts.{past}
 use Rattle.pg_showbox.specs.Nodes.{node_item}
 use Rattle.std.specs.Prelude.{codes}
-use Rattle.pg_showbox.specs.State.{Steps, Counted, Sound, placed, placed_block, placed_item, longer_last, last_extended, closed, ended, begun_listing, begun_choice, begun_variant, next_variant, whole_choice, ended_choice, or_first, step}
+use Rattle.pg_showbox.specs.State.{Steps, Counted, Sound, placed, placed_barrier, placed_block, placed_item, longer_last, last_extended, closed, ended, begun_listing, begun_choice, begun_variant, next_variant, whole_choice, ended_choice, or_first, step}
 
 pub steps_err : (kind : ListKind) (said : Result ReaderState ListKind) (new : ReaderState) → said ≡ Err kind
     → Steps (Err kind) said new
@@ -108,6 +110,13 @@ placed_sound s t Outside item h e = absurd (cc)
 placed_sound s t Listing item h e = placed_block_sound s t item h e
 placed_sound s t InChoice item h e = absurd (cc)
 placed_sound s t (InVariant l d) item h e = placed_item_sound s t item h e
+
+barrier_sound : (s t : ReaderState) (within : Within) → Sound s → placed_barrier s within ≡ Ok t → Sound t
+unfolding placed_barrier
+barrier_sound s t Outside h e = absurd (cc)
+barrier_sound s t Listing h e = placed_block_sound s t (Carry barrier_body) h e
+barrier_sound s t InChoice h e = absurd (cc)
+barrier_sound s t (InVariant l d) h e = absurd (cc)
 
 blocks_longer : (s : ReaderState) (line : List ℕ) → Sound s → Sound (record s { blocks = extended_blocks line s.blocks })
 blocks_longer s line h = record {
@@ -270,6 +279,7 @@ step_sound s t said.Nothing line h r e = let is : s ≡ t = cc in subst Sound is
 step_sound s t said.Blank line h r e = ended_sound s t s.within h e
 step_sound s t (said.Root width) line h r e = begun_listing_sound s t width h r e
 step_sound s t (said.Item node) line h r e = placed_sound s t s.within (node_item node (past (codes ".") line)) h e
+step_sound s t said.Barrier line h r e = barrier_sound s t s.within h e
 step_sound s t said.Deeper line h r e = longer_last_sound s t s.within (past (codes ".") line) h e
 step_sound s t said.ChoiceMark line h r e = begun_choice_sound s t s.within h e
 step_sound s t (said.VariantMark l d) line h r e = begun_variant_sound s t s.within l d h r.0 r.1 e

@@ -5,7 +5,7 @@ use Rattle.pg_scaled.specs.Ranges.{IsScaled}
 use Rattle.pg_showbox.specs.declared.kinds.ListKind.{ListKind}
 use Rattle.pg_showbox.specs.declared.kinds.ListKind.TheVariants.{BadLine, Truncated, ChoiceShape}
 use Rattle.pg_showbox.specs.declared.parsed.ParsedLine.{ParsedLine}
-use Rattle.pg_showbox.specs.declared.parsed.ParsedLine.TheVariants.{Nothing, Blank, Root, Item, Deeper, ChoiceMark, VariantMark, EndMark}
+use Rattle.pg_showbox.specs.declared.parsed.ParsedLine.TheVariants.{Nothing, Blank, Root, Item, Barrier, Deeper, ChoiceMark, VariantMark, EndMark}
 use Rattle.pg_showbox.specs.Parts.{◌>>=◌, due, size_at, past_size, whole_at}
 use Rattle.pg_scan.specs.Parts.{after, on}
 use Rattle.pg_showbox.specs.Nodes.{node_at, IsNodeInRange}
@@ -40,7 +40,8 @@ variant_at bytes = do
 unfoldable pub marker_at : List ℕ → Result ParsedLine ListKind
 marker_at bytes = if bytes_eq bytes (codes "choice}") then Ok ChoiceMark
     else (if bytes_eq bytes (codes "end}") then Ok EndMark
-    else on (after (codes "variant ") bytes) variant_at (Err ChoiceShape))
+    else (if bytes_eq bytes (codes "flush}") then Ok Barrier
+    else on (after (codes "variant ") bytes) variant_at (Err ChoiceShape)))
 
 -- a line behind its first point
 unfoldable pub pointed_at : List ℕ → Result ParsedLine ListKind
@@ -64,6 +65,7 @@ IsParsedInRange Nothing = Unit {0}
 IsParsedInRange Blank = Unit {0}
 IsParsedInRange (Root width) = IsScaled width
 IsParsedInRange (Item node) = IsNodeInRange node
+IsParsedInRange Barrier = Unit {0}
 IsParsedInRange Deeper = Unit {0}
 IsParsedInRange ChoiceMark = Unit {0}
 IsParsedInRange (VariantMark looseness demerits) = (nat_abs looseness ≤ 100) × (demerits ≤ 100000000)

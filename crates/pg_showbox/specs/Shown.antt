@@ -1,7 +1,9 @@
 -- Items that show what they are: the body reads as the item.
-use Rattle.std.specs.Prelude.{◌≡◌, ℕ, List, [], ◌∷◌, ◌++◌, Ok}
+use Rattle.std.specs.Prelude.{◌≡◌, ◌⊎◌, ℕ, List, [], ◌∷◌, ◌++◌, Ok}
 use Rattle.std.specs.List.{AllByRecursion}
+use Rattle.pg_list.specs.Barrier.{barrier_body}
 use Rattle.pg_list.specs.declared.item.Item.{Item}
+use Rattle.pg_list.specs.declared.item.Item.TheVariants.{Carry}
 use Rattle.pg_list.specs.declared.variants.Variant.{Variant}
 use Rattle.pg_list.specs.declared.blocks.Block.{Block}
 use Rattle.pg_list.specs.declared.blocks.Block.TheVariants as block
@@ -30,7 +32,13 @@ pub record IsShown (item : Item) : Type 0 where
   pub each : AllByRecursion IsDeeper deeper
   pub is : item ≡ node_item node (first ++ deeper_text deeper)
 
+-- the body's first line says a barrier, and all others are deeper lines
+pub record IsShownBarrier (item : Item) : Type 0 where
+  pub deeper : List (List ℕ)
+  pub each : AllByRecursion IsDeeper deeper
+  pub is : item ≡ Carry (barrier_body ++ deeper_text deeper)
+
 abbrev pub IsShownBlock : Block → Type 0
-IsShownBlock (block.One item) = IsShown item
+IsShownBlock (block.One item) = IsShown item ⊎ IsShownBarrier item
 IsShownBlock (block.Choice variants) = AllByRecursion (λ (variant : Variant). AllByRecursion IsShown variant.items)
     variants

@@ -1,7 +1,9 @@
 -- What was read so far, and what a line does to it.
 use Rattle.std.specs.Prelude.{◌≡◌, ◌≤◌, ◌<◌, ◌+◌, ⊤, ℕ, true, false, List, [], ◌∷◌, ◌++◌, length, Option, Some, None, Result, Ok, Err, ℤ, nat_abs, nat_lt, IfSome, if◌then◌else◌, codes}
 use Rattle.std.specs.List.{sum_by}
+use Rattle.pg_list.specs.Barrier.{barrier_body}
 use Rattle.pg_list.specs.declared.item.Item.{Item}
+use Rattle.pg_list.specs.declared.item.Item.TheVariants.{Carry}
 use Rattle.pg_list.specs.declared.variants.Variant.{Variant}
 use Rattle.pg_list.specs.declared.blocks.Block.TheVariants as block
 use Rattle.pg_list.specs.Bodies.{extended, extended_blocks}
@@ -44,6 +46,13 @@ placed s Outside item = Err BadLine
 placed s Listing item = placed_block s item
 placed s InChoice item = Err ChoiceShape
 placed s (InVariant looseness demerits) item = placed_item s item
+
+-- a barrier stands next, as a block; within a choice there is none
+unfoldable pub placed_barrier : ReaderState → Within → Result ReaderState ListKind
+placed_barrier s Outside = Err ChoiceShape
+placed_barrier s Listing = placed_block s (Carry barrier_body)
+placed_barrier s InChoice = Err ChoiceShape
+placed_barrier s (InVariant looseness demerits) = Err ChoiceShape
 
 -- a deeper line stands next
 abbrev pub last_extended : ReaderState → Within → List ℕ → ReaderState
@@ -124,6 +133,7 @@ step s said.Nothing line = Ok s
 step s said.Blank line = ended s s.within
 step s (said.Root width) line = begun_listing s width
 step s (said.Item node) line = placed s s.within (node_item node (past (codes ".") line))
+step s said.Barrier line = placed_barrier s s.within
 step s said.Deeper line = longer_last s s.within (past (codes ".") line)
 step s said.ChoiceMark line = begun_choice s s.within
 step s (said.VariantMark looseness demerits) line = begun_variant s s.within looseness demerits

@@ -9,13 +9,14 @@ use crate::parts::{expect, read_size, skip_size};
 use pg_scan::skip;
 
 /// What a line says: nothing outside of listings, the end of a listing, a root of this width, the
-/// first line of an item, a deeper line, or a marker of a choice.
+/// first line of an item, a barrier, a deeper line, or a marker of a choice.
 #[derive(Clone, Copy, PartialEq, Eq)]
 pub enum ParsedLine {
     Nothing,
     Blank,
     Root { width: i32 },
     Item { node: Node },
+    Barrier,
     Deeper,
     ChoiceMark,
     VariantMark { looseness: i32, demerits: u32 },
@@ -75,6 +76,9 @@ fn marker(bytes: &[u8]) -> Result<ParsedLine, ListKind>
     }
     if bytes == b"end}".as_slice() {
         return Ok(ParsedLine::EndMark);
+    }
+    if bytes == b"flush}".as_slice() {
+        return Ok(ParsedLine::Barrier);
     }
     match skip(b"variant ", bytes) {
         Some(rest) => variant(rest),

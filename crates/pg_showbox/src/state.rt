@@ -4,7 +4,7 @@ ghost use Rattle.pg_list.specs.Shapes.{IsWithinLimits};
 ghost use Rattle.pg_list.specs.Counts.{item_limit};
 ghost use Rattle.pg_showbox.specs.Nodes.{IsNodeInRange, node_item};
 ghost use Rattle.pg_showbox.specs.ParsedLine.{IsParsedInRange};
-ghost use Rattle.pg_showbox.specs.State.{Steps, Sound, WithinSound, placed, placed_block, placed_item, begun_listing, longer_last, closed, ended, begun_choice, begun_variant, ended_choice, next_variant, whole_choice, step, started};
+ghost use Rattle.pg_showbox.specs.State.{Steps, Sound, WithinSound, placed, placed_barrier, placed_block, placed_item, begun_listing, longer_last, closed, ended, begun_choice, begun_variant, ended_choice, next_variant, whole_choice, step, started};
 
 use crate::kinds::ListKind;
 use crate::node::{Node, item_from};
@@ -111,6 +111,17 @@ impl ReaderState {
             Within::Listing => self.push_block(alloc, node, body),
             Within::InChoice => Err(ListKind::ChoiceShape),
             Within::InVariant { .. } => self.push_item(alloc, node, body),
+        }
+    }
+
+    // A barrier stands next.
+    #[tactic(auto, unfolding(crate::specs::State::placed_barrier, pg_list::specs::Barrier::barrier_body))]
+    fn place_barrier(&mut self, alloc: Global) -> Result<(), ListKind>
+        ensures { Steps result (placed_barrier self.old self.old.within) self.new }
+    {
+        match self.within {
+            Within::Listing => self.push_block(alloc, Node::Carry, b"\\special{pg:flush}"),
+            _ => Err(ListKind::ChoiceShape),
         }
     }
 
@@ -291,6 +302,7 @@ impl ReaderState {
             ParsedLine::Blank => self.end_listing(),
             ParsedLine::Root { width } => self.begin_listing(width),
             ParsedLine::Item { node } => self.place(alloc, node, skip_if(b".", line)),
+            ParsedLine::Barrier => self.place_barrier(alloc),
             ParsedLine::Deeper => self.extend(skip_if(b".", line)),
             ParsedLine::ChoiceMark => self.begin_choice(alloc),
             ParsedLine::VariantMark {

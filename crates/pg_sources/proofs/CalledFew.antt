@@ -8,7 +8,7 @@ use Rattle.pg_list.specs.declared.blocks.Block.{Block}
 use Rattle.pg_list.specs.declared.galley.Place.{Place}
 use Rattle.pg_style.specs.Values.{StyleValue}
 use Rattle.pg_floats.specs.FloatsValue.{ClassFloatsValue}
-use Rattle.pg_rules.specs.Floats.{called, entry, float_numbers, floats}
+use Rattle.pg_rules.specs.Floats.{called, entry, float_numbers, floats, flushed}
 use Rattle.pg_floats.specs.Given.{IsListOf}
 use Rattle.law_moves.proofs.Ceilings.{called_few}
 
@@ -49,3 +49,7 @@ entries_are xs n e =
 pub called_long : (blocks : List Block) (style : StyleValue) (at : Place) →
     length (called blocks style at) ≡ length (float_numbers style)
 called_long blocks style at = length-map (float_numbers style) _
+
+pub flushed_long : (blocks : List Block) (style : StyleValue) (block : ℕ) →
+    length (flushed blocks style block) ≡ length (float_numbers style)
+flushed_long blocks style block = length-map (float_numbers style) _

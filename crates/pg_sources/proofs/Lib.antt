@@ -1,1 +1,2 @@
 pub mod CalledFew
+mod Same

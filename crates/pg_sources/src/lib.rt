@@ -1,10 +1,12 @@
 //! A galley, a style and the list of its floats, as one value that is handed around.
 //!
-//! Proved: `called` counts the floats of each class before a place, as the rules do, and `slots` the classes. What a
+//! Proved: `called` counts the floats of each class before a place, and `flushed` those before the last barrier in
+//! front of a block, as the rules do; and `slots` the classes. What a
 //! clause says of a `Sources` it says of its document (`specs/Document`).
 #![tactic(auto)]
 
 mod calls;
 mod sources;
 
+pub use calls::Before;
 pub use sources::Sources;

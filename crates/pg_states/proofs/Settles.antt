@@ -1,5 +1,5 @@
 -- What is told class by class from the lines of a state is what the rules say.
-use Rattle.std.proofs.Common.{◌≡◌, ap, subst, ◌∙◌, ℕ, ◌-◌, List, length, map, ◌≤◌, ◌^◌, Option, Some, None, arith}
+use Rattle.std.proofs.Common.{◌≡◌, ap, subst, ◌∙◌, ℕ, ◌-◌, List, length, map, ◌≤◌, ◌^◌, Bool, Option, Some, None, arith}
 use Rattle.std.specs.Prelude.{IfSome}
 use Rattle.std.specs.List.{range_with_len}
 use Rattle.pg_list.specs.declared.galley.Place.{Place}
@@ -9,26 +9,28 @@ use Rattle.pg_rules.specs.Floats.{called, entry, float_numbers}
 use Rattle.pg_rules.specs.Follow.{turns}
 use Rattle.pg_rules.specs.Room.{Document}
 use Rattle.law_moves.specs.Ages.{waits_of}
+use Rattle.law_moves.specs.Listed.{may_begin}
 use Rattle.pg_states.specs.Lines.{line_in}
 use Rattle.pg_states.specs.Settling.{Settles, SettlesBy, known_of}
 use Rattle.pg_states.specs.declared.settling.Known.{Known}
 use Rattle.pg_states.specs.declared.settling.Settled.{Settled}
 
-pub known_is : (doc : Document) (u : State) (calls waits a b : List ℕ) (n : ℕ) →
-    calls ≡ called doc.blocks doc.style u.place → n ≡ length (float_numbers doc.style) → a ≡ calls → b ≡ u.placed →
+pub known_is : (doc : Document) (u : State) (calls waits a b : List ℕ) (n : ℕ) (begins : Bool) →
+    begins ≡ may_begin doc u → calls ≡ called doc.blocks doc.style u.place → n ≡ length (float_numbers doc.style) → a ≡ calls → b ≡ u.placed →
     waits ≡ map (λ (slot : ℕ). entry a slot - entry b slot) (range_with_len 0 n) →
-    ◌≡◌ {A = Known} (record { called = calls; waits = waits }) (known_of doc u)
-known_is doc u calls waits a b n c l p q w =
-    same calls (called doc.blocks doc.style u.place) waits (waits_of doc u) c
+    ◌≡◌ {A = Known} (record { called = calls; waits = waits; may_begin = begins }) (known_of doc u)
+known_is doc u calls waits a b n begins m c l p q w =
+    same calls (called doc.blocks doc.style u.place) waits (waits_of doc u) begins (may_begin doc u) m c
     (w ∙ (ap (λ (xs : List ℕ). map (λ (slot : ℕ). entry xs slot - entry b slot) (range_with_len 0 n)) (p ∙ c)
     ∙ (ap (λ (xs : List ℕ). map (λ (slot : ℕ). entry (called doc.blocks doc.style u.place) slot - entry xs slot)
     (range_with_len 0 n)) q
     ∙ ap (λ (k : ℕ). map (λ (slot : ℕ). entry (called doc.blocks doc.style u.place) slot - entry u.placed slot)
     (range_with_len 0 k)) l)))
   where
-    same : (c c' w w' : List ℕ) → c ≡ c' → w ≡ w' →
-        ◌≡◌ {A = Known} (record { called = c; waits = w }) (record { called = c'; waits = w' })
-    same c c' w w' p q = cc
+    same : (c c' w w' : List ℕ) (b b' : Bool) → b ≡ b' → c ≡ c' → w ≡ w' →
+        ◌≡◌ {A = Known} (record { called = c; waits = w; may_begin = b })
+        (record { called = c'; waits = w'; may_begin = b' })
+    same c c' w w' b b' r p q = cc
 
 -- from the lines of a state
 settles_here : (doc : Document) (u : State) (to : Place) (after : List ℕ) (n : ℕ) (it : Option Settled) → n ≤ 8 →

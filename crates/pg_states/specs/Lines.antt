@@ -1,5 +1,5 @@
 -- The floats of classes: their ages, in the order in which they are placed, and counts of them.
-use Rattle.std.specs.Prelude.{ℕ, ◌+◌, ◌-◌, Bool, ◌&&◌, ◌==◌, nat_le, nat_lt, List, ◌++◌, length, map, take, drop, replicate, slice_index, ℤ, pos}
+use Rattle.std.specs.Prelude.{ℕ, ◌+◌, ◌-◌, Bool, ◌&&◌, ◌||◌, ◌==◌, nat_le, nat_lt, List, ◌++◌, length, map, take, drop, replicate, slice_index, ℤ, pos}
 use Rattle.std.specs.List.{flat_map, list_all, range_with_len}
 use Rattle.pg_list.specs.Whole.{whole_sum_by}
 use Rattle.pg_style.specs.Values.{StyleValue}
@@ -27,6 +27,10 @@ paid_by table ages = whole_sum_by (λ (age : ℕ). pos (slice_index table age)) 
 -- the one counts are at least the others in a class
 abbrev pub covers : List ℕ → List ℕ → ℕ → Bool
 covers a b slot = nat_le (entry b slot) (entry a slot)
+
+-- they are at least the second or the third
+abbrev pub covers_one : List ℕ → List ℕ → List ℕ → ℕ → Bool
+covers_one a b c slot = covers a b slot || covers a c slot
 
 -- no float of a class waits, and none is called from one place up to another
 abbrev pub is_line_empty : List ℕ → List ℕ → List ℕ → ℕ → Bool

@@ -7,14 +7,19 @@ use Rattle.pg_rules.specs.Floats.{called}
 use Rattle.pg_rules.specs.Follow.{turns}
 use Rattle.pg_rules.specs.Room.{Document}
 use Rattle.law_moves.specs.Ages.{ages_left, float_cost, may_wait, waits_of}
+use Rattle.law_moves.specs.Listed.{may_begin}
 use Rattle.pg_states.specs.Lines.{all_left, all_paid, all_young, line_in}
 use Rattle.pg_states.specs.declared.classes.Classes.{Classes}
 use Rattle.pg_states.specs.declared.settling.Known.{Known}
 use Rattle.pg_states.specs.declared.settling.Settled.{Settled}
 
--- how many floats of each class are called before a state, and how many of these wait
+-- how many floats of each class are called before a state, how many of these wait, and whether a text may begin there
 abbrev pub known_of : Document → State → Known
-known_of doc u = record { called = called doc.blocks doc.style u.place; waits = waits_of doc u }
+known_of doc u = record {
+  called = called doc.blocks doc.style u.place;
+  waits = waits_of doc u;
+  may_begin = may_begin doc u;
+}
 
 -- the ages that are left, and the price, come where no float is left too old
 abbrev pub Settles : Document → State → Place → List ℕ → Option Settled → Type 0

@@ -2,7 +2,7 @@
 ghost use Rattle.std.specs.Prelude.{◌≡◌, ◌-◌, map, IfOk};
 ghost use Rattle.std.specs.List.{list_all, range_with_len};
 ghost use Rattle.pg_rules.specs.Floats.{entry as entry_of};
-ghost use Rattle.pg_states.specs.Lines.{covers};
+ghost use Rattle.pg_states.specs.Lines.{covers, covers_one as covers_one_of};
 
 use pg_floats::entry;
 use pg_plan::Counts;
@@ -45,6 +45,25 @@ pub fn covers_all(slots: usize, a: &[u16], b: &[u16]) -> bool
 {
     for slot in 0..slots {
         if !covers(a, b, slot) {
+            return false;
+        }
+    }
+    true
+}
+
+// Whether the one counts are at least the second or the third in a class.
+fn covers_one(a: &[u16], b: &[u16], c: &[u16], slot: usize) -> bool
+    ensures { result ≡ covers_one_of a.now b.now c.now slot }
+{
+    covers(a, b, slot) || covers(a, c, slot)
+}
+
+/// The same for each class.
+pub fn covers_either(slots: usize, a: &[u16], b: &[u16], c: &[u16]) -> bool
+    ensures { result ≡ list_all (covers_one_of a.now b.now c.now) (range_with_len 0 slots) }
+{
+    for slot in 0..slots {
+        if !covers_one(a, b, c, slot) {
             return false;
         }
     }

@@ -5,8 +5,8 @@
 //! `key_of` is what states have in common that may be compared, and `no_worse` compares two; `rank_of` is the number by
 //! which the space of pages orders them (`rank` of law_space).
 //!
-//! `known` counts what waits before a state, `calls_all` tells whether floats are called before a place, and `settle`
-//! gives the ages of those that are left at the end of a column and the price of those that it places, or None where
+//! `known` counts what waits before a state, `may_end` tells whether a text may end at a place with so many floats
+//! placed, and `settle` gives the ages of those that are left at the end of a column and the price of those that it places, or None where
 //! one of those that are left is too old, all as the rules say (`specs/Settling`). The last two are given how many
 //! floats are called before the end of the column, so they search no galley; `settle` takes memory for its ages alone.
 #![tactic(auto)]
@@ -29,7 +29,7 @@ pub use beginning::start;
 pub use comparing::{key_of, no_worse};
 pub use done::is_done;
 pub use rank::{place_rank, rank_of, rest_rank};
-pub use settling::{Known, Settled, calls_all, settle};
+pub use settling::{Known, Settled, may_end, settle};
 pub use testing::is_state;
 pub use waiting::known;
 pub use waiting_ages::{behind, front};

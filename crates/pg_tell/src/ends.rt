@@ -118,7 +118,9 @@ fn print_why(end: &Reach, tolerance: u16, out: &mut Vec<u8>) -> Result<(), Alloc
         None => print(
             Form::Plain,
             out,
-            &[Piece::Mark("its text may, but a float may wait no longer or finds no room")],
+            &[Piece::Mark(
+                "its text may, but a float may wait no longer, finds no room, or would pass a barrier",
+            )],
         ),
     }
 }

@@ -15,6 +15,6 @@ pub use columns::reach_of;
 pub use moving::open_by;
 pub use sessions::{edit, paginate, solve};
 pub use solutions::{frontier_of, outcome_of};
-pub use standing::{is_done, is_state, key_of, no_worse};
+pub use standing::{before, is_done, is_state, key_of, known, no_worse};
 pub use tables::{best, refill};
 pub use variants::expand;

@@ -3,12 +3,15 @@ ghost use Rattle.std.specs.Prelude.{◌≡◌, ◌↔◌, IfOk, IsTrue};
 ghost use Rattle.pg_rules.specs.IsState.{IsState};
 ghost use Rattle.pg_rules.specs.NoWorse.{is_no_worse, key};
 ghost use Rattle.pg_rules.specs.States.{is_done as is_done_of};
-ghost use Rattle.pg_sources.specs.Document.{doc_of};
+ghost use Rattle.pg_sources.specs.Document.{before_of, doc_of};
+ghost use Rattle.pg_states.specs.Settling.{known_of};
 
+use pg_list::Place;
 use pg_plan::{PageKey, State};
 use pg_small::SmallState;
-use pg_sources::Sources;
+use pg_sources::{Before, Sources};
 use pg_space::PageSpace;
+use pg_states::Known;
 use std::alloc::{AllocError, Global};
 
 /// What states have in common that are compared.
@@ -38,4 +41,18 @@ pub fn is_state(space: &PageSpace<'_>, state: &State) -> bool
     ensures { IsTrue result ↔ IsState (doc_of space.now.sources) state.now }
 {
     space.is_state(state)
+}
+
+/// How many floats are called before a state, how many of these wait, and whether a text may begin there.
+pub fn known(sources: &Sources<'_>, state: &State) -> Result<Known, AllocError>
+    ensures { IfOk result (λ it. it ≡ known_of (doc_of sources.now) state.now) }
+{
+    pg_states::known(sources, state)
+}
+
+/// How many floats are called before a place, and before the last barrier in front of it.
+pub fn before(sources: &Sources<'_>, place: Place) -> Result<Before, AllocError>
+    ensures { IfOk result (λ it. it ≡ before_of (doc_of sources.now) place) }
+{
+    sources.before(place)
 }

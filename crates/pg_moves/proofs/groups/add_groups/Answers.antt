@@ -1,4 +1,4 @@
-use Rattle.std.proofs.Common.{rules}
+use Rattle.std.proofs.Common.{refl, rules}
 use Rattle.pg_sources.specs.Document.{doc_of}
 use Rattle.pg_rooms.proofs.Grouped.{split_first}
 use Rattle.pg_moves.proofs.Stepped.{group_next, groups_done, not_gone}
@@ -7,9 +7,9 @@ use Rattle.pg_moves.proofs.groups.add_groups.Goals as goal
 pub groups-preserved : goal.groups-preserved
 groups-preserved g c = group_next (doc_of c.args.sources.now) c.args.state.now
     (g.W.Wants.spares c.args.wants.now) c.args.near.now.candidates c.args.laid.now.layout c.args.groups.now
-    c.groups.left.now _ c.group-item.result c.as_slice.result.now c.args.ends.now c.groups.rest.now
+    c.groups.left.now _ c.group-item.result c.group-item.result.before c.args.ends.now c.groups.rest.now
     c.first_ends-first.result.now c.later_ends-rest.result.now c.args.steps.now c.groups.steps c.add_group.new.steps
-    (split_first c.groups.left.now c.group-item.result (search rules) c.group-item.is) c.as_slice.ensures
+    (split_first c.groups.left.now c.group-item.result (search rules) c.group-item.is) refl
     c.first_ends-first.ensures c.later_ends-rest.ensures c.groups.invariant c.in_ok-add_group.ensures
 
 pub returns : goal.returns

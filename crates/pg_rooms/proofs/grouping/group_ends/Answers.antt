@@ -21,10 +21,10 @@ groups-preserved c = record {
       let calls = c.groups.invariant.calls all in
       one_group (doc_of c.args.sources.now) c.groups.groups.items c.push.new.self.items c.args.ends.now
       c.groups.rest.now _ _ (get_or c.groups.rest.now 0 no_end)
-      (record { called = c.in_ok-called.called; count = c.in_ok-more.more + 1 }) c.in_ok-more.more
+      (record { before = c.in_ok-before.before; count = c.in_ok-more.more + 1 }) c.in_ok-more.more
       (c.groups.invariant.groups all) (split_read c.groups.rest.now no_end (search rules))
-      refl (c.in_ok-called.ensures ∙ (c.in_ok-like.ensures.like calls).same)
-      (all_like (doc_of c.args.sources.now) _ _ _ c.in_ok-called.ensures
+      refl (c.in_ok-before.ensures ∙ (c.in_ok-like.ensures.like calls).same)
+      (all_like (doc_of c.args.sources.now) _ _ _ c.in_ok-before.ensures
       (c.in_ok-more.ensures.same (c.in_ok-like.ensures.calls calls)))
       (search rules) (take_rest _ c.in_ok-more.more);
   calls = λ all. c.in_ok-more.ensures.calls (c.in_ok-like.ensures.calls (c.groups.invariant.calls all));

@@ -1,15 +1,15 @@
 use Rattle.std.proofs.Common.{refl, sym, ap, subst, ◌∙◌, ℤ, List, Option}
 use Rattle.std.specs.Prelude.{reverse}
 use Rattle.pg_list.specs.declared.galley.Place.{Place}
-use Rattle.pg_rules.specs.History.{context, placed_of, with_wide}
+use Rattle.pg_rules.specs.History.{context, placed_after, placed_of, with_wide}
 use Rattle.pg_rules.specs.Legal.{document}
 use Rattle.pg_judge.specs.Added.{added_by}
 use Rattle.pg_judge.specs.Seats.{seated}
-use Rattle.pg_judge.specs.Moves.{JudgesMove}
+use Rattle.pg_judge.specs.Moves.{JudgesMost, JudgesMove}
 use Rattle.pg_judge.specs.Progress.{the_move}
 use Rattle.pg_judge.specs.Seats.{IsSeat, seated}
 use Rattle.pg_judge.proofs.Deals.{AreAdded}
-use Rattle.pg_judge.proofs.MoveVerdict.{move_is}
+use Rattle.pg_judge.proofs.MoveVerdict.{move_is, with_last}
 use Rattle.pg_judge.proofs.Step.{added_move, calls_test, counts_test, deals_test, price_by, run_is, the_few}
 use Rattle.pg_judge.proofs.progress.Progress.judge_move.Goals as goal
 
@@ -33,7 +33,11 @@ returns c = λ ms going h counted chained.
     let added = subst (AreAdded doc shape few m ms) (sym value)
     (added_move galley style c.args.list.now c.requires.list m ms it going c.requires.kept c.args.counted.now counted
     c.seat_of-seat.result seat) in
-    subst (JudgesMove doc m ms) (sym c.decide.ensures)
+    let most = subst (JudgesMost doc m ms) (sym c.decide-most.ensures)
     (move_is doc shape few m ms chained c.judge_own-own.result c.judge_added-added.result c.has_run.result
     (c.judge_own-own.ensures (context doc m ms) refl refl seat) added
-    (run_is galley style c.args.list.now c.requires.list m ms it going c.has_run.result c.has_run.ensures))
+    (run_is galley style c.args.list.now c.requires.list m ms it going c.has_run.result c.has_run.ensures)) in
+    subst (JudgesMove doc m ms) (sym c.with_barriers.ensures)
+    (with_last doc m ms c.decide-most.result c.keeps_barriers-keeps.result most
+    (c.keeps_barriers-keeps.ensures (placed_of style ms) (placed_after style (placed_of style ms) m)
+    (c.as_slice-2.ensures ∙ going.placed) (c.as_slice-3.ensures ∙ counted.after)))
