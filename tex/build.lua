@@ -1,7 +1,7 @@
 -- l3build: `l3build ctan` packs the files as CTAN wants them, `l3build install` puts them where TeX finds them
 module = "pg"
 packageversion = "1.0"
-packagedate = "2026-11-29"
+packagedate = "2026-11-30"
 
 tdsroot = "generic"
 sourcefiles = { "pg.sty", "pg-plain.tex", "pg-core.tex", "pg.lua" }

@@ -7,8 +7,8 @@
 -- one and joined.
 
 local VERSION = "1.0"
-local DATE = "2026-11-29"
-local FORMAT = 2 -- of NAME.pgx
+local DATE = "2026-11-30"
+local FORMAT = 3 -- of NAME.pgx
 
 local USAGE = "usage: pgtex [--keep] [--latex COMMAND] NAME"
 local HELP = USAGE .. [[
@@ -217,7 +217,7 @@ local LIST_FAULT = {
   [1] = "there is no galley",
   [2] = "the line is not as its kind of line has to be; was the log edited?",
   [3] = "no list has such an item; was the log edited?",
-  [4] = "a number is wanting",
+  [4] = "a number is missing",
   [5] = "a size of 16384 points or more, or demerits out of range",
   [6] = "the list was cut",
   [7] = "a shrink without bound between the lines, as of \\vss: give it a finite amount",
@@ -228,7 +228,7 @@ local LIST_FAULT = {
   [12] = "more than 1048576 items",
 }
 local STYLE_FAULT = {
-  [1] = "is no TOML", [2] = "is missing", [3] = "is not known", [4] = "is of another kind",
+  [1] = "is not TOML", [2] = "is missing", [3] = "is not known", [4] = "is of another kind",
   [5] = "is out of range", [6] = "has an entry below the one before", [7] = "has the number of an earlier class",
   [8] = "is empty",
 }
@@ -313,9 +313,11 @@ local function read_style(file)
   table.sort(style.floats, function(a, b) return a.number < b.number end)
   return style
 end
+-- of a dimension, or of a gap without what it gives
 local function size_of(place, key)
   local word = place and place[key]
-  return word and word:match("^-?%d+%.%d+$") and units(word) or 0
+  local size = word and word:match("^-?%d+%.%d+")
+  return size and units(size) or 0
 end
 
 ---------------------------------------------------------------- blocks and parts
@@ -423,19 +425,30 @@ local function counts(word)
   if word ~= "-" then for digits in word:gmatch("%d+") do list[#list + 1] = integer(digits) end end
   return list
 end
+-- glue of a text that is not of its own width; where pg leaves a page as it is, TeX stretches a \vfil on it
+local function is_set_glue(line)
+  local natural, set = line:match("^%.\\%a+%b() (-?[%d.]+).*, set (-?[%d.]+)$")
+  if not natural then natural, set = line:match("^%.\\%a+ (-?[%d.]+).*, set (-?[%d.]+)$") end
+  return natural and (natural ~= set or line:match(" plus %-?[%d.]+fi") ~= nil)
+end
+-- a line of a column's top, bottom or notes, which show their gaps where the style is of version 3
+local function read_in_area(column, area, line)
+  local class, note = line:match("^%.\\insert(%d+), natural size ([%d.]+)")
+  local kind, size, set = line:match("^%.\\glue%((%a+)%) ([%d.]+).*, set ([%d.]+)$")
+  local last = column.gaps[#column.gaps]
+  if kind then
+    column.gaps[#column.gaps + 1] = { area = area, kind = kind, size = units(size), set = units(set) }
+  elseif note and area == "notes" then
+    column.notes = column.notes + units(note)
+    if last and last.kind == "skip" then last.class = integer(class) end
+  end
+end
 local function read_pages(text)
   local pages, page, column, area = {}, nil, nil, nil
   for line in text:gmatch("[^\n]+") do
     if line:sub(1, 1) == "." then
-      if area == "notes" then
-        local size = line:match("^%.\\insert%d+, natural size ([%d.]+)")
-        if size then column.notes = column.notes + units(size) end
-      elseif area == "text" and not column.is_set then
-        local natural, set = line:match("^%.\\%a+%b() (-?[%d.]+).*, set (-?[%d.]+)$")
-        if not natural then natural, set = line:match("^%.\\%a+ (-?[%d.]+).*, set (-?[%d.]+)$") end
-        -- pg leaves the last page of a part as it is; where it has a \vfil, TeX stretches that
-        column.is_set = natural and (natural ~= set or line:match(" plus %-?[%d.]+fi") ~= nil)
-      end
+      if area == "text" then column.is_set = column.is_set or is_set_glue(line)
+      elseif area ~= "wide" then read_in_area(column, area, line) end
     else
       local w = {}
       for word in line:gmatch("%S+") do w[#w + 1] = word end
@@ -444,7 +457,7 @@ local function read_pages(text)
         pages[#pages + 1] = page
       elseif w[1] == "column" then
         column = { from = { integer(w[4]), integer(w[5]), integer(w[6]) }, to = { integer(w[8]), integer(w[9]), integer(w[10]) },
-          above = counts(w[12]), below = counts(w[14]), picks = counts(w[16]), notes = 0 }
+          above = counts(w[12]), below = counts(w[14]), picks = counts(w[16]), notes = 0, gaps = {} }
         page.columns[#page.columns + 1] = column
       elseif w[1] == "set" then column.goal, column.total = units(w[3]), units(w[5])
       elseif w[1] == "area" then area = w[2] end
@@ -815,16 +828,59 @@ local function put_picks(put, picked)
     end
   end
 end
-local function put_column(put, column, part, list, log)
+-- How the gaps around a text are set: as the page text says, or else as the style does. TeX has one separator for an area:
+-- what others are more is in its gap. `more` is by how much all of them are set above their sizes.
+local function gaps_of(column, style)
+  local gaps = { more = 0, skips = {} }
+  for _, area in ipairs { "top", "bottom" } do
+    gaps[area] = { sep = size_of(style[area], "sep"), gap = size_of(style[area], "gap"), seps = 0, all = 0 }
+  end
+  for class, note in pairs(style.notes) do gaps.skips[class] = size_of(note, "skip") end
+  for _, line in ipairs(column.gaps) do
+    local area = gaps[line.area]
+    gaps.more = gaps.more + line.set - line.size
+    if line.kind == "skip" then gaps.skips[line.class] = line.set
+    else
+      area.all = area.all + line.set
+      if line.kind == "gap" then area.gap = line.set
+      elseif area.seps == 0 then area.sep, area.seps = line.set, 1
+      else area.seps = area.seps + 1 end
+    end
+  end
+  for _, area in ipairs { gaps.top, gaps.bottom } do
+    if area.all > 0 then area.gap = area.all - area.seps * area.sep end
+  end
+  return gaps
+end
+local function put_gaps(put, gaps)
+  local classes, skips = {}, {}
+  for class in pairs(gaps.skips) do classes[#classes + 1] = class end
+  table.sort(classes)
+  for k, class in ipairs(classes) do skips[k] = string.format("\\pg@skip{%d}{%d}", class, gaps.skips[class]) end
+  put("\\pg@gaps{%d}{%d}{%d}{%d}{%s}", gaps.top.sep, gaps.top.gap, gaps.bottom.sep, gaps.bottom.gap, table.concat(skips))
+end
+-- Whether the glue of a text is set. A text that is short has its own height where bottoms are ragged, and at the end of a
+-- part; a \vfil on it is stretched.
+local function is_set(column, part, style, is_left)
+  if column.total > column.goal then return true end
+  if is_left then return false end
+  return column.is_set or not style.ragged and column ~= part.last_text
+end
+local function put_column(put, column, part, list, style, log)
   local above, _, how_many = deal(list.deck, column.above)
   local below = deal(list.deck, column.below)
   if not column.goal then put("\\pg@floatcolumn{%s}{%d}", above, how_many) return end
   local start = offset_of(column.from, part, list.blocks)
   list.starts[start] = list.starts[start] or list.page
   local at, tail, back = end_of(column, part, list, log)
-  local set = (column ~= part.last_text or column.is_set) and 1 or 0
+  -- the option ragged leaves room where a style of one's own does not
+  local is_left = log.bottom == "ragged" and column.total <= column.goal
+  if is_left then column.gaps = {} end
+  local gaps, set = gaps_of(column, style), is_set(column, part, style, is_left) and 1 or 0
   put("\\pg@measures{%d}{%d}{%s}", column.total, column.notes, calls_between(list.deck, list.flat, list.done, at))
-  put("\\pg@column{%d}{%d}{%d}{%d}{%d}{%s}{%s}", list.pieces[at] - list.pieces[list.done], tail, back, column.goal, set, above, below)
+  put_gaps(put, gaps)
+  put("\\pg@column{%d}{%d}{%d}{%d}{%d}{%s}{%s}", list.pieces[at] - list.pieces[list.done], tail, back, column.goal - gaps.more,
+    set, above, below)
   list.done, list.columns = at, list.columns + 1
 end
 local function put_page(put, page, part, list, style, log)
@@ -833,7 +889,7 @@ local function put_page(put, page, part, list, style, log)
   if n > 0 then height = height + (n - 1) * size_of(style.wide, "sep") + size_of(style.wide, "gap") end
   local extra = size_of(style.runs[page.run + 1], "extra")
   put("\\pg@page{%d}{%d}{%s}{%d}{%d}", list.page, extra, wide, height, size_of(style, "height") + extra - height)
-  for _, column in ipairs(page.columns) do put_column(put, column, part, list, log) end
+  for _, column in ipairs(page.columns) do put_column(put, column, part, list, style, log) end
 end
 local function write_commands(parts, blocks, style, log, sum)
   local flat, picked = flatten(parts, blocks)
@@ -1040,7 +1096,7 @@ for _, part in ipairs(parts) do
   galley[#galley + 1] = (part.before or "") .. part.columns .. "\n" .. galley_text(part.shown, blocks, log.root)
 end
 galley = table.concat(galley)
-local sum = md5.sumhexa(VERSION .. style.text .. galley)
+local sum = md5.sumhexa(VERSION .. FORMAT .. (log.bottom or "") .. style.text .. galley)
 local old = read_file(name .. ".pgx")
 if old and old:match("\\pg@pages{%d+}{(%x+)}") == sum and not keep then
   say("%s.pgx is of this galley", name)

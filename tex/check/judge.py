@@ -11,8 +11,8 @@ import shipped
 import words
 
 POINTS_TO_BIG = 72 / 72.27
-TOLD = ("columns", "items", "glue", "bodies", "notes", "floats", "moved", "blank")
-HEAD = f"{'':20} {'':8} LaTeX  pg  runs cols  items   glue bodies notes flts mvd blk off"
+TOLD = ("columns", "items", "glue", "bodies", "notes", "floats", "gaps", "moved", "blank")
+HEAD = f"{'':20} {'':8} LaTeX  pg  runs cols  items   glue bodies notes flts gaps mvd blk off"
 
 
 class Document:
@@ -228,8 +228,8 @@ def tell(row):
         what = f"refused: {numbers['refused']}"
     else:
         what = f"{numbers.get('alone', 0):4} {numbers.get('pg', 0):4}  {numbers.get('latex', '-')}+{numbers.get('pgtex', '-')} "
-        what += " ".join(f"{numbers.get(name, 0):{width}}" for name, width in zip(TOLD, (4, 6, 6, 6, 4, 4, 4, 3)))
+        what += " ".join(f"{numbers.get(name, 0):{width}}" for name, width in zip(TOLD, (4, 6, 6, 6, 4, 4, 4, 4, 3)))
         what += f" {numbers.get('off', 0):3}"
-    print(f"{row.document.name:20} {row.engine:8} {what:68} {'ok' if not row.faults else 'FAILS'}", flush=True)
+    print(f"{row.document.name:20} {row.engine:8} {what:73} {'ok' if not row.faults else 'FAILS'}", flush=True)
     for fault in row.faults:
         print(f"    {fault}", flush=True)

@@ -7,10 +7,11 @@ PAGES are what `pg run` wrote of the parts of the galley, in order, STYLE the st
 `\\tracingoutput=1`, all levels and items shown, and lines of any length (`max_print_line`). Item by item: the boxes of each
 column of text stand one after another in one list of the page, of the same sizes and with the same lines within them, where
 the galley shows these; between them stand the same glue, kerns and penalties, and each box is within a unit of its place; the
-text begins where the floats above it end, as on all pages, and ends at its goal; notes and floats stand on their page, in
-their order, on their side of the text; no other letters stand between head and foot. `--lengths`: paragraphs were set in
-several lengths, so a first line may have another height and a last one another depth, and its baseline decides. `--ragged`: a
-text that is shorter than its goal has its own height.
+text begins where the floats above it end, as on all pages, and fills its goal together with the gaps around it; notes and floats
+stand on their page, in their order, on their side of the text; what lies between floats, between them and the text, and above
+the notes is what the page text says, or the style where it is of version 1 or 2; no other letters stand between head and foot.
+`--lengths`: paragraphs were set in several lengths, so a first line may have another height and a last one another depth, and its
+baseline decides. `--ragged`: a text that is shorter than its goal has its own height, though the style stretches it.
 
 One thing may differ: marks, destinations and other whatsits stand behind the glue and the penalties in front of a box, not
 among them. It is counted as `moved`. A penalty may have become 10000, as TeX's page builder leaves one at which it cut; it takes
@@ -20,12 +21,12 @@ It prints a line of counts and a line for each fault, and ends with 1 where ther
 
 import sys
 from collections import Counter
-from itertools import zip_longest
+from itertools import takewhile, zip_longest
 
 from listing import all_nodes, first_difference, letters, place, shipped_boxes, shipped_count
-from page_text import Style, insert_size, items_of, read_parts
+from page_text import AROUND, Style, insert_size, items_of, read_parts
 
-COUNTS = ("pages", "blank", "columns", "items", "glue", "bodies", "notes", "floats", "moved")
+COUNTS = ("pages", "blank", "columns", "items", "glue", "bodies", "notes", "floats", "gaps", "moved")
 POINT = 65536
 
 
@@ -55,11 +56,19 @@ class Sheet:
         return "".join(out)
 
 
+class Text:
+    """Where the text of a column stands: the list that has it, its start, its foot, how much of that hangs below its height, and the
+    room that is left below."""
+
+    def __init__(self, box, start, end, over, room):
+        self.box, self.start, self.foot, self.over, self.room = box, start, start + end, over, room
+
+
 class Check:
     """The comparison of one document."""
 
-    def __init__(self, style, by_lengths, is_ragged):
-        self.style, self.by_lengths, self.is_ragged = style, by_lengths, is_ragged
+    def __init__(self, style, by_lengths):
+        self.style, self.by_lengths = style, by_lengths
         self.counts, self.faults, self.off = Counter(), [], 0
         self.top = None  # where columns begin
 
@@ -95,8 +104,8 @@ class Check:
         return best
 
     def text(self, page, number, column, sheet):
-        """Looks for the text of a column; gives the list that has it and where on the page it starts."""
-        items = items_of(column, self.is_ragged and column.total < column.goal)
+        """Looks for the text of a column; gives where it stands."""
+        items = items_of(column)
         boxes = [item for item in items if item.node.is_box()]
         count, box, spots = self.find(boxes, sheet)
         if count < len(boxes):
@@ -111,9 +120,9 @@ class Check:
         self.spaces(page, number, items, box, spots)
         start = nodes[0].base - boxes[0].base
         self.places(page, number, boxes, nodes, start)
-        self.heights(page, number, column, items)
+        over = self.heights(page, number, column, items)
         self.counts["items"] += len(items)
-        return box, start
+        return Text(box, start, items[-1].end, over, column.own_height() - (items[-1].end - over))
 
     def body(self, page, number, due, node):
         """Compares how a box sets its glue, and what stands within it, where the galley shows it."""
@@ -189,7 +198,8 @@ class Check:
             self.fault(page, number, f"a box stands {points(far)} from its place")
 
     def heights(self, page, number, column, items):
-        """Adds up the items: as they are set the goal, or where nothing is stretched the total; as the galley has them the total."""
+        """Adds up the items: as they are set what they have to fill, or where nothing is stretched the total; as the galley has them the
+        total. It gives how much hangs below."""
         total = sum(item.node.width for item in items if item.node.kind in ("glue", "kern"))
         total += sum(item.node.height + item.node.depth for item in items if item.node.is_box())
         last = next((item.node for item in reversed(items) if item.node.kind not in ("penalty", "carry")), None)
@@ -197,14 +207,18 @@ class Check:
         if total - over != column.total:
             high, due = points(total - over), points(column.total)
             self.fault(page, number, f"the galley's items are {high} high, and the total is {due}")
-        if items[-1].end - over not in (column.goal, column.total):
-            self.fault(page, number, f"the items are {points(items[-1].end - over)} high, and the goal is {points(column.goal)}")
+        if items[-1].end - over not in (column.own_height(), column.total):
+            high, due = points(items[-1].end - over), points(column.own_height())
+            self.fault(page, number, f"the items are {high} high, and have to fill {due}")
+        return over
 
     # ------------------------------------------------------------ notes and floats
 
     def notes(self, page, number, column, sheet, x, foot):
-        """Looks for the notes of a column, below its text and in their order."""
-        for insert in column.areas.get("notes", []):
+        """Looks for the notes of a column, below its text and in their order; gives where they begin, how high they are, and how deep
+        the last line is."""
+        start, inserts, node = None, column.areas.get("notes", []), None
+        for insert in inserts:
             boxes = [BoxItem(node) for node in insert.items if node.is_box()]
             if not boxes:
                 continue
@@ -217,8 +231,10 @@ class Check:
                 self.body(page, number, due.node, node)
                 node.covered = True
             foot = found[-1].foot
+            if insert is inserts[0]:
+                start = found[0].top - space_above(insert)
             self.counts["notes"] += 1
-        return foot
+        return None if start is None else (start, sum(map(insert_size, inserts)), min(node.depth, self.style.maxdepth))
 
     def below(self, boxes, sheet, x, foot):
         """The boxes of the page that are these, below a height: of those that have the same lines within them, the uppermost."""
@@ -237,7 +253,8 @@ class Check:
         return best
 
     def floats(self, page, number, inserts, sheet, x, top, foot, area):
-        """Looks for the floats of an area between two heights, in their order."""
+        """Looks for the floats of an area between two heights, in their order; gives their boxes."""
+        found = []
         for insert in inserts:
             size = insert_size(insert)
             node = self.float_box(insert, sheet, x, top, foot)
@@ -246,7 +263,9 @@ class Check:
                 continue
             node.covered = True
             top = node.foot
+            found.append(node)
             self.counts["floats"] += 1
+        return found
 
     def float_box(self, insert, sheet, x, top, foot):
         """The uppermost box of a float's size between two heights."""
@@ -265,17 +284,61 @@ class Check:
                 best = node
         return best
 
+    # ------------------------------------------------------------ gaps
+
+    def gaps(self, page, number, area, inserts, shown, gives=True):
+        """The gaps of an area as they are set: those of the page text, which have to be those of the style."""
+        due = self.style.gaps_of(area, inserts)
+        if self.style.version < 3:
+            return due
+        if [gap.form() for gap in shown] != [gap.form() for gap in due]:
+            self.fault(page, number, f"the area {area} has the gaps {list(map(str, shown))}, and {list(map(str, due))} are due")
+            return due
+        if not gives and any(gap.set != gap.size for gap in shown):
+            self.fault(page, number, f"the gaps of the area {area} give {list(map(str, shown))}")
+        return shown
+
+    def place_of(self, page, number, area, nodes, gaps, top):
+        """Floats of an area stand one below the other, from a height on, with their gaps between them."""
+        for spot, node in enumerate(nodes):
+            top += sum(gap.set for gap in gaps if gap.before == spot)
+            self.near(page, number, f"a float of the area {area}", node.top, top)
+            top += node.height + node.depth
+
+    def near(self, page, number, what, place, due):
+        """Is something within two units of its place?"""
+        self.counts["gaps"] += 1
+        if abs(place - due) > 2:
+            self.fault(page, number, f"{what} stands {points(place - due)} lower than is due")
+
+    def under_text(self, page, number, text, floats, notes, gaps):
+        """What lies between the text, its notes and the floats below is the gaps of the page text, the first with a rest: what
+        hangs below the text has no room of its own, nor what hangs below the page; and where the text is short, the room. In plain
+        TeX nothing hangs below a ragged page."""
+        hangs = notes[2] if notes and not floats else 0
+        place = text.foot + text.room + hangs - text.over
+        if notes:
+            place += gaps["notes"][0].set
+            if self.style.is_ragged and abs(notes[0] - place) > 2:
+                place -= hangs
+            self.near(page, number, "its first note", notes[0], place)
+            place += notes[1]
+        if floats:
+            place += gaps["bottom"][0].set
+            self.near(page, number, "the float below it", floats[0].top, place)
+
     # ------------------------------------------------------------ pages
 
     def page(self, page, sheet):
         """Compares a page: the texts of its columns, then what stands above and below them."""
-        wide = self.style.height_of("wide", page.wide)
+        wide = self.gaps(page, 0, "wide", page.wide, page.gaps, gives=False)
         found = []
         for number, column in enumerate(page.columns, 1):
             found.append(self.text(page, number, column, sheet) if column.has_text() else None)
             if found[-1]:
-                above = wide + self.style.height_of("top", column.areas.get("top", []))
-                self.same_start(page, number, found[-1][1] - above)
+                top = column.areas.get("top", [])
+                above = height_of(page.wide, wide) + height_of(top, self.gaps(page, number, "top", top, column.gaps.get("top", [])))
+                self.same_start(page, number, found[-1].start - above)
         self.counts["pages"] += 1
         self.around(page, sheet, found, wide)
 
@@ -290,18 +353,34 @@ class Check:
         """Compares what stands around the texts of a page."""
         top = self.top or 0
         end = top + self.style.height + self.style.extras[page.run]
-        self.floats(page, 0, page.wide, sheet, None, top, top + wide, "wide")
+        below = top + height_of(page.wide, wide)
+        nodes = self.floats(page, 0, page.wide, sheet, None, top, below, "wide")
+        self.place_of(page, 0, "wide", nodes, wide, top)
         for number, (column, text) in enumerate(zip(page.columns, found), 1):
-            if column.has_text() and not text:
-                continue
-            x, start = (text[0].x, text[1]) if text else (None, end)
-            foot = start + column.goal if text else end
-            self.floats(page, number, column.areas.get("top", []), sheet, x, top + wide, start, "top")
-            self.floats(page, number, column.areas.get("bottom", []), sheet, x, foot, end, "bottom")
-            self.notes(page, number, column, sheet, x, min(foot, start + column.total) if text else foot)
+            if text:
+                self.around_text(page, number, column, text, sheet, below, end)
+            elif not column.has_text():
+                for area in ("top", "bottom"):
+                    self.gaps(page, number, area, column.areas.get(area, []), column.gaps.get(area, []), gives=False)
+                    self.floats(page, number, column.areas.get(area, []), sheet, None, below, end, area)
         stray = sheet.stray(top, end)
         if stray and not any(column.has_text() and not text for column, text in zip(page.columns, found)):
             self.fault(page, 0, f"letters that belong to nothing: {stray[:60]!r}")
+
+    def around_text(self, page, number, column, text, sheet, top, end):
+        """Compares the floats and the notes of a column with text, and the gaps around them."""
+        inserts = {area: column.areas.get(area, []) for area in AROUND}
+        gaps = {area: self.gaps(page, number, area, inserts[area], column.gaps.get(area, [])) for area in AROUND}
+        above = self.floats(page, number, inserts["top"], sheet, text.box.x, top, text.start, "top")
+        below = self.floats(page, number, inserts["bottom"], sheet, text.box.x, text.foot - text.over, end, "bottom")
+        notes = self.notes(page, number, column, sheet, text.box.x, text.foot - text.over)
+        self.place_of(page, number, "top", above, gaps["top"], top)
+        self.place_of(page, number, "bottom", below, gaps["bottom"], end - height_of(inserts["bottom"], gaps["bottom"]))
+        self.under_text(page, number, text, below, notes, gaps)
+        taken = sum(insert_size(insert) for area in AROUND for insert in inserts[area])
+        room = end - top - taken - sum(gap.size for area in AROUND for gap in gaps[area])
+        if column.goal != room:
+            self.fault(page, number, f"the goal is {points(column.goal)}, and floats and notes leave {points(room)}")
 
     def pages(self, pages, sheets, count):
         """Compares all pages with the sheets, of which there are so many; a sheet without letters may stand in front of any."""
@@ -343,6 +422,16 @@ def is_empty(node):
     return node.kind == "glue" and node.width == 0 and " plus " not in node.line and " minus " not in node.line
 
 
+def space_above(insert):
+    """What stands above the first box of an insert."""
+    return sum(node.width for node in takewhile(lambda node: not node.is_box(), insert.items) if node.kind in ("glue", "kern"))
+
+
+def height_of(inserts, gaps):
+    """How much room these inserts take with their gaps."""
+    return sum(map(insert_size, inserts)) + sum(gap.set for gap in gaps)
+
+
 def shown_instead(box, spots):
     """The line of the box behind a row of boxes."""
     if box is None:
@@ -353,8 +442,11 @@ def shown_instead(box, spots):
 
 def compare(pages_paths, log_path, style_path, by_lengths=False, is_ragged=False):
     """The counts, how far the farthest box is off, and the faults."""
-    check = Check(Style(style_path), by_lengths, is_ragged)
-    check.pages(read_parts(pages_paths), map(Sheet, shipped_boxes(log_path)), shipped_count(log_path))
+    check, pages = Check(Style(style_path), by_lengths), read_parts(pages_paths)
+    if is_ragged and not check.style.is_ragged:
+        for column in (column for page in pages for column in page.columns):
+            column.leave()
+    check.pages(pages, map(Sheet, shipped_boxes(log_path)), shipped_count(log_path))
     return check.counts, check.off, check.faults
 
 
