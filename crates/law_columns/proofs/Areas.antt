@@ -130,7 +130,7 @@ sum_range (z ∷ sizes) a =
         1073741823 + n ≤ k → IsUpTo k (x +ℤ y)
     add x y n k h i j l m = (omega (arith, ints), omega (arith, ints))
 
-times_range : (z : ℤ) (n : ℕ) → IsSize z → n ≤ 3 → IsUpTo 3221225469 (z *ℤ pos n)
+pub times_range : (z : ℤ) (n : ℕ) → IsSize z → n ≤ 3 → IsUpTo 3221225469 (z *ℤ pos n)
 times_range (negsuc k) n a h = absurd (let p : pos 0 ≤ℤ negsuc k = a.0 in omega (arith, ints))
 times_range (pos k) n a h =
     let l : k ≤ 1073741823 = below k a.1 in
@@ -147,9 +147,9 @@ pub area_range : (rule : AreaRuleValue) → IsAreaRule rule → (sizes : List �
 area_range rule range [] a h = (omega (arith, ints), omega arith)
 area_range rule range (size ∷ sizes) a h =
     let s = sum_range (size ∷ sizes) a in
-    let t = times_range rule.sep (length sizes) range.sep_in (omega arith) in
-    add (whole_sum_by (λ (z : ℤ). z) (size ∷ sizes)) (rule.sep *ℤ pos (length sizes)) rule.gap (length sizes)
-    s t range.gap_in (omega arith)
+    let t = times_range rule.sep.size (length sizes) range.sep_in.size_in (omega arith) in
+    add (whole_sum_by (λ (z : ℤ). z) (size ∷ sizes)) (rule.sep.size *ℤ pos (length sizes)) rule.gap.size
+    (length sizes) s t range.gap_in.size_in (omega arith)
   where
     add : (x y z : ℤ) (n : ℕ) → IsUpTo (1073741823 * suc n) x → IsUpTo 3221225469 y → IsSize z → n ≤ 3 →
         IsUpTo 8589934584 ((x +ℤ y) +ℤ z)

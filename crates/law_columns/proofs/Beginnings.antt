@@ -1,5 +1,5 @@
 -- The runs of columns are the beginnings.
-use Rattle.std.proofs.Common.{◌≡◌, ℕ, ◌+◌, ◌-◌, ◌≤◌, ◌<◌, List, [], ◌∷◌, length, Bool, true, false, arith}
+use Rattle.std.proofs.Common.{◌≡◌, ℕ, ◌+◌, ◌-◌, ◌≤◌, ◌<◌, List, [], ◌∷◌, ◌++◌, length, Bool, true, false, arith}
 use Rattle.std.specs.Prelude.{◌==◌, if◌then◌else◌, nat_lt}
 use Rattle.pg_list.specs.declared.galley.Place.{Place}
 use Rattle.pg_plan.specs.declared.pages.PageMove.{PageMove}
@@ -15,6 +15,11 @@ use Rattle.law_columns.proofs.Push.{HasTables}
 use Rattle.law_columns.proofs.Waiting.{IsBetween, between_at, between_of}
 use Rattle.pg_lemmas.proofs.Bools.{by_bool}
 use Rattle.pg_lemmas.proofs.Numbers.{less_of, not_less, less_true}
+
+-- of columns that stand behind one another, those before some do
+pub stand_behind : (doc : Document) (more ms : List PageMove) → Stand doc (more ++ ms) → Stand doc ms
+stand_behind doc [] ms stand = stand
+stand_behind doc (m ∷ more) ms stand = stand_behind doc more ms stand.1
 
 -- what the galley gives: tables have entries, at the start no float is called, and along a column that fits
 -- callouts only grow

@@ -16,5 +16,7 @@ pub mod BeginningContracts
 pub mod BoundCounts
 pub mod Prices
 pub mod Areas
+pub mod Gives
+pub mod Rigid
 pub mod Owned
 pub mod BoundContracts

@@ -1,10 +1,11 @@
 -- What a column costs at most.
 use Rattle.std.proofs.Common.{◌≡◌, refl, sym, ap, subst, ℕ, zero, suc, ◌+◌, ◌*◌, ◌/◌, ◌≤◌, List, [], ◌∷◌, ◌++◌, length, Bool, true, false, Option, Some, None, arith}
-use Rattle.std.specs.Prelude.{◌&&◌, ◌==◌, if◌then◌else◌, nat_lt, nat_abs, slice_get, slice_index, ℤ, pos, negsuc, ◌+ℤ◌, ◌-ℤ◌, ◌<ℤ◌, int_lt, int_le}
+use Rattle.std.specs.Prelude.{◌&&◌, ◌==◌, if◌then◌else◌, nat_lt, nat_abs, slice_get, slice_index, ℤ, pos, negsuc, ◌+ℤ◌, ◌-ℤ◌, ◌<ℤ◌, ◌≤ℤ◌, int_lt, int_le, unwrap_or}
+use Rattle.std.specs.Int.{int_max}
 use Rattle.std.specs.List.{AllByRecursion}
 use Rattle.std.specs.Option.{option_map_or}
 use Rattle.std.proofs.Math.Nat.{mul-le-mul_left, mul-le-mul_right, div-le_of_le-mul}
-use Rattle.std.proofs.lemmas.Int.{ints}
+use Rattle.std.proofs.lemmas.Int.{clamps, ints}
 use Rattle.pg_list.specs.Shapes.{IsBlock, IsWithinLimits}
 use Rattle.pg_list.specs.declared.blocks.Block.{Block}
 use Rattle.pg_list.specs.declared.blocks.Block.TheVariants.{One, Choice}
@@ -13,14 +14,15 @@ use Rattle.pg_list.specs.declared.item.Item.TheVariants.{BoxItem, Rule, Glue, Ke
 use Rattle.pg_list.specs.declared.variants.Variant.{Variant}
 use Rattle.pg_style.specs.Ranges.{IsStyle, IsRun, AreDemerits}
 use Rattle.pg_style.specs.declared.style.Run.{Run}
-use Rattle.pg_list.specs.Badness.{badness, cubed, ratio, has_infinite, page_badness}
+use Rattle.pg_style.specs.Values.{StyleValue}
+use Rattle.pg_list.specs.Badness.{badness, cubed, ratio, has_infinite, fill_badness, page_badness}
 use Rattle.pg_list.specs.Break.{break_penalty, item_break, follows_solid, has_at, is_glue, is_spent}
 use Rattle.pg_list.specs.Flat.{picked_variants}
 use Rattle.pg_list.specs.Totals.{stretch, shrink}
 use Rattle.pg_list.specs.Whole.{whole_sum_by, square}
 use Rattle.pg_list.specs.declared.item.Order.TheVariants.{Finite}
-use Rattle.pg_rules.specs.ColumnRules.{segment, text_total, text_goal, text_badness, column_variants}
-use Rattle.pg_rules.specs.Cost.{penalty_demerits, text_demerits, column_demerits, pick_demerits, run_demerits, float_demerits, differs, fitness_demerits, column_cost}
+use Rattle.pg_rules.specs.ColumnRules.{segment, text_total, text_goal, text_badness, text_shrink, text_stretch, column_variants}
+use Rattle.pg_rules.specs.Cost.{break_demerits, is_bonus, penalty_demerits, text_demerits, column_demerits, pick_demerits, run_demerits, float_demerits, differs, fitness_demerits, column_cost}
 use Rattle.pg_rules.specs.History.{column_fitness}
 use Rattle.pg_rules.specs.Floats.{distance_table}
 use Rattle.pg_rules.specs.Room.{ColumnContext, is_text, items_of, size_of}
@@ -64,17 +66,26 @@ badness_few (pos t) (pos s) = few_if (t == 0) 0 (if s == 0 then 10000 else cubed
 badness_few (pos t) (negsuc s) = few_if (t == 0) 0 10000 10000 (omega arith) (omega arith)
 badness_few (negsuc t) s = omega arith
 
+pub fill_badness_few : (spent : Bool) (goal total : ℤ) (infinite : Bool) (more less : ℤ) →
+    fill_badness spent goal total infinite more less ≤ 10000
+fill_badness_few spent goal total infinite more less =
+    few_if (spent && int_le total goal) 0
+    (if int_lt total goal then (if infinite then 0 else badness (goal -ℤ total) more)
+    else badness (total -ℤ goal) less) 10000 (omega arith)
+    (few_if (int_lt total goal) (if infinite then 0 else badness (goal -ℤ total) more)
+    (badness (total -ℤ goal) less) 10000
+    (few_if infinite 0 (badness (goal -ℤ total) more) 10000 (omega arith) (badness_few (goal -ℤ total) more))
+    (badness_few (total -ℤ goal) less))
+
 pub page_badness_few : (spent : Bool) (goal total : ℤ) (items : List Item) →
     page_badness spent goal total items ≤ 10000
 page_badness_few spent goal total items =
-    few_if (spent && int_le total goal) 0
-    (if int_lt total goal then (if has_infinite items then 0 else badness (goal -ℤ total)
-    (stretch Finite items)) else badness (total -ℤ goal) (shrink items)) 10000 (omega arith)
-    (few_if (int_lt total goal) (if has_infinite items then 0 else badness (goal -ℤ total)
-    (stretch Finite items)) (badness (total -ℤ goal) (shrink items)) 10000
-    (few_if (has_infinite items) 0 (badness (goal -ℤ total) (stretch Finite items)) 10000 (omega arith)
-    (badness_few (goal -ℤ total) (stretch Finite items)))
-    (badness_few (total -ℤ goal) (shrink items)))
+    fill_badness_few spent goal total (has_infinite items) (stretch Finite items) (shrink items)
+
+pub text_badness_few : (it : ColumnContext) (n : ℕ) → text_badness it n ≤ 10000
+text_badness_few it n =
+    fill_badness_few (is_spent (items_of it) n) (text_goal it n) (text_total it n) (has_infinite (segment it n))
+    (text_stretch it n) (text_shrink it n)
 
 -- the penalty of a break is below 10000
 abbrev pub IsLow : Option ℤ → Type 0
@@ -140,20 +151,55 @@ penalty_few (negsuc p) h = by (int_lt (negsuc 9999) (negsuc p)) refl
 
 -- ---- the parts of a column's cost
 
+low_or : (o : Option ℤ) → IsLow o → unwrap_or o (pos 0) <ℤ pos 10000
+low_or None low = omega (arith, ints)
+low_or (Some z) low = low z refl
+
+-- without a bonus
+both_few : (line badness : ℕ) → line ≤ 10000 → badness ≤ 10000 → (z : ℤ) → z <ℤ pos 10000 →
+    nat_abs (square (pos (line + badness)) +ℤ penalty_demerits z) ≤ 500000000
+both_few line badness l b z low =
+    let s : (line + badness) * (line + badness) ≤ 20000 * 20000 = square_few (line + badness) 20000 (omega arith) in
+    add_few (square (pos (line + badness))) (penalty_demerits z) 400000000 100000000 (omega arith) (penalty_few z low)
+
+-- with one
+forgiven_few : (line badness : ℕ) → line ≤ 10000 → badness ≤ 10000 → (p : ℕ) →
+    nat_abs (square (pos line +ℤ int_max (pos 0) (pos badness +ℤ negsuc p))) ≤ 500000000
+forgiven_few line badness l b p =
+    by (pos line +ℤ int_max (pos 0) (pos badness +ℤ negsuc p)) (omega (arith, ints, clamps))
+    (omega (arith, ints, clamps))
+  where
+    by : (x : ℤ) → pos 0 ≤ℤ x → x ≤ℤ pos 20000 → nat_abs (square x) ≤ 500000000
+    by (pos k) low high =
+        let s : k * k ≤ 20000 * 20000 = square_few k 20000 (omega (arith, ints)) in
+        let e : square (pos k) ≡ pos (k * k) = refl in
+        let n : nat_abs (square (pos k)) ≡ k * k = ap nat_abs e in
+        omega arith
+    by (negsuc k) low high = absurd (omega (arith, ints))
+
+demerits_few : (style : StyleValue) → style.line ≤ 10000 → (badness : ℕ) → badness ≤ 10000 → (z : ℤ) → z <ℤ pos 10000 →
+    nat_abs (break_demerits style badness z) ≤ 500000000
+demerits_few style l badness b (pos p) low = by (style.version == 3)
+  where
+    by : (three : Bool) → nat_abs (if three && false then square (pos style.line +ℤ int_max (pos 0) (pos badness +ℤ pos p))
+        else square (pos (style.line + badness)) +ℤ penalty_demerits (pos p)) ≤ 500000000
+    by true = both_few style.line badness l b (pos p) low
+    by false = both_few style.line badness l b (pos p) low
+demerits_few style l badness b (negsuc p) low = by (style.version == 3) (is_bonus (negsuc p))
+  where
+    by : (three bonus : Bool) → nat_abs (if three && bonus then square (pos style.line
+        +ℤ int_max (pos 0) (pos badness +ℤ negsuc p))
+        else square (pos (style.line + badness)) +ℤ penalty_demerits (negsuc p)) ≤ 500000000
+    by true true = forgiven_few style.line badness l b p
+    by true false = both_few style.line badness l b (negsuc p) low
+    by false bonus = both_few style.line badness l b (negsuc p) low
+
 pub text_few : (it : ColumnContext) → it.document.style.line ≤ 10000 → (n : ℕ) →
     nat_abs (text_demerits it n) ≤ 500000000
 text_few it line n =
-    let b : text_badness it n ≤ 10000 =
-    page_badness_few (is_spent (items_of it) n) (text_goal it n) (text_total it n) (segment it n) in
-    let l : it.document.style.line + text_badness it n ≤ 20000 = omega arith in
-    let s : (it.document.style.line + text_badness it n) * (it.document.style.line + text_badness it n)
-    ≤ 20000 * 20000 = square_few _ 20000 l in
-    let p : nat_abs (option_map_or penalty_demerits (break_penalty (items_of it) n) (pos 0)) ≤ 100000000 =
-    size_none penalty_demerits (break_penalty (items_of it) n) 100000000
-    (λ z e. penalty_few z (break_low (items_of it) n z e)) in
-    add_few (square (pos (it.document.style.line + text_badness it n)))
-    (option_map_or penalty_demerits (break_penalty (items_of it) n) (pos 0)) 400000000 100000000
-    (omega arith) p
+    demerits_few it.document.style line (text_badness it n) (text_badness_few it n)
+    (unwrap_or (break_penalty (items_of it) n) (pos 0))
+    (low_or (break_penalty (items_of it) n) (break_low (items_of it) n))
 
 module _ (it : ColumnContext) (range : IsStyle it.document.style) where
   column_few : nat_abs (column_demerits it) ≤ 500000000

@@ -1,23 +1,24 @@
 -- A column that ends in the front reads the same whatever stands behind the front.
 use Rattle.std.proofs.Common.{◌≡◌, sym, ap, subst, ◌∙◌, ℕ, ◌≤◌, ◌<◌, List, ◌∷◌, ◌++◌, length, map, take, Bool, true, false, Option, Some, arith}
-use Rattle.std.specs.Prelude.{◌==◌, ◌&&◌, ℤ, ◌-ℤ◌}
+use Rattle.std.specs.Prelude.{◌==◌, ◌&&◌, ℤ, ◌+ℤ◌, ◌-ℤ◌}
 use Rattle.std.specs.Option.{option_map_or}
 use Rattle.std.proofs.lemmas.List.{length-map}
 use Rattle.pg_list.specs.declared.blocks.Block.{Block}
 use Rattle.pg_list.specs.declared.item.Item.{Item}
 use Rattle.pg_plan.specs.declared.pages.Column.{Column}
 use Rattle.pg_style.specs.Values.{StyleValue}
+use Rattle.pg_style.specs.declared.style.Gap.{Gap}
 use Rattle.pg_list.specs.Break.{break_penalty, is_forced, is_spent, passes_between}
 use Rattle.pg_list.specs.Flat.{flat_items_at, fronts}
 use Rattle.pg_rules.specs.ColumnRules.{column_variants, does_fit}
 use Rattle.pg_rules.specs.Floats.{floats, has_all, plus_counts}
-use Rattle.pg_rules.specs.Room.{ColumnContext, bottom_height, flat_items_of, full_height, is_bottom_allowed, is_top_allowed, items_of, size_of, top_height, wide_height}
+use Rattle.pg_rules.specs.Room.{ColumnContext, areas_give, bottom_give, bottom_height, flat_items_of, full_height, is_bottom_allowed, is_top_allowed, items_of, size_of, top_give, top_height, wide_height}
 use Rattle.law_places.proofs.Alike.{item_of}
 use Rattle.pg_lemmas.proofs.Bools.{both}
 use Rattle.pg_lemmas.proofs.Numbers.{eq_yes}
 use Rattle.law_texts.proofs.Once.{Fits, fits_of}
 use Rattle.law_edits.proofs.Behind.{GoesOn, front_each, is_glue_block}
-use Rattle.law_edits.proofs.Floats.{height_in}
+use Rattle.law_edits.proofs.Floats.{give_in, height_in}
 use Rattle.law_edits.proofs.Items.{forced_same, passes_same, penalty_same, spent_same, take_same}
 use Rattle.law_edits.proofs.Steps.{ItemsCut, LeadsIn, items_cut, leads_in, out_fronts, out_named, out_steps, out_variants}
 use Rattle.law_edits.proofs.Twins.{Twins, context_of}
@@ -73,6 +74,15 @@ module _ (style : StyleValue) {front : List Block} {next : Block} {ra rb : List 
       (is_bottom_allowed it) style.bottom ∙ sym (height_in front (next ∷ rb) style
       (plus_counts style before column.top) column.bottom bottom (is_bottom_allowed it) style.bottom)
 
+  gives_same : (part : Gap → ℤ) → areas_give part it ≡ areas_give part other
+  gives_same part = ap (λ (x : ℤ). x +ℤ bottom_give part it)
+      (give_in front (next ∷ ra) style before column.top top part (is_top_allowed it) style.top
+      ∙ sym (give_in front (next ∷ rb) style before column.top top part (is_top_allowed it) style.top))
+      ∙ ap (λ (x : ℤ). top_give part other +ℤ x)
+      (give_in front (next ∷ ra) style (plus_counts style before column.top) column.bottom bottom part
+      (is_bottom_allowed it) style.bottom ∙ sym (give_in front (next ∷ rb) style (plus_counts style before column.top)
+      column.bottom bottom part (is_bottom_allowed it) style.bottom))
+
   pub twins : Twins it other
   twins =
       let f : Fits it = fits_of it fits in
@@ -100,4 +110,5 @@ module _ (style : StyleValue) {front : List Block} {next : Block} {ra rb : List 
         top = top_same;
         rooms = ap (λ (x : ℤ). ((full_height it -ℤ wide_height it) -ℤ x) -ℤ bottom_height it) top_same
             ∙ ap (λ (x : ℤ). ((full_height it -ℤ wide_height it) -ℤ top_height other) -ℤ x) bottom_same;
+        gives = gives_same;
       }

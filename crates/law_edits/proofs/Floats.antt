@@ -6,9 +6,10 @@ use Rattle.std.proofs.lemmas.List.{drop-append-le, map-append, take-append-le}
 use Rattle.std.proofs.lemmas.List.Elements.{filter_map-append}
 use Rattle.pg_list.specs.declared.blocks.Block.{Block}
 use Rattle.pg_style.specs.Values.{StyleValue, AreaRuleValue}
+use Rattle.pg_style.specs.declared.style.Gap.{Gap}
 use Rattle.pg_list.specs.Flat.{FlatItem, flat, flat_items_from}
-use Rattle.pg_rules.specs.Floats.{area_height, dealt, dealt_from, entry, float_numbers, floats, has_all, has_all_from, insert_size, sizes_of}
-use Rattle.pg_rules.specs.Room.{checked_height}
+use Rattle.pg_rules.specs.Floats.{area_give, area_height, dealt, dealt_from, entry, float_numbers, floats, has_all, has_all_from, insert_size, sizes_of}
+use Rattle.pg_rules.specs.Room.{checked_give, checked_height}
 use Rattle.law_places.proofs.Alike.{item_of}
 use Rattle.pg_lemmas.proofs.Bools.{both, both_of, or_cases, or_left, or_right}
 use Rattle.law_edits.proofs.Fronts.{cut_from, left_by}
@@ -102,3 +103,13 @@ module _ (front blocks : List Block) (style : StyleValue) (before counts : List 
       else pos 0) (has_in ∙ sym there)
       ∙ ap (λ (sizes : List ℤ). if allowed && has_all (floats front style) before counts
       then area_height rule sizes else pos 0) dealt_in
+
+  -- and its gaps give the same
+  pub give_in : (part : Gap → ℤ) (allowed : Bool) (rule : AreaRuleValue) →
+      checked_give part (floats (front ++ blocks) style) allowed rule before counts
+      ≡ checked_give part (floats front style) allowed rule before counts
+  give_in part allowed rule =
+      ap (λ (b : Bool). if allowed && b then area_give part rule
+      (length (dealt (floats (front ++ blocks) style) before counts)) else pos 0) (has_in ∙ sym there)
+      ∙ ap (λ (sizes : List ℤ). if allowed && has_all (floats front style) before counts
+      then area_give part rule (length sizes) else pos 0) dealt_in

@@ -14,7 +14,8 @@ use Rattle.pg_list.specs.Badness.{is_over}
 use Rattle.pg_list.specs.Break.{passes_between}
 use Rattle.pg_list.specs.Flat.{FlatItem, blocks_at, flat_items_at, flat_items_from, fronts, picked_variants}
 use Rattle.pg_list.specs.Totals.{trimmed, total, shrink}
-use Rattle.pg_rules.specs.Reach.{IsReach, Reaches, greatest_extra, is_over_at_most}
+use Rattle.pg_rules.specs.Floats.{gap_shrink}
+use Rattle.pg_rules.specs.Reach.{IsReach, Reaches, greatest_extra, greatest_give, is_over_at_most}
 use Rattle.pg_rules.specs.Room.{Document}
 use Rattle.pg_table.specs.Below.{SameBelow}
 use Rattle.law_places.proofs.Alike.{item_of}
@@ -52,7 +53,7 @@ cut_passes style w glue xs ys m n a b h l p =
     (passes_less w a.next b.next a.rest b.rest (a.glue_is ∙ sym b.glue_is) a.boxed b.boxed
     (is_over_at_most style (w ++ a.next ∷ a.rest)) (is_over_at_most style (w ++ b.next ∷ b.rest)) m n h l
     (λ k i. ap (λ (zs : List Item). is_over (total style.topskip style.maxdepth (trimmed zs)) (shrink (trimmed zs))
-    (style.height +ℤ greatest_extra style.runs))
+    ((style.height +ℤ greatest_extra style.runs) +ℤ greatest_give gap_shrink style))
     (take_same w a.next b.next a.rest b.rest (a.glue_is ∙ sym b.glue_is) a.boxed b.boxed k (omega arith)))
     (subst (λ (zs : List Item). PassesIn style zs n) a.is p))
 

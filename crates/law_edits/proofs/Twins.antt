@@ -1,24 +1,26 @@
 -- A column of which the rules read the same in two galleys: each rule says the same of both, and each cost is the same.
-use Rattle.std.proofs.Common.{◌≡◌, sym, ap, ◌∙◌, ℕ, ◌+◌, ◌≤◌, ◌<◌, List, length, take, Bool, true, false, Option, Some, None, arith}
-use Rattle.std.specs.Prelude.{◌&&◌, ◌||◌, ◌==◌, not, if◌then◌else◌, nat_le, nat_lt, is_some, ℤ, pos, ◌+ℤ◌, ◌-ℤ◌, int_le, unsigned_abs}
+use Rattle.std.proofs.Common.{◌≡◌, refl, sym, ap, ◌∙◌, ℕ, ◌+◌, ◌≤◌, ◌<◌, List, length, take, Bool, true, false, Option, Some, None, arith}
+use Rattle.std.specs.Prelude.{◌&&◌, ◌||◌, ◌==◌, not, if◌then◌else◌, nat_le, nat_lt, is_some, ℤ, pos, ◌+ℤ◌, ◌-ℤ◌, int_le, unsigned_abs, unwrap_or}
 use Rattle.std.specs.List.{list_any, list_all}
 use Rattle.std.specs.Option.{option_map_or}
 use Rattle.pg_list.specs.declared.blocks.Block.{Block}
 use Rattle.pg_list.specs.declared.item.Item.{Item}
+use Rattle.pg_list.specs.declared.item.Order.TheVariants.{Finite}
 use Rattle.pg_list.specs.declared.variants.Variant.{Variant}
 use Rattle.pg_list.specs.Shapes.{is_box}
 use Rattle.pg_plan.specs.declared.pages.Column.{Column}
 use Rattle.pg_style.specs.Values.{StyleValue}
-use Rattle.pg_list.specs.Badness.{is_over, page_badness}
+use Rattle.pg_style.specs.declared.style.Gap.{Gap}
+use Rattle.pg_list.specs.Badness.{fill_badness, has_infinite, is_over}
 use Rattle.pg_list.specs.Break.{break_penalty, is_forced, is_spent, passes_between}
-use Rattle.pg_list.specs.Totals.{trimmed, total, shrink}
-use Rattle.pg_list.specs.Whole.{square, whole_sum_by}
-use Rattle.pg_rules.specs.ColumnRules.{column_variants, does_fit, fitness_by, has_room, is_idle, is_tolerable, is_well_formed, keeps_looseness, keeps_note_limits, passes_breaks, segment, text_badness, text_fitness, text_goal, text_is_over, text_total}
-use Rattle.pg_rules.specs.Cost.{column_cost, column_demerits, differs, fitness_demerits, float_demerits, penalty_demerits, pick_demerits, run_demerits, text_demerits}
-use Rattle.pg_rules.specs.Floats.{float_count}
+use Rattle.pg_list.specs.Totals.{trimmed, total, shrink, stretch}
+use Rattle.pg_list.specs.Whole.{whole_sum_by}
+use Rattle.pg_rules.specs.ColumnRules.{column_variants, does_fit, fitness_by, has_room, is_idle, is_tolerable, is_well_formed, keeps_looseness, keeps_note_limits, passes_breaks, segment, tallest_goal, text_badness, text_fitness, text_goal, text_is_over, text_total}
+use Rattle.pg_rules.specs.Cost.{break_demerits, column_cost, column_demerits, differs, fitness_demerits, float_demerits, pick_demerits, run_demerits, text_demerits}
+use Rattle.pg_rules.specs.Floats.{float_count, gap_shrink, gap_stretch}
 use Rattle.pg_rules.specs.Follow.{KeepsColumnRules}
 use Rattle.pg_rules.specs.History.{column_fitness, fitness_after}
-use Rattle.pg_rules.specs.Room.{ColumnContext, are_notes_within_limits, full_height, is_text, items_of, notes, room, size_of, top_height, wide_height}
+use Rattle.pg_rules.specs.Room.{ColumnContext, are_notes_within_limits, areas_give, full_height, is_text, items_of, notes, room, size_of, skips_give, smallest_notes, tallest_room, top_height, wide_height}
 use Rattle.law_edits.proofs.Reaches.{document_of}
 
 abbrev pub context_of : StyleValue → List Block → Column → ℕ → Option ℤ → List ℕ → ColumnContext
@@ -45,6 +47,7 @@ pub record Twins (it other : ColumnContext) : Type 0 where
   pub variants : column_variants it ≡ column_variants other
   pub top : top_height it ≡ top_height other
   pub rooms : room it ≡ room other
+  pub gives : (part : Gap → ℤ) → areas_give part it ≡ areas_give part other
 
 module _ {style : StyleValue} {a b : List Block} {column : Column} {run : ℕ} {wide : Option ℤ} {before : List ℕ}
     (t : Twins (context_of style a column run wide before) (context_of style b column run wide before)) where
@@ -68,9 +71,17 @@ module _ {style : StyleValue} {a b : List Block} {column : Column} {run : ℕ} {
   goal_same k h = ap (λ (r : ℤ). r -ℤ notes style (segment it k)) t.rooms
       ∙ ap (λ (xs : List Item). room other -ℤ notes style xs) (segment_same k h)
 
+  tallest_room_same : tallest_room it ≡ tallest_room other
+  tallest_room_same = ap (λ (r : ℤ). r +ℤ areas_give gap_shrink it) t.rooms
+      ∙ ap (λ (z : ℤ). room other +ℤ z) (t.gives gap_shrink)
+
+  tallest_same : (k : ℕ) → k ≤ t.size → tallest_goal it k ≡ tallest_goal other k
+  tallest_same k h = ap (λ (r : ℤ). r -ℤ smallest_notes style (segment it k)) tallest_room_same
+      ∙ ap (λ (xs : List Item). tallest_room other -ℤ smallest_notes style xs) (segment_same k h)
+
   over_same : (k : ℕ) → k ≤ t.size → text_is_over it k ≡ text_is_over other k
-  over_same k h = by (text_total it k) (text_total other k) (segment it k) (segment other k) (text_goal it k)
-      (text_goal other k) (total_same k h) (segment_same k h) (goal_same k h)
+  over_same k h = by (text_total it k) (text_total other k) (segment it k) (segment other k) (tallest_goal it k)
+      (tallest_goal other k) (total_same k h) (segment_same k h) (tallest_same k h)
     where
       by : (x y : ℤ) (xs ys : List Item) (g h : ℤ) → x ≡ y → xs ≡ ys → g ≡ h →
           is_over x (shrink xs) g ≡ is_over y (shrink ys) h
@@ -80,13 +91,18 @@ module _ {style : StyleValue} {a b : List Block} {column : Column} {run : ℕ} {
   badness_same : text_badness it t.size ≡ text_badness other t.size
   badness_same = by (is_spent (items_of it) t.size) (is_spent (items_of other) t.size) (text_goal it t.size)
       (text_goal other t.size) (text_total it t.size) (text_total other t.size) (segment it t.size)
-      (segment other t.size) t.spent (goal_same t.size (omega arith)) (total_same t.size (omega arith)) (segment_same t.size (omega arith))
+      (segment other t.size) (areas_give gap_stretch it) (areas_give gap_stretch other) (areas_give gap_shrink it)
+      (areas_give gap_shrink other) t.spent (goal_same t.size (omega arith)) (total_same t.size (omega arith))
+      (segment_same t.size (omega arith)) (t.gives gap_stretch) (t.gives gap_shrink)
     where
-      by : (s u : Bool) (g h x y : ℤ) (xs ys : List Item) → s ≡ u → g ≡ h → x ≡ y → xs ≡ ys →
-          page_badness s g x xs ≡ page_badness u h y ys
-      by s u g h x y xs ys p q r e = ap (λ (c : Bool). page_badness c g x xs) p
-          ∙ (ap (λ (c : ℤ). page_badness u c x xs) q
-          ∙ (ap (λ (c : ℤ). page_badness u h c xs) r ∙ ap (page_badness u h y) e))
+      filled : Bool → ℤ → ℤ → List Item → ℤ → ℤ → ℕ
+      filled s g x xs m l = fill_badness s g x (has_infinite xs)
+          (unwrap_or style.ragged (stretch Finite xs +ℤ (m +ℤ skips_give gap_stretch style xs)))
+          (shrink xs +ℤ (l +ℤ skips_give gap_shrink style xs))
+
+      by : (s u : Bool) (g h x y : ℤ) (xs ys : List Item) (m m' l l' : ℤ) → s ≡ u → g ≡ h → x ≡ y → xs ≡ ys →
+          m ≡ m' → l ≡ l' → filled s g x xs m l ≡ filled u h y ys m' l'
+      by s u g h x y xs ys m m' l l' p q r e i j = rw (p, q, r, e, i, j) refl
 
   -- ---- the rules
 
@@ -117,9 +133,9 @@ module _ {style : StyleValue} {a b : List Block} {column : Column} {run : ℕ} {
 
   roomy : has_room it ≡ has_room other
   roomy = ap (λ (r : ℤ). if is_text it then int_le style.min_text r else int_le ((wide_height it +ℤ top_height it)
-      -ℤ (if float_count style column.top == 0 then style.wide.gap else style.top.gap)) (full_height it)) t.rooms
+      -ℤ (if float_count style column.top == 0 then style.wide.gap.size else style.top.gap.size)) (full_height it)) t.rooms
       ∙ ap (λ (r : ℤ). if is_text it then int_le style.min_text (room other) else int_le ((wide_height it +ℤ r)
-      -ℤ (if float_count style column.top == 0 then style.wide.gap else style.top.gap)) (full_height it)) t.top
+      -ℤ (if float_count style column.top == 0 then style.wide.gap.size else style.top.gap.size)) (full_height it)) t.top
 
   note_limits : keeps_note_limits it ≡ keeps_note_limits other
   note_limits = ap (λ (c : Bool). not (is_text it) || c)
@@ -171,10 +187,8 @@ module _ {style : StyleValue} {a b : List Block} {column : Column} {run : ℕ} {
   demerits_same : column_demerits it ≡ column_demerits other
   demerits_same = ap (λ (x : ℤ). if is_text it then x else pos style.float_column.demerits)
       (at_same (text_demerits it) (text_demerits other) (pos 0)
-      (ap (λ (n : ℕ). square (pos (style.line + n))
-      +ℤ option_map_or penalty_demerits (break_penalty (items_of it) t.size) (pos 0)) badness_same
-      ∙ ap (λ (o : Option ℤ). square (pos (style.line + text_badness other t.size))
-      +ℤ option_map_or penalty_demerits o (pos 0)) t.penalty))
+      (ap (λ (n : ℕ). break_demerits style n (unwrap_or (break_penalty (items_of it) t.size) (pos 0))) badness_same
+      ∙ ap (λ (o : Option ℤ). break_demerits style (text_badness other t.size) (unwrap_or o (pos 0))) t.penalty))
 
   picks_same : pick_demerits it ≡ pick_demerits other
   picks_same = ap (λ (vs : List Variant). whole_sum_by (λ (variant : Variant). pos variant.demerits) vs) t.variants

@@ -1,1 +1,2 @@
-mod Looser
+pub mod Counts
+pub mod Looser

@@ -24,7 +24,7 @@ use Rattle.pg_rules.specs.Room.{Document, is_text, items_of, room, size_of}
 use Rattle.law_looser.specs.Looser.{LessTextKeeps, MoreLoosenessKeeps, MoreToleranceKeeps, with_least_text, with_looseness, with_tolerance}
 
 -- columns that may stand keep standing where each does
-all_stand : (old new : Document) → ((m : PageMove) (ms : List PageMove) → StandsAfter old m ms → StandsAfter new m ms) →
+pub all_stand : (old new : Document) → ((m : PageMove) (ms : List PageMove) → StandsAfter old m ms → StandsAfter new m ms) →
     (ms : List PageMove) → Stand old ms → Stand new ms
 all_stand old new each [] stand = stand
 all_stand old new each (m ∷ ms) (here, rest) = (each m ms here, all_stand old new each ms rest)

@@ -204,9 +204,9 @@ module _ (doc : Document) (u : State) (blocks_in : AllByRecursion IsBlock doc.bl
         (top_count doc u blocks_in own layout is_float)
       where
         same : (w w' : Option ℤ) (t t' : ℤ) (n n' : ℕ) → w ≡ w' → t ≡ t' → n ≡ n' →
-            int_le ((unwrap_or w (pos 0) +ℤ t) -ℤ (if n == 0 then doc.style.wide.gap else doc.style.top.gap))
+            int_le ((unwrap_or w (pos 0) +ℤ t) -ℤ (if n == 0 then doc.style.wide.gap.size else doc.style.top.gap.size))
             (doc.style.height +ℤ extra doc.style layout.run)
-            ≡ int_le ((unwrap_or w' (pos 0) +ℤ t') -ℤ (if n' == 0 then doc.style.wide.gap else doc.style.top.gap))
+            ≡ int_le ((unwrap_or w' (pos 0) +ℤ t') -ℤ (if n' == 0 then doc.style.wide.gap.size else doc.style.top.gap.size))
             (doc.style.height +ℤ extra doc.style layout.run)
         same w w' t t' n n' p q r = cc
 

@@ -14,18 +14,19 @@ use Rattle.pg_plan.specs.declared.pages.PageMove.{PageMove}
 use Rattle.pg_plan.specs.declared.states.State.{State}
 use Rattle.pg_plan.specs.Order.{place_cmp}
 use Rattle.pg_style.specs.Values.{AreaRuleValue}
+use Rattle.pg_style.specs.declared.style.Gap.{Gap}
 use Rattle.pg_style.specs.declared.style.Run.{Run}
 use Rattle.pg_list.specs.Flat.{flat, fronts, is_same_place, items_before}
 use Rattle.pg_list.specs.Whole.{whole_sum_by}
 use Rattle.pg_rules.specs.BestPicks.{keeps_text}
 use Rattle.pg_rules.specs.ColumnRules.{column_variants, does_fit, has_counts, has_room, is_tolerable, is_well_formed, keeps_looseness, keeps_note_limits, passes_breaks, text_fitness}
 use Rattle.pg_rules.specs.Cost.{column_cost, column_demerits, differs, fitness_demerits, pick_demerits, text_demerits}
-use Rattle.pg_rules.specs.Floats.{area_height, called, dealt, entry, float_count, float_numbers, floats, has_all, is_area_allowed, plus_counts, sizes_of, takes_in_column, takes_wide, total_count}
+use Rattle.pg_rules.specs.Floats.{area_give, area_height, called, dealt, entry, float_count, float_numbers, floats, gap_shrink, gap_stretch, has_all, is_area_allowed, plus_counts, sizes_of, takes_in_column, takes_wide, total_count}
 use Rattle.pg_rules.specs.Follow.{Follow, KeepsColumnRules, MayStand, age_in, context_in, may_turn, next_state, wide_in}
 use Rattle.pg_rules.specs.History.{column_fitness, fitness_after, made_wide, placed_after}
 use Rattle.pg_rules.specs.IsState.{IsState}
 use Rattle.pg_rules.specs.Legal.{added, has_callouts, has_run, has_wide_counts, keeps_barriers}
-use Rattle.pg_rules.specs.Room.{ColumnContext, Document, bottom_height, checked_height, flat_items_of, full_height, is_bottom_allowed, is_text, is_top_allowed, room, size_of, top_height}
+use Rattle.pg_rules.specs.Room.{ColumnContext, Document, areas_give, bottom_height, checked_give, checked_height, flat_items_of, full_height, is_bottom_allowed, is_text, is_top_allowed, room, size_of, top_height}
 use Rattle.pg_table.specs.Space.{AreMoves}
 use Rattle.pg_table.specs.declared.step.Step.{Step}
 use Rattle.law_places.proofs.Among.{Among, among_left, among_right}
@@ -41,12 +42,13 @@ use Rattle.law_columns.proofs.BoundCounts.{float_total}
 use Rattle.law_columns.proofs.Order.{place_total}
 use Rattle.law_space.specs.PageSpace.{FollowBest, page_meaning}
 use Rattle.law_space.proofs.Least.{best_unique}
+use Rattle.pg_column.specs.declared.cost.TextRoom.{TextRoom}
 use Rattle.pg_column.specs.declared.end.End.{End}
 use Rattle.pg_column.specs.Ends.{AreEnds, HasEnd, IsBefore, IsColumnIn, IsEndOf}
 use Rattle.pg_layouts.specs.declared.layout.Layout.{Layout}
 use Rattle.pg_layouts.specs.Layouts.{float_layouts, layout_of, move_of, takes_run, text_layouts, zeros}
 use Rattle.law_moves.specs.Listed.{flushes_all, may_begin}
-use Rattle.law_moves.specs.Steps.{IsCeiling, area_of, fitness_cost, float_counts, float_step, float_steps, kept_fitness, may_end, may_stay, move_to, page_cost, stay, steps_of, steps_with, text_room, text_step, text_steps, wide_of}
+use Rattle.law_moves.specs.Steps.{IsCeiling, area_of, fitness_cost, float_counts, float_step, float_steps, kept_fitness, may_end, may_stay, move_to, page_cost, stay, steps_of, steps_with, text_give, text_room, text_size, text_step, text_steps, wide_of}
 use Rattle.law_places.proofs.Members.{among_append, among_contains, contains_among, in_filter, in_flat, in_map, of_filter, of_flat, of_map}
 use Rattle.law_places.proofs.Pairs.{Pairs, all_pairs, pairs_all, pairs_append, pairs_filter, pairs_flat, pairs_map, pairs_weaker}
 use Rattle.pg_layouts.proofs.Areas.{zeros_allowed, zeros_are, zeros_entry, zeros_total, slots_long}
@@ -106,6 +108,21 @@ pub checked_is : (sizes : List (List ℤ)) (allowed : Bool) (rule : AreaRuleValu
     checked_height sizes allowed rule before counts ≡ area_height rule (dealt sizes before counts)
 checked_is sizes allowed rule before counts a h = if_true (allowed && has_all sizes before counts) _ _
     (both allowed (has_all sizes before counts) a h)
+
+-- the same of what its gaps give
+pub checked_give_is : (part : Gap → ℤ) (sizes : List (List ℤ)) (allowed : Bool) (rule : AreaRuleValue)
+    (before counts : List ℕ) → allowed ≡ true → has_all sizes before counts ≡ true →
+    checked_give part sizes allowed rule before counts ≡ area_give part rule (length (dealt sizes before counts))
+checked_give_is part sizes allowed rule before counts a h = if_true (allowed && has_all sizes before counts) _ _
+    (both allowed (has_all sizes before counts) a h)
+
+pub same_give : (a a' b b' : ℤ) → a ≡ a' → b ≡ b' → a +ℤ b ≡ a' +ℤ b'
+same_give a a' b b' p q = cc
+
+whole_room : (s s' a a' b b' : ℤ) → s ≡ s' → a ≡ a' → b ≡ b' →
+    ◌≡◌ {A = TextRoom} (record { size = s; give = record { stretch = a; shrink = b } })
+    (record { size = s'; give = record { stretch = a'; shrink = b' } })
+whole_room s s' a a' b b' p q r = cc
 
 same_room : (f : ℤ) (w w' : Option ℤ) (t t' b b' : ℤ) → w ≡ w' → t ≡ t' → b ≡ b' →
     (((f -ℤ unwrap_or w (pos 0)) -ℤ t) -ℤ b) ≡ (((f -ℤ unwrap_or w' (pos 0)) -ℤ t') -ℤ b')
@@ -211,8 +228,16 @@ module _ (doc : Document) (u : State) (blocks_in : AllByRecursion IsBlock doc.bl
         bottom_allowed : is_bottom_allowed it ≡ true
         bottom_allowed = if_true (is_text it) _ _ text ∙ is.bottom.allowed
 
-        room_is : room it ≡ text_room doc u layout
-        room_is = same_room (full_height it) (wide_in doc u m) (wide_of doc u layout.wide) (top_height it)
+        give_is : (part : Gap → ℤ) → areas_give part it ≡ text_give part doc u layout
+        give_is part = same_give _ _ _ _
+            (checked_give_is part (floats doc.blocks doc.style) (is_top_allowed it) doc.style.top
+            (plus_counts doc.style u.placed layout.wide) layout.top top_allowed top_there)
+            (checked_give_is part (floats doc.blocks doc.style) (is_bottom_allowed it) doc.style.bottom
+            (plus_counts doc.style (plus_counts doc.style u.placed layout.wide) layout.top) layout.bottom
+            bottom_allowed bottom_there)
+
+        size_is : room it ≡ text_size doc u layout
+        size_is = same_room (full_height it) (wide_in doc u m) (wide_of doc u layout.wide) (top_height it)
             (area_of doc doc.style.top (plus_counts doc.style u.placed layout.wide) layout.top) (bottom_height it)
             (area_of doc doc.style.bottom
             (plus_counts doc.style (plus_counts doc.style u.placed layout.wide) layout.top) layout.bottom)
@@ -224,7 +249,12 @@ module _ (doc : Document) (u : State) (blocks_in : AllByRecursion IsBlock doc.bl
             bottom_allowed bottom_there)
 
         pub column_in : IsColumnIn doc u.place (text_room doc u layout) it
-        column_in = record { document = refl; starts = refl; height_is = room_is; text = text }
+        column_in = record {
+          document = refl;
+          starts = refl;
+          room_is = whole_room _ _ _ _ _ _ size_is (give_is gap_stretch) (give_is gap_shrink);
+          text = text;
+        }
 
         long_is : (counts : List ℕ) → length counts ≡ slots_of → (length counts == slots_of) ≡ true
         long_is counts l = subst (λ (n : ℕ). (n == slots_of) ≡ true) (sym l) (eq_refl slots_of)

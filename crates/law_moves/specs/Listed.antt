@@ -93,7 +93,7 @@ abbrev pub column_fits : Document → State → Layout → Bool
 column_fits doc u layout =
     int_le ((unwrap_or (wide_of doc u layout.wide) (pos 0)
     +ℤ area_of doc doc.style.top (plus_counts doc.style u.placed layout.wide) layout.top)
-    -ℤ (if total_count layout.top == 0 then doc.style.wide.gap else doc.style.top.gap))
+    -ℤ (if total_count layout.top == 0 then doc.style.wide.gap.size else doc.style.top.gap.size))
     (doc.style.height +ℤ extra doc.style layout.run)
 
 -- it has a float or a wide area, it fits, and leaves no float that waits too long

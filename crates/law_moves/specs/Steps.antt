@@ -5,14 +5,16 @@ use Rattle.std.specs.Option.{option_map_or}
 use Rattle.pg_plan.specs.declared.pages.PageMove.{PageMove}
 use Rattle.pg_plan.specs.declared.states.State.{State}
 use Rattle.pg_style.specs.Values.{AreaRuleValue, StyleValue}
+use Rattle.pg_style.specs.declared.style.Gap.{Gap}
 use Rattle.pg_list.specs.Flat.{is_same_place}
 use Rattle.pg_rules.specs.ColumnRules.{has_room}
 use Rattle.pg_rules.specs.Cost.{differs, float_demerits, run_demerits}
-use Rattle.pg_rules.specs.Floats.{area_height, called, dealt, entry, float_numbers, floats, plus_counts, total_count}
+use Rattle.pg_rules.specs.Floats.{area_give, area_height, called, dealt, entry, float_numbers, floats, gap_shrink, gap_stretch, plus_counts, total_count}
 use Rattle.pg_rules.specs.Follow.{Follow, age_in, context_in, may_turn, next_state}
 use Rattle.pg_rules.specs.Legal.{added, has_callouts, keeps_barriers}
 use Rattle.pg_rules.specs.Room.{Document, extra}
 use Rattle.pg_table.specs.declared.step.Step.{Step}
+use Rattle.pg_column.specs.declared.cost.TextRoom.{TextRoom}
 use Rattle.pg_column.specs.declared.end.End.{End}
 use Rattle.pg_layouts.specs.declared.layout.Layout.{Layout}
 use Rattle.pg_layouts.specs.Layouts.{float_layouts, move_of, text_layouts}
@@ -23,6 +25,10 @@ use Rattle.pg_layouts.specs.Layouts.{float_layouts, move_of, text_layouts}
 abbrev pub area_of : Document → AreaRuleValue → List ℕ → List ℕ → ℤ
 area_of doc rule before counts = area_height rule (dealt (floats doc.blocks doc.style) before counts)
 
+-- what its gaps give
+abbrev pub give_of : (Gap → ℤ) → Document → AreaRuleValue → List ℕ → List ℕ → ℤ
+give_of part doc rule before counts = area_give part rule (length (dealt (floats doc.blocks doc.style) before counts))
+
 -- the height of the page's wide area
 abbrev pub wide_of : Document → State → List ℕ → Option ℤ
 wide_of doc u wide =
@@ -30,12 +36,26 @@ wide_of doc u wide =
     else u.wide
 
 -- what the areas of a layout leave of the column
-abbrev pub text_room : Document → State → Layout → ℤ
-text_room doc u layout =
+abbrev pub text_size : Document → State → Layout → ℤ
+text_size doc u layout =
     (((doc.style.height +ℤ extra doc.style layout.run) -ℤ unwrap_or (wide_of doc u layout.wide) (pos 0))
     -ℤ area_of doc doc.style.top (plus_counts doc.style u.placed layout.wide) layout.top)
     -ℤ area_of doc doc.style.bottom
     (plus_counts doc.style (plus_counts doc.style u.placed layout.wide) layout.top) layout.bottom
+
+-- what the gaps of its areas give to the text between them
+abbrev pub text_give : (Gap → ℤ) → Document → State → Layout → ℤ
+text_give part doc u layout =
+    give_of part doc doc.style.top (plus_counts doc.style u.placed layout.wide) layout.top
+    +ℤ give_of part doc doc.style.bottom
+    (plus_counts doc.style (plus_counts doc.style u.placed layout.wide) layout.top) layout.bottom
+
+-- both
+abbrev pub text_room : Document → State → Layout → TextRoom
+text_room doc u layout = record {
+  size = text_size doc u layout;
+  give = record { stretch = text_give gap_stretch doc u layout; shrink = text_give gap_shrink doc u layout };
+}
 
 -- ---- what a column pays
 

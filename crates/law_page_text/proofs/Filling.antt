@@ -1,11 +1,15 @@
 -- A text whose glue is set fills its goal.
-use Rattle.std.proofs.Common.{◌≡◌, refl, sym, ap, ◌∙◌, subst, ℕ, ◌<◌, arith, List, [], ◌∷◌, Bool, true, false, ℤ, pos, ◌+ℤ◌, ◌-ℤ◌, ◌⊎◌, inl, inr}
+use Rattle.std.proofs.Common.{◌≡◌, refl, sym, ap, ap₂, ◌∙◌, subst, ℕ, ◌<◌, arith, append_assoc, append-nil, List, [], ◌∷◌, ◌++◌, map, Bool, true, false, ℤ, pos, ◌+ℤ◌, ◌-ℤ◌, ◌⊎◌, inl, inr}
 use Rattle.std.specs.Prelude.{◌&&◌, not, if◌then◌else◌, int_lt, ◌<ℤ◌, ◌≤ℤ◌, unsigned_abs}
 use Rattle.std.specs.List.{flat_map}
 use Rattle.std.proofs.lemmas.Int.{ints}
 use Rattle.pg_list.specs.GalleyValue.{GalleyValue}
 use Rattle.pg_list.specs.declared.item.Item.{Item}
+use Rattle.pg_style.specs.Ranges.{IsStyle}
 use Rattle.pg_style.specs.Values.{StyleValue}
+use Rattle.pg_style.specs.declared.style.Gap.{Gap}
+use Rattle.law_columns.proofs.Rigid.{early_rigid, rigid_give, shrink_none}
+use Rattle.pg_lemmas.proofs.Bools.{if_false}
 use Rattle.pg_list.specs.Break.{is_spent}
 use Rattle.pg_list.specs.Totals.{depth, full_size, shrink, top_glue, total}
 use Rattle.pg_list.specs.Whole.{whole_sum, whole_sum_by}
@@ -14,20 +18,22 @@ use Rattle.pg_glue.specs.declared.Elastic.{Elastic}
 use Rattle.pg_glue.specs.declared.Sense.TheVariants.{Stretch, Shrink}
 use Rattle.pg_glue.proofs.Laws.{changes_all}
 use Rattle.pg_lemmas.proofs.Numbers.{length_is}
-use Rattle.pg_rules.specs.ColumnRules.{segment, text_goal, text_is_over, text_total}
+use Rattle.pg_rules.specs.ColumnRules.{segment, tallest_goal, text_goal, text_is_over, text_total}
+use Rattle.pg_rules.specs.Floats.{gap_shrink}
 use Rattle.pg_rules.specs.History.{context}
 use Rattle.pg_rules.specs.Legal.{document}
 use Rattle.pg_rules.specs.Ranges.{AreInRange}
-use Rattle.pg_rules.specs.Room.{ColumnContext, items_of}
+use Rattle.pg_rules.specs.Room.{ColumnContext, areas_give, items_of, notes, room, skips_give}
 use Rattle.law_places.proofs.Tests.{int_less}
 use Rattle.law_columns.specs.Stands.{Stand}
 use Rattle.law_columns.specs.BeginningLaws.{KeepsRules}
 use Rattle.law_columns.proofs.BeginningContracts.{unbroken_keep_rules}
-use Rattle.pg_pages.specs.SetGlue.{own_width, shrinking, stretching}
-use Rattle.pg_pages.proofs.Allowed.{stand_behind}
+use Rattle.pg_pages.specs.Gaps.{gaps_above, shows_gaps}
+use Rattle.pg_pages.specs.SetGlue.{elastic, gap_elastic, glue_between, own_sizes as own_gaps, own_width, shrinking, stays_short, stretching}
+use Rattle.law_columns.proofs.Beginnings.{stand_behind}
 use Rattle.pg_pages.proofs.Excess.{within}
 use Rattle.pg_pages.proofs.TextColumn.{text_fits}
-use Rattle.law_page_text.specs.Heights.{FillsGoal, set_total, stretch_in}
+use Rattle.law_page_text.specs.Heights.{FillsGoal, between, gaps_below, glue_of, set_sizes, sizes_of_gaps, stretch_in, text_between}
 use Rattle.law_page_text.specs.PageLaws.{LegalFillGoals}
 use Rattle.law_page_text.proofs.SetSizes.{own_sizes, shrunk_sizes, stretched_sizes}
 use Rattle.law_page_text.proofs.Shrinking.{finite_chosen, finite_shrink}
@@ -61,69 +67,185 @@ widths_own : {X : Type 0} (a b s : Bool) (x y z : X) → a ≡ false → b ≡ f
     (if a && not s then x else (if b then y else z)) ≡ z
 widths_own a b s x y z p q = rw (p, q) refl
 
-module _ (topskip maxdepth goal : ℤ) (items : List Item) where
+-- ---- between gaps
+
+stretch_same : (items : List Item) → flat_map (elastic Stretch) items ≡ flat_map stretching items
+stretch_same [] = refl
+stretch_same (item ∷ items) = ap (λ more. stretching item ++ more) (stretch_same items)
+
+shrink_same : (items : List Item) → flat_map (elastic Shrink) items ≡ flat_map shrinking items
+shrink_same [] = refl
+shrink_same (item ∷ items) = ap (λ more. shrinking item ++ more) (shrink_same items)
+
+gaps_stretch : (gaps : List Gap) → map (gap_elastic Stretch) gaps ≡ flat_map stretching (map glue_of gaps)
+gaps_stretch [] = refl
+gaps_stretch (gap ∷ gaps) = ap (λ (more : List Elastic). gap_elastic Stretch gap ∷ more) (gaps_stretch gaps)
+
+gaps_shrink : (gaps : List Gap) → map (gap_elastic Shrink) gaps ≡ flat_map shrinking (map glue_of gaps)
+gaps_shrink [] = refl
+gaps_shrink (gap ∷ gaps) = ap (λ (more : List Elastic). gap_elastic Shrink gap ∷ more) (gaps_shrink gaps)
+
+gaps_own : (gaps : List Gap) → own_gaps gaps ≡ flat_map own_width (map glue_of gaps)
+gaps_own [] = refl
+gaps_own (gap ∷ gaps) = ap (λ (more : List ℤ). gap.size ∷ more) (gaps_own gaps)
+
+flat_two : {X : Type 0} (f : Item → List X) (xs ys : List Item) → flat_map f xs ++ flat_map f ys ≡ flat_map f (xs ++ ys)
+flat_two f [] ys = refl
+flat_two f (x ∷ xs) ys = append_assoc (f x) (flat_map f xs) (flat_map f ys)
+    ∙ ap (λ more. f x ++ more) (flat_two f xs ys)
+
+flat_between : {X : Type 0} (f : Item → List X) (above : List Gap) (items : List Item) (below : List Gap) →
+    flat_map f (map glue_of above) ++ flat_map f items ++ flat_map f (map glue_of below)
+    ≡ flat_map f (between above items below)
+flat_between f above items below =
+    ap (λ more. more ++ flat_map f (map glue_of below)) (flat_two f (map glue_of above) items)
+    ∙ flat_two f (map glue_of above ++ items) (map glue_of below)
+
+stretch_all : (above : List Gap) (items : List Item) (below : List Gap) →
+    glue_between Stretch above items below ≡ flat_map stretching (between above items below)
+stretch_all above items below =
+    rw (gaps_stretch above, gaps_stretch below, stretch_same items) (flat_between stretching above items below)
+
+shrink_all : (above : List Gap) (items : List Item) (below : List Gap) →
+    glue_between Shrink above items below ≡ flat_map shrinking (between above items below)
+shrink_all above items below =
+    rw (gaps_shrink above, gaps_shrink below, shrink_same items) (flat_between shrinking above items below)
+
+own_all : (above : List Gap) (items : List Item) (below : List Gap) →
+    (own_gaps above ++ flat_map own_width items ++ own_gaps below) ≡ flat_map own_width (between above items below)
+own_all above items below =
+    rw (gaps_own above, gaps_own below) (flat_between own_width above items below)
+
+-- ---- sums of their parts
+
+sum_two : (f : Item → ℤ) (xs ys : List Item) → whole_sum_by f (xs ++ ys) ≡ whole_sum_by f xs +ℤ whole_sum_by f ys
+sum_two f [] ys = omega (arith, ints)
+sum_two f (x ∷ xs) ys = one (f x) _ _ _ (sum_two f xs ys)
+  where
+    one : (a b c d : ℤ) → b ≡ c +ℤ d → a +ℤ b ≡ (a +ℤ c) +ℤ d
+    one a b c d e = omega (arith, ints, e)
+
+gaps_sum : (gaps : List Gap) → whole_sum_by full_size (map glue_of gaps) ≡ sizes_of_gaps gaps
+gaps_sum [] = refl
+gaps_sum (gap ∷ gaps) = ap (λ (z : ℤ). gap.size +ℤ z) (gaps_sum gaps)
+
+sum_all : (above : List Gap) (items : List Item) (below : List Gap) →
+    whole_sum_by full_size (between above items below)
+    ≡ (sizes_of_gaps above +ℤ whole_sum_by full_size items) +ℤ sizes_of_gaps below
+sum_all above items below = sum_two full_size (map glue_of above ++ items) (map glue_of below)
+    ∙ (ap (λ (z : ℤ). z +ℤ whole_sum_by full_size (map glue_of below)) (sum_two full_size (map glue_of above) items)
+    ∙ (ap (λ (z : ℤ). (z +ℤ whole_sum_by full_size items) +ℤ whole_sum_by full_size (map glue_of below)) (gaps_sum above)
+    ∙ ap (λ (z : ℤ). (sizes_of_gaps above +ℤ whole_sum_by full_size items) +ℤ z) (gaps_sum below)))
+
+-- without gaps there is the text's shrink alone
+bare_shrink : (above : List Gap) (items : List Item) (below : List Gap) → above ≡ [] → below ≡ [] →
+    shrink (between above items below) ≡ shrink items
+bare_shrink above items below a b =
+    ap (λ (gaps : List Gap). shrink (between gaps items below)) a
+    ∙ (ap (λ (gaps : List Gap). shrink (between [] items gaps)) b ∙ ap shrink (append-nil items))
+
+module _ (topskip maxdepth goal : ℤ) (above : List Gap) (items : List Item) (below : List Gap) where
   abbrev height : ℤ
   height = total topskip maxdepth items
 
-  stretched_fills : height <ℤ goal → pos 0 <ℤ stretch_in items →
-      set_total topskip maxdepth items (set_widths (flat_map stretching items) (goal -ℤ height) Stretch) ≡ goal
+  abbrev all : List Item
+  all = between above items below
+
+  -- the height of the text, with what the gaps are longer than they are
+  abbrev printed : List ℤ → ℤ
+  printed widths = ((top_glue topskip items +ℤ set_sizes all widths)
+      -ℤ (sizes_of_gaps above +ℤ sizes_of_gaps below)) -ℤ depth maxdepth items
+
+  stretched_fills : height <ℤ goal → pos 0 <ℤ stretch_in all →
+      printed (set_widths (glue_between Stretch above items below) (goal -ℤ height) Stretch) ≡ goal
   stretched_fills low more =
-      let list = flat_map stretching items in
-      let all = shared list (goal -ℤ height) (some height goal low) more in
-      let sizes = stretched_sizes (goal -ℤ height) (chosen list) (amounts (chosen list) list) [] items in
-      by (top_glue topskip items) (whole_sum_by full_size items) (depth maxdepth items) goal _ _ sizes all
+      let list = flat_map stretching all in
+      let shares = shared list (goal -ℤ height) (some height goal low) more in
+      let sizes = stretched_sizes (goal -ℤ height) (chosen list) (amounts (chosen list) list) [] all in
+      ap (λ (list : List Elastic). printed (set_widths list (goal -ℤ height) Stretch)) (stretch_all above items below)
+      ∙ by (top_glue topskip items) (whole_sum_by full_size items) (depth maxdepth items) goal _ _
+      (sizes_of_gaps above) (sizes_of_gaps below) _ sizes (sum_all above items below) shares
     where
       some : (a b : ℤ) → a <ℤ b → pos 0 ≤ℤ (b -ℤ a)
       some a b h = omega (arith, ints, h)
 
-      by : (t s d g c z : ℤ) → z ≡ s +ℤ c → c ≡ g -ℤ ((t +ℤ s) -ℤ d) → (t +ℤ z) -ℤ d ≡ g
-      by t s d g c z e f = omega (arith, ints, e, f)
+      by : (t s d g c z a b w : ℤ) → z ≡ w +ℤ c → w ≡ (a +ℤ s) +ℤ b → c ≡ g -ℤ ((t +ℤ s) -ℤ d) →
+          ((t +ℤ z) -ℤ (a +ℤ b)) -ℤ d ≡ g
+      by t s d g c z a b w e f h = omega (arith, ints, e, f, h)
 
-  shrunk_fills : goal <ℤ height → (height -ℤ goal) ≤ℤ shrink items →
-      set_total topskip maxdepth items (set_widths (flat_map shrinking items) (height -ℤ goal) Shrink) ≡ goal
-  shrunk_fills high fits =
-      let list = flat_map shrinking items in
-      let sum : amounts (chosen list) list ≡ shrink items =
-      ap (λ order. amounts order list) (finite_chosen items) ∙ finite_shrink items in
-      let more : pos 0 <ℤ amounts (chosen list) list = above height goal (shrink items) (amounts (chosen list) list) high fits sum in
-      let all = shared list (height -ℤ goal) (some goal height high) more in
-      let sizes = shrunk_sizes (height -ℤ goal) (chosen list) (amounts (chosen list) list) [] items in
-      by (top_glue topskip items) (whole_sum_by full_size items) (depth maxdepth items) goal _ _ sizes all
+  shrunk_fills : goal <ℤ height → pos 0 <ℤ shrink all →
+      printed (set_widths (glue_between Shrink above items below) (height -ℤ goal) Shrink) ≡ goal
+  shrunk_fills high gives =
+      let list = flat_map shrinking all in
+      let sum : amounts (chosen list) list ≡ shrink all =
+      ap (λ order. amounts order list) (finite_chosen all) ∙ finite_shrink all in
+      let more : pos 0 <ℤ amounts (chosen list) list = subst (λ (z : ℤ). pos 0 <ℤ z) (sym sum) gives in
+      let shares = shared list (height -ℤ goal) (some goal height high) more in
+      let sizes = shrunk_sizes (height -ℤ goal) (chosen list) (amounts (chosen list) list) [] all in
+      ap (λ (list : List Elastic). printed (set_widths list (height -ℤ goal) Shrink)) (shrink_all above items below)
+      ∙ by (top_glue topskip items) (whole_sum_by full_size items) (depth maxdepth items) goal _ _
+      (sizes_of_gaps above) (sizes_of_gaps below) _ sizes (sum_all above items below) shares
     where
       some : (a b : ℤ) → a <ℤ b → pos 0 ≤ℤ (b -ℤ a)
       some a b h = omega (arith, ints, h)
 
-      above : (h g s z : ℤ) → g <ℤ h → (h -ℤ g) ≤ℤ s → z ≡ s → pos 0 <ℤ z
-      above h g s z p q e = omega (arith, ints, p, q, e)
+      by : (t s d g c z a b w : ℤ) → z ≡ w -ℤ c → w ≡ (a +ℤ s) +ℤ b → c ≡ ((t +ℤ s) -ℤ d) -ℤ g →
+          ((t +ℤ z) -ℤ (a +ℤ b)) -ℤ d ≡ g
+      by t s d g c z a b w e f h = omega (arith, ints, e, f, h)
 
-      by : (t s d g c z : ℤ) → z ≡ s -ℤ c → c ≡ ((t +ℤ s) -ℤ d) -ℤ g → (t +ℤ z) -ℤ d ≡ g
-      by t s d g c z e f = omega (arith, ints, e, f)
+  own_fills : printed (own_gaps above ++ flat_map own_width items ++ own_gaps below) ≡ height
+  own_fills = ap printed (own_all above items below)
+      ∙ by (top_glue topskip items) (whole_sum_by full_size items) (depth maxdepth items) (sizes_of_gaps above)
+      (sizes_of_gaps below) _ _ (own_sizes all) (sum_all above items below)
+    where
+      by : (t s d a b z w : ℤ) → z ≡ w → w ≡ (a +ℤ s) +ℤ b → ((t +ℤ z) -ℤ (a +ℤ b)) -ℤ d ≡ (t +ℤ s) -ℤ d
+      by t s d a b z w e f = omega (arith, ints, e, f)
 
-  own_fills : set_total topskip maxdepth items (flat_map own_width items) ≡ height
-  own_fills = ap (λ (z : ℤ). (top_glue topskip items +ℤ z) -ℤ depth maxdepth items) (own_sizes items)
+-- in versions 1 and 2 a text that is too high but not over shrinks
+early_shrink : (it : ColumnContext) (n : ℕ) → IsStyle it.document.style → text_is_over it n ≡ false →
+    text_goal it n <ℤ text_total it n → shows_gaps it.document.style ≡ false → pos 0 <ℤ shrink (text_between it n)
+early_shrink it n range fits high early =
+    let items = segment it n in
+    let none = rigid_give gap_shrink shrink_none it (early_rigid it.document.style range early) items in
+    let bare = bare_shrink (gaps_above it) items (gaps_below it n) (if_false (shows_gaps it.document.style) _ [] early)
+    (ap₂ (λ (a b : List Gap). a ++ b) (if_false (shows_gaps it.document.style) _ [] early)
+    (if_false (shows_gaps it.document.style) _ [] early)) in
+    by (text_goal it n) (text_total it n) (tallest_goal it n) (shrink items) _ bare high
+    (sums (room it) (areas_give gap_shrink it) (notes it.document.style items)
+    (skips_give gap_shrink it.document.style items) none) (within (text_total it n) (shrink items) (tallest_goal it n) fits)
+  where
+    sums : (r a h k : ℤ) → a +ℤ k ≡ pos 0 → ((r +ℤ a) -ℤ (h -ℤ k)) ≡ (r -ℤ h)
+    sums r a h k e = omega (arith, ints, e)
 
-fills_goal : (it : ColumnContext) (n : ℕ) → text_is_over it n ≡ false → FillsGoal it n
-fills_goal it n fits =
+    by : (g t tall s z : ℤ) → z ≡ s → g <ℤ t → tall ≡ g → (t -ℤ tall) ≤ℤ pos 0 ⊎ (t -ℤ tall) ≤ℤ s → pos 0 <ℤ z
+    by g t tall s z e h f (inl m) = absurd (omega (arith, ints, h, f, m))
+    by g t tall s z e h f (inr m) = omega (arith, ints, e, h, f, m)
+
+fills_goal : (it : ColumnContext) (n : ℕ) → IsStyle it.document.style → text_is_over it n ≡ false → FillsGoal it n
+fills_goal it n range fits =
     let style = it.document.style in
+    let above = gaps_above it in
+    let below = gaps_below it n in
     let items = segment it n in
     let goal = text_goal it n in
     let height = text_total it n in
-    let longer = set_widths (flat_map stretching items) (goal -ℤ height) Stretch in
-    let shorter = set_widths (flat_map shrinking items) (height -ℤ goal) Shrink in
-    let spent = is_spent (items_of it) n in
-    let sum = λ (widths : List ℤ). set_total style.topskip style.maxdepth items widths in
+    let longer = set_widths (glue_between Stretch above items below) (goal -ℤ height) Stretch in
+    let shorter = set_widths (glue_between Shrink above items below) (height -ℤ goal) Shrink in
+    let same = own_gaps above ++ flat_map own_width items ++ own_gaps below in
+    let short = stays_short style items (is_spent (items_of it) n) in
+    let sum = λ (widths : List ℤ). printed style.topskip style.maxdepth goal above items below widths in
     record {
-      shrunk = λ high. ap sum (widths_shrunk (int_lt height goal) (int_lt goal height) spent longer shorter
-          (flat_map own_width items) (not_lower goal height (less goal height high)) (int_less goal height high))
-          ∙ shrunk_fills style.topskip style.maxdepth goal items high
-          (enough goal height (shrink items) high (within height (shrink items) goal fits));
-      stretched = λ low not_spent more. ap sum (widths_stretched (int_lt height goal) (int_lt goal height) spent longer
-          shorter (flat_map own_width items) (int_less height goal low) not_spent)
-          ∙ stretched_fills style.topskip style.maxdepth goal items low more;
-      as_high = λ same. ap sum (widths_own (int_lt height goal) (int_lt goal height) spent longer shorter
-          (flat_map own_width items) (not_lower goal height (equal goal height same))
-          (not_lower height goal (equal height goal (sym same))))
-          ∙ (own_fills style.topskip style.maxdepth goal items ∙ same);
+      shrunk = λ high gives. ap sum (widths_shrunk (int_lt height goal) (int_lt goal height) short longer shorter
+          same (not_lower goal height (less goal height high)) (int_less goal height high))
+          ∙ shrunk_fills style.topskip style.maxdepth goal above items below high
+          (elim gives [ inl early ↦ early_shrink it n range fits high early | inr some ↦ some ]);
+      stretched = λ low not_short more. ap sum (widths_stretched (int_lt height goal) (int_lt goal height) short longer
+          shorter same (int_less height goal low) not_short)
+          ∙ stretched_fills style.topskip style.maxdepth goal above items below low more;
+      as_high = λ equals. ap sum (widths_own (int_lt height goal) (int_lt goal height) short longer shorter
+          same (not_lower goal height (equal goal height equals))
+          (not_lower height goal (equal height goal (sym equals))))
+          ∙ (own_fills style.topskip style.maxdepth goal above items below ∙ equals);
     }
   where
     less : (a b : ℤ) → a <ℤ b → a ≤ℤ b
@@ -132,14 +254,10 @@ fills_goal it n fits =
     equal : (a b : ℤ) → b ≡ a → a ≤ℤ b
     equal a b e = omega (arith, ints, e)
 
-    enough : (g h s : ℤ) → g <ℤ h → (h -ℤ g) ≤ℤ pos 0 ⊎ (h -ℤ g) ≤ℤ s → (h -ℤ g) ≤ℤ s
-    enough g h s p (inl q) = absurd (omega (arith, ints, p, q))
-    enough g h s p (inr q) = q
-
 pub goals_filled : (galley : GalleyValue) (style : StyleValue) → AreInRange galley style → LegalFillGoals galley style
 goals_filled galley style range plan behind m ms n legal are text size =
     let doc = document galley style in
     let keeps : KeepsRules galley style plan = (unbroken_keep_rules galley style range plan).0 legal.unbroken in
     let stand : Stand doc (m ∷ ms) = stand_behind doc behind (m ∷ ms) (subst (Stand doc) are keeps.stand) in
-    fills_goal (context doc m ms) n
+    fills_goal (context doc m ms) n range.style_in
     (text_fits (context doc m ms) range.blocks range.style_in stand.0.stands.rules n size text)

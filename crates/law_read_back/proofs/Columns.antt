@@ -1,5 +1,5 @@
 -- A printed column reads back: its page's head where it begins one, its line, its numbers and its areas.
-use Rattle.std.proofs.Common.{◌≡◌, refl, sym, ap, subst, ◌∙◌, ◌<◌, ◌≤◌, ◌+◌, ◌^◌, ℕ, Bool, true, false, List, [], ◌∷◌, ◌++◌, length, append_assoc, append-nil, arith}
+use Rattle.std.proofs.Common.{◌≡◌, refl, sym, ap, subst, ◌∙◌, ◌<◌, ◌≤◌, ◌+◌, ◌^◌, ℕ, Bool, true, false, List, [], ◌∷◌, ◌++◌, length, append_assoc, append-nil, arith, ℤ}
 use Rattle.std.specs.Prelude.{is_some, nat_le, nat_lt, ◌||◌, not, decimal, codes, Option, Some, None, if◌then◌else◌}
 use Rattle.std.specs.Option.{option_map, option_map_or}
 use Rattle.pg_lemmas.proofs.Numbers.{less_of}
@@ -10,8 +10,9 @@ use Rattle.pg_rules.specs.Room.{ColumnContext, is_text, size_of, before_bottom}
 use Rattle.pg_rules.specs.ColumnRules.{segment, text_total, text_goal, text_badness}
 use Rattle.pg_rules.specs.Cost.{text_demerits}
 use Rattle.pg_words.specs.Written.{line}
-use Rattle.pg_pages.specs.SetGlue.{glue_widths}
-use Rattle.pg_pages.specs.PageText.{area, floats_text, notes_text, items_text, set_line, text_area, top_area, bottom_area, text_column, float_column, column_body, end_penalty, column_line as printed_column, page_line as printed_page}
+use Rattle.pg_pages.specs.Gaps.{bottom_gaps, gaps_above}
+use Rattle.pg_pages.specs.SetGlue.{bottom_widths, glue_widths, note_widths, own_sizes, text_widths}
+use Rattle.pg_pages.specs.PageText.{area, hanging_text, set_notes, standing_floats, items_text, set_line, text_area, top_area, bottom_area, text_column, float_column, column_body, end_penalty, column_line as printed_column, page_line as printed_page}
 use Rattle.pg_scan.specs.Parts.{parts_of}
 use Rattle.pg_labels.specs.Drafts.{◌or_else◌, step, step_at, said, with_column, pages_of, column_number, page_line, column_line, numbers_line, page_or_labels, labels_line, area_line, area_number, wide_line}
 use Rattle.pg_labels.specs.PageLines.{page_of, column_of, column_words, set_of, without_of}
@@ -26,7 +27,8 @@ use Rattle.law_read_back.specs.PageRanges.{IsPrintedColumn, IsPrintedNumbers, Is
 use Rattle.law_words.proofs.Cut.{lacks, joined_parts, joined_lacks}
 use Rattle.law_read_back.proofs.Runs.{Reads, reads_none, reads_then, reads_line, reads_as, reads_to}
 use Rattle.law_read_back.proofs.LabelTexts.{no_point}
-use Rattle.law_read_back.proofs.Pointed.{IsPointed, told, floats_pointed, notes_pointed, items_pointed}
+use Rattle.law_read_back.proofs.GapLines.{hanging_pointed, set_notes_pointed, standing_area_pointed}
+use Rattle.law_read_back.proofs.Pointed.{IsPointed, told, items_pointed}
 use Rattle.law_read_back.proofs.PageLines.{page_rest, page_line_is, page_words_lack, page_reads, column_rest, column_line_is, column_words_lack, column_reads, set_rest, set_line_is, set_words_lack, set_reads, without_rest, without_words_lack, without_reads}
 use Rattle.pg_lemmas.proofs.Lists.{some_is}
 use Rattle.std.proofs.lemmas.Bool.{le-leb, leb-true}
@@ -135,29 +137,33 @@ area_leads number name is none [] pointed d h =
     leads_none d (up_to (number + 1)) (up_more number (number + 1) (omega arith) d.stands h)
 area_leads number name is none (byte ∷ text) pointed d h = named_leads number name is none (byte ∷ text) pointed d h
 
-top_leads : (it : ColumnContext) (d : Draft) → up_to 0 d.stands ≡ true → Leads d (top_area it) (up_to 1) (held d)
+top_leads : (it : ColumnContext) (widths : List ℤ) (d : Draft) → up_to 0 d.stands ≡ true →
+    Leads d (top_area it widths) (up_to 1) (held d)
 unfolding area_number
-top_leads it d h = area_leads 0 (codes "top") refl refl (floats_text it.document it.before it.column.top)
-    (floats_pointed it.document it.before it.column.top) d h
+top_leads it widths d h = area_leads 0 (codes "top") refl refl
+    (hanging_text it.document it.document.style.top it.before it.column.top widths)
+    (hanging_pointed it.document it.document.style.top it.before it.column.top widths) d h
 
-bottom_leads : (it : ColumnContext) (d : Draft) → up_to 2 d.stands ≡ true → Leads d (bottom_area it) (up_to 3) (held d)
+bottom_leads : (it : ColumnContext) (widths : List ℤ) (d : Draft) → up_to 2 d.stands ≡ true →
+    Leads d (bottom_area it widths) (up_to 3) (held d)
 unfolding area_number
-bottom_leads it d h = area_leads 2 (codes "bottom") refl refl
-    (floats_text it.document (before_bottom it) it.column.bottom)
-    (floats_pointed it.document (before_bottom it) it.column.bottom) d h
+bottom_leads it widths d h = area_leads 2 (codes "bottom") refl refl
+    (standing_floats it.document it.document.style.bottom (before_bottom it) it.column.bottom widths)
+    (standing_area_pointed it.document it.document.style.bottom (before_bottom it) it.column.bottom widths) d h
 
 text_leads : (it : ColumnContext) (n : ℕ) (d : Draft) → up_to 1 d.stands ≡ true →
     Leads d (text_area it n) (up_to 2) (held d)
 unfolding area_number text_area
 text_leads it n d h = named_leads 1 (codes "text") refl refl
-    (items_text it.document.style.topskip (segment it n) (glue_widths it n))
-    (items_pointed it.document.style.topskip (segment it n) (glue_widths it n)) d h
+    (items_text it.document.style.topskip (segment it n) (text_widths it n))
+    (items_pointed it.document.style.topskip (segment it n) (text_widths it n)) d h
 
 notes_lead : (it : ColumnContext) (n : ℕ) (d : Draft) → up_to 3 d.stands ≡ true →
-    Leads d (area (codes "notes") (notes_text it.document.style (segment it n))) (up_to 4) (held d)
+    Leads d (area (codes "notes") (set_notes it.document.style (segment it n) (note_widths it n))) (up_to 4) (held d)
 unfolding area_number
-notes_lead it n d h = area_leads 3 (codes "notes") refl refl (notes_text it.document.style (segment it n))
-    (notes_pointed it.document.style (segment it n)) d h
+notes_lead it n d h = area_leads 3 (codes "notes") refl refl
+    (set_notes it.document.style (segment it n) (note_widths it n))
+    (set_notes_pointed it.document.style (segment it n) (note_widths it n)) d h
 
 -- ---- the numbers of a column
 
@@ -217,29 +223,35 @@ text_column_leads : (it : ColumnContext) (n : ℕ) (d : Draft) → d.stands ≡ 
     IsPrintedNumbers (text_goal it n) (text_total it n) (text_badness it n) (end_penalty it n) (text_demerits it n) →
     Leads d (text_column it n) (up_to 4) (held d)
 text_column_leads it n d is h =
-    let top = leads_then d (set_line it n) (top_area it) (up_to 0) (up_to 1) (held d) (held d) (set_leads it n d is h)
-    (λ (to : Stands) (s : up_to 0 to ≡ true). top_leads it (moved d to (held d) (set_line it n)) s) in
-    let text = leads_then d (set_line it n ++ top_area it) (text_area it n) (up_to 1) (up_to 2) (held d) (held d) top
-    (λ (to : Stands) (s : up_to 1 to ≡ true). text_leads it n (moved d to (held d) (set_line it n ++ top_area it)) s) in
-    let bottom = leads_then d (set_line it n ++ top_area it ++ text_area it n) (bottom_area it) (up_to 2) (up_to 3)
+    let above = top_area it (glue_widths it n) in
+    let below = bottom_area it (bottom_widths it n) in
+    let top = leads_then d (set_line it n) above (up_to 0) (up_to 1) (held d) (held d) (set_leads it n d is h)
+    (λ (to : Stands) (s : up_to 0 to ≡ true). top_leads it (glue_widths it n) (moved d to (held d) (set_line it n)) s) in
+    let text = leads_then d (set_line it n ++ above) (text_area it n) (up_to 1) (up_to 2) (held d) (held d) top
+    (λ (to : Stands) (s : up_to 1 to ≡ true). text_leads it n (moved d to (held d) (set_line it n ++ above)) s) in
+    let bottom = leads_then d (set_line it n ++ above ++ text_area it n) below (up_to 2) (up_to 3)
     (held d) (held d) text
     (λ (to : Stands) (s : up_to 2 to ≡ true).
-    bottom_leads it (moved d to (held d) (set_line it n ++ top_area it ++ text_area it n)) s) in
-    leads_then d (set_line it n ++ top_area it ++ text_area it n ++ bottom_area it)
-    (area (codes "notes") (notes_text it.document.style (segment it n))) (up_to 3) (up_to 4) (held d) (held d) bottom
+    bottom_leads it (bottom_widths it n) (moved d to (held d) (set_line it n ++ above ++ text_area it n)) s) in
+    leads_then d (set_line it n ++ above ++ text_area it n ++ below)
+    (area (codes "notes") (set_notes it.document.style (segment it n) (note_widths it n))) (up_to 3) (up_to 4) (held d)
+    (held d) bottom
     (λ (to : Stands) (s : up_to 3 to ≡ true).
-    notes_lead it n (moved d to (held d) (set_line it n ++ top_area it ++ text_area it n ++ bottom_area it)) s)
+    notes_lead it n (moved d to (held d) (set_line it n ++ above ++ text_area it n ++ below)) s)
 
 float_column_leads : (it : ColumnContext) (d : Draft) → d.stands ≡ ColumnBegun →
     it.document.style.float_column.demerits < 2 ^ 127 → Leads d (float_column it) (up_to 4) (held d)
 float_column_leads it d is small =
     let numbers = line (codes "without text demerits " ++ decimal it.document.style.float_column.demerits) in
-    let top = leads_then d numbers (top_area it) (up_to 0) (up_to 2) (held d) (held d)
+    let above = top_area it (own_sizes (gaps_above it)) in
+    let below = bottom_area it (own_sizes (bottom_gaps it)) in
+    let top = leads_then d numbers above (up_to 0) (up_to 2) (held d) (held d)
     (without_leads it.document.style.float_column.demerits d is small)
-    (λ (to : Stands) (s : up_to 0 to ≡ true). raised (top_leads it (moved d to (held d) numbers) s)) in
-    leads_then d (numbers ++ top_area it) (bottom_area it) (up_to 2) (up_to 4) (held d) (held d) top
+    (λ (to : Stands) (s : up_to 0 to ≡ true). raised
+    (top_leads it (own_sizes (gaps_above it)) (moved d to (held d) numbers) s)) in
+    leads_then d (numbers ++ above) below (up_to 2) (up_to 4) (held d) (held d) top
     (λ (to : Stands) (s : up_to 2 to ≡ true). raised_too
-    (bottom_leads it (moved d to (held d) (numbers ++ top_area it)) s))
+    (bottom_leads it (own_sizes (bottom_gaps it)) (moved d to (held d) (numbers ++ above)) s))
   where
     raised : {e : Draft} {t : List ℕ} {ps : Held} → Leads e t (up_to 1) ps → Leads e t (up_to 2) ps
     raised l = record { to = l.to; stands = up_more 1 2 (omega arith) l.to l.stands; reads = l.reads }

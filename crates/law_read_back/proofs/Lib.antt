@@ -4,6 +4,7 @@ pub mod LabelTexts
 pub mod NoneReads
 pub mod PageLines
 pub mod Pointed
+mod GapLines
 pub mod Columns
 pub mod Pages
 pub mod PagesRead

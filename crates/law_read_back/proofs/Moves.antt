@@ -21,7 +21,7 @@ use Rattle.pg_rules.specs.History.{next_column, next_run, place_of, context}
 use Rattle.pg_rules.specs.Room.{Document, ColumnContext, flat_items_of, items_of, is_top_allowed, is_bottom_allowed}
 use Rattle.pg_pages.specs.PageText.{end_penalty}
 use Rattle.pg_pages.proofs.TextColumn.{trimmed_few}
-use Rattle.law_columns.proofs.Prices.{page_badness_few, text_few}
+use Rattle.law_columns.proofs.Prices.{text_badness_few, text_few}
 use Rattle.pg_column.proofs.Spans.{ahead_few}
 use Rattle.law_columns.specs.Stands.{Stand}
 use Rattle.law_columns.proofs.GalleyFacts.{stand_place}
@@ -101,7 +101,7 @@ module _ (doc : Document) (range : IsStyle doc.style) (a : AllByRecursion IsBloc
   numbers_printed m ms n =
       let it = context doc m ms in
       let long = segment_long it refl n in
-      let b = page_badness_few (is_spent (items_of it) n) (text_goal it n) (text_total it n) (segment it n) in
+      let b = text_badness_few it n in
       let p = break_few (items_of it) n (items_all m ms) in
       let d = text_few it range.line_in n in
       record {

@@ -10,14 +10,14 @@ use Rattle.pg_plan.specs.declared.pages.PageMove.{PageMove}
 use Rattle.pg_style.specs.Values.{StyleValue}
 use Rattle.pg_rules.specs.Room.{Document}
 use Rattle.pg_rules.specs.History.{next_column, next_page, next_side, placed_of, context}
-use Rattle.pg_pages.specs.PageText.{column_text, columns_text, column_line as printed_column, column_body, page_head, floats_text}
+use Rattle.pg_pages.specs.PageText.{column_text, columns_text, column_line as printed_column, column_body, page_head, hanging_text, hung_sizes}
 use Rattle.law_columns.specs.Pages.{add_column, page_with, pages_from}
 use Rattle.pg_labels.specs.Drafts.{column_number, pages_of, with_last}
 use Rattle.pg_labels.specs.declared.draft.Draft.{Draft}
 use Rattle.pg_labels.specs.declared.draft.Stands.{Stands}
 use Rattle.pg_labels.specs.declared.draft.Stands.TheVariants.{Start, NoneLegal, Head, Begun, ColumnBegun, GoesOn, Labels}
 use Rattle.law_read_back.specs.PageRanges.{IsPrintedMove, ArePrintedMoves}
-use Rattle.law_read_back.proofs.Pointed.{floats_pointed}
+use Rattle.law_read_back.proofs.GapLines.{hanging_pointed}
 use Rattle.law_read_back.proofs.Columns.{Held, Leads, held, with_held, with_page, leads_then, leads_none, leads_as, moved, up_to, starts_page, starts_column, is_column_begun, column_begun_is, body_leads, column_line_leads, head_leads, bare_page}
 use Rattle.law_columns.proofs.Push.{column_some}
 
@@ -206,8 +206,10 @@ column_leads doc m ms h d able same = by (next_column doc.style ms == 1) refl
         ap (λ (xs : List Page). length xs + 1) all ∙ ap (λ (k : ℕ). k + 1) (length_reverse ps) ∙ count in
         let between = with_page (bare_page m.run m.wide) d in
         let head = head_leads (next_page doc.style ms) (next_side doc.style ms) m.run m.wide
-        (floats_text doc (placed_of doc.style ms) m.wide) d (ends_page ms d.stands able) len h.run h.wide
-        (floats_pointed doc (placed_of doc.style ms) m.wide) in
+        (hanging_text doc doc.style.wide (placed_of doc.style ms) m.wide
+        (hung_sizes doc doc.style.wide (placed_of doc.style ms) m.wide)) d (ends_page ms d.stands able) len h.run h.wide
+        (hanging_pointed doc doc.style.wide (placed_of doc.style ms) m.wide
+        (hung_sizes doc doc.style.wide (placed_of doc.style ms) m.wide)) in
         let whole = leads_then d (page_head doc m ms) (line ++ body) starts_column (up_to 4) between
         (with_held m.column between) head
         (λ (to : Stands) (s : starts_column to ≡ true).

@@ -1,7 +1,7 @@
 -- What a run with labels writes is read as what it shows.
 use Rattle.std.proofs.Common.{◌≡◌, ◌≤◌, ◌<◌, ◌^◌, ◌+◌, inl, inr, ℕ, suc, ap, refl, subst, Bool, List, [], ◌∷◌, ◌++◌, length, true, false}
 use Rattle.std.proofs.Common.{arith, length-append}
-use Rattle.std.specs.Prelude.{ℤ, Contains, if◌then◌else◌, ◌==◌}
+use Rattle.std.specs.Prelude.{ℤ, Contains, if◌then◌else◌, not, ◌==◌}
 use Rattle.std.proofs.lemmas.Int.{ints}
 use Rattle.std.proofs.lemmas.List.{length-reverse}
 use Rattle.pg_list.specs.GalleyValue.{GalleyValue}
@@ -60,9 +60,9 @@ labels_few fitness number (label ∷ labels) =
 text_long : (style : StyleValue) (pages : List ℕ) (labels : List Label) →
     length labels ≤ length (with_labels style pages labels)
 text_long style pages labels =
-    let front = labels_line (style.version == 2) (length labels) in
-    let lines = labels_from (style.version == 2) 1 labels in
-    let more = labels_few (style.version == 2) 1 labels in
+    let front = labels_line (not (style.version == 1)) (length labels) in
+    let lines = labels_from (not (style.version == 1)) 1 labels in
+    let more = labels_few (not (style.version == 1)) 1 labels in
     let inner = length-append front lines in
     let outer = length-append pages (front ++ lines) in
     omega (arith, more, inner, outer)
@@ -111,7 +111,7 @@ module _ (g : GalleyValue) (s : StyleValue) (lawful : Lawful is_same_key (wide_m
   label_wide label it = subst (λ (z : ℤ). is_wide z ≡ true) it.cost (cost_wide it.plan it.prefix)
 
   printed : (output : Output) → PassesAll g s output → float_total g.blocks s ≤ 2 ^ 12 →
-      Frontier g s output.labels → ArePrintedLabels (s.version == 2) output.labels
+      Frontier g s output.labels → ArePrintedLabels (not (s.version == 1)) output.labels
   printed output passes few frontier =
       ranges output.labels few (each_in_range (document g s) output.labels (λ label among. record {
         is_state = passes.before.before.before.before.states label among;
@@ -128,7 +128,7 @@ module _ (g : GalleyValue) (s : StyleValue) (lawful : Lawful is_same_key (wide_m
       record {
         output = output;
         read =
-            reads plan (cost g s plan) (s.version == 2) labels best.legal (cost_wide plan prefix)
+            reads plan (cost g s plan) (not (s.version == 1)) labels best.legal (cost_wide plan prefix)
             (plan_short plan prefix) (omega (arith, long, short)) (printed output (passes output shows) few frontier);
         shows = inl shows;
       }
@@ -141,7 +141,7 @@ module _ (g : GalleyValue) (s : StyleValue) (lawful : Lawful is_same_key (wide_m
       record {
         output = output;
         read =
-            reads (s.version == 2) labels (omega (arith, long, short))
+            reads (not (s.version == 1)) labels (omega (arith, long, short))
             (printed output (passes output shows) few frontier);
         shows = inr shows;
       }

@@ -166,10 +166,10 @@ module _ (it : ColumnContext) (range : IsStyle it.document.style) (a : AllByRecu
           let s = sum_few (sizes_of number items) (sizes_range number items b) in
           let l = sizes_long number items in omega (arith, s, l)
 
-      by : (c : Bool) → nat_abs (if c then pos 0 else (skip +ℤ whole_sum (sizes_of number items))) ≤ 2 ^ 52
+      by : (c : Bool) → nat_abs (if c then pos 0 else (skip.size +ℤ whole_sum (sizes_of number items))) ≤ 2 ^ 52
       by true = omega arith
       by false =
-          let r = add_few skip (whole_sum (sizes_of number items)) (2 ^ 30) (2 ^ 51) (omega (arith, k.0.1)) sum in
+          let r = add_few skip.size (whole_sum (sizes_of number items)) (2 ^ 30) (2 ^ 51) (omega (arith, k.0.size_in.1)) sum in
           omega (arith, r)
 
   notes_few : (items : List Item) → AllByRecursion IsItemInRange items → length items ≤ 2 ^ 21 →

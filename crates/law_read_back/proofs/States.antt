@@ -64,19 +64,16 @@ ages_few doc range (age ∷ ages) (float ∷ floats) h =
     let f = table_few doc.style range float.0 in
     (omega (arith, l, f), ages_few doc range ages floats t.1)
 
-first_of_two : (v : ℕ) → 1 ≤ v → v ≤ 2 → (v == 2) ≡ false → (v == 1) ≡ true
-first_of_two v low high other = grind (arith, nat_tests)
-
-second : (version : ℕ) → 1 ≤ version → version ≤ 2 → (version == 2) ≡ false → not_first version ≡ true → ⊥
-second version low high other first = by (version == 1) (first_of_two version low high other) first
+second : (version : ℕ) → not (version == 1) ≡ false → not_first version ≡ true → ⊥
+second version other first = by (not (version == 1)) other first
   where
-    by : (b : Bool) → b ≡ true → not b ≡ true → ⊥
+    by : (b : Bool) → b ≡ false → b ≡ true → ⊥
     by true e h = absurd cc
     by false e h = absurd cc
 
 pub state_printed : (doc : Document) → IsStyle doc.style → AllByRecursion IsBlock doc.blocks →
     item_count doc.blocks ≤ item_limit → float_total doc.blocks doc.style ≤ 2 ^ 12 → (u : State) → IsState doc u →
-    IsPrintedState (doc.style.version == 2) u
+    IsPrintedState (not (doc.style.version == 1)) u
 state_printed doc range a limit few u is = record {
   place = place_printed doc.blocks u.place a limit is.place;
   column = (is.column.0, is.column.1.1);
@@ -91,16 +88,16 @@ state_printed doc range a limit few u is = record {
   ages = ages_few doc range u.ages (waiting_in doc u) is.young;
 }
   where
-    told : (doc.style.version == 2) ≡ false → (o : Option ℕ) → o ≡ u.fitness → u.fitness ≡ None
+    told : (not (doc.style.version == 1)) ≡ false → (o : Option ℕ) → o ≡ u.fitness → u.fitness ≡ None
     told other None e = sym e
     told other (Some n) e =
         let t = both_of (not_first doc.style.version) (nat_le n 3) (holds _ u.fitness is.fitness n (sym e)) in
-        absurd (second doc.style.version range.version_from range.version_to other t.0)
+        absurd (second doc.style.version other t.0)
 
 pub labels_printed : (doc : Document) → IsStyle doc.style → AllByRecursion IsBlock doc.blocks →
     item_count doc.blocks ≤ item_limit → float_total doc.blocks doc.style ≤ 2 ^ 12 → (labels : List Label) →
     AreStatesInRange doc labels →
-    ArePrintedLabels (doc.style.version == 2) labels
+    ArePrintedLabels (not (doc.style.version == 1)) labels
 labels_printed doc range a limit few [] h = tt
 labels_printed doc range a limit few (label ∷ labels) h = (
   record { state = state_printed doc range a limit few label.state h.0.is_state; cost = h.0.cost },

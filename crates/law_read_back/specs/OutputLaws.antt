@@ -1,5 +1,5 @@
 -- Printed output texts read back, in the words of the contracts.
-use Rattle.std.specs.Prelude.{◌≡◌, ◌==◌, ◌≤◌, ◌<◌, ◌^◌, Bool, true, List, ◌++◌, length, Ok, ℤ}
+use Rattle.std.specs.Prelude.{◌≡◌, ◌==◌, ◌≤◌, ◌<◌, ◌^◌, Bool, true, not, List, ◌++◌, length, Ok, ℤ}
 use Rattle.pg_list.specs.GalleyValue.{GalleyValue}
 use Rattle.pg_plan.specs.declared.states.Label.{Label}
 use Rattle.pg_plan.specs.declared.pages.Pagination.{Pagination}
@@ -41,4 +41,4 @@ NoneReadsBack = (fitness : Bool) (labels : List Label) → length labels < 2 ^ 6
 -- has at most 2^12 floats
 abbrev pub StatesAreInRange : GalleyValue → StyleValue → Type 0
 StatesAreInRange galley style = (labels : List Label) → float_total galley.blocks style ≤ 2 ^ 12 →
-    AreStatesInRange (document galley style) labels → ArePrintedLabels (style.version == 2) labels
+    AreStatesInRange (document galley style) labels → ArePrintedLabels (not (style.version == 1)) labels

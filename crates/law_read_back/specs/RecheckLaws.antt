@@ -1,5 +1,5 @@
 -- What a run with labels writes, read again.
-use Rattle.std.specs.Prelude.{◌≡◌, ◌==◌, ◌≤◌, ◌<◌, ◌^◌, ℕ, List, ◌++◌, length, Ok}
+use Rattle.std.specs.Prelude.{◌≡◌, ◌==◌, ◌≤◌, ◌<◌, ◌^◌, ℕ, not, List, ◌++◌, length, Ok}
 use Rattle.pg_list.specs.GalleyValue.{GalleyValue}
 use Rattle.pg_plan.specs.declared.pages.Pagination.{Pagination}
 use Rattle.pg_plan.specs.declared.states.Label.{Label}
@@ -22,7 +22,7 @@ pub record TellsSolution (galley : GalleyValue) (style : StyleValue) (text : Lis
 
 -- a text with labels behind it, which tell their fitness in version 2
 abbrev pub with_labels : StyleValue → List ℕ → List Label → List ℕ
-with_labels style pages labels = pages ++ label_text (style.version == 2) labels
+with_labels style pages labels = pages ++ label_text (not (style.version == 1)) labels
 
 -- with the labels of the frontier behind it this text tells the solution, where it has fewer than 2^64 bytes then, and
 -- the galley has at most 2^12 floats

@@ -15,8 +15,8 @@ use Rattle.pg_style.specs.declared.style.Kind.TheVariants.{Note, Float}
 use Rattle.pg_list.specs.Flat.{FlatItem}
 use Rattle.pg_list.specs.Totals.{trimmed}
 use Rattle.pg_list.specs.Whole.{whole_sum, whole_sum_by}
-use Rattle.pg_rules.specs.Floats.{area_height, dealt, float_numbers, floats, has_all, sizes_of}
-use Rattle.pg_rules.specs.Room.{checked_height, class_notes}
+use Rattle.pg_rules.specs.Floats.{area_height, dealt, float_numbers, floats, gap_shrink, has_all, sizes_of}
+use Rattle.pg_rules.specs.Room.{checked_height, class_give, class_notes}
 use Rattle.law_columns.proofs.Areas.{IsSize, dealt_range, floats_range, sizes_range}
 use Rattle.law_places.proofs.Alike.{item_of}
 
@@ -77,17 +77,42 @@ notes_up (class ∷ classes) items a r =
     one number (Float area distance) k = omega (arith, ints)
     one number (Note skip limit) k = by (length (sizes_of number items) == 0)
       where
-        by : (b : Bool) → NotNegative (if b then pos 0 else (skip +ℤ whole_sum (sizes_of number items)))
+        by : (b : Bool) → NotNegative (if b then pos 0 else (skip.size +ℤ whole_sum (sizes_of number items)))
         by true = omega (arith, ints)
-        by false = add skip (whole_sum (sizes_of number items)) k.0.0
+        by false = add skip.size (whole_sum (sizes_of number items)) k.0.size_in.0
+            (sum_up (sizes_of number items) (sizes_range number items r))
+
+-- where skips are shrunk
+pub smallest_up : (classes : List Class) (items : List Item) → AllByRecursion IsClass classes →
+    AllByRecursion IsItemInRange items →
+    whole_sum_by (λ (class : Class). class_give gap_shrink items class.number class.kind) classes
+    ≤ℤ whole_sum_by (λ (class : Class). class_notes items class.number class.kind) classes
+smallest_up [] items a r = omega (arith, ints)
+smallest_up (class ∷ classes) items a r =
+    add _ _ _ _ (one class.number class.kind a.0.kind_in) (smallest_up classes items a.1 r)
+  where
+    add : (x y v w : ℤ) → x ≤ℤ y → v ≤ℤ w → (x +ℤ v) ≤ℤ (y +ℤ w)
+    add x y v w p q = omega (arith, ints)
+
+    one : (number : ℕ) (kind : Kind) → IsKind kind → class_give gap_shrink items number kind ≤ℤ class_notes items number kind
+    one number (Float area distance) k = omega (arith, ints)
+    one number (Note skip limit) k = by (length (sizes_of number items) == 0)
+      where
+        less : (b s n : ℤ) → b ≤ℤ s → pos 0 ≤ℤ n → b ≤ℤ (s +ℤ n)
+        less b s n p q = omega (arith, ints)
+
+        by : (b : Bool) → (if b then pos 0 else skip.shrink)
+            ≤ℤ (if b then pos 0 else (skip.size +ℤ whole_sum (sizes_of number items)))
+        by true = omega (arith, ints)
+        by false = less skip.shrink skip.size (whole_sum (sizes_of number items)) k.0.shrink_to
             (sum_up (sizes_of number items) (sizes_range number items r))
 
 pub area_up : (rule : AreaRuleValue) (sizes : List ℤ) → IsAreaRule rule → AllByRecursion IsSize sizes →
     NotNegative (area_height rule sizes)
 area_up rule [] r a = omega (arith, ints)
 area_up rule (size ∷ sizes) r a =
-    add (whole_sum_by (λ (z : ℤ). z) (size ∷ sizes)) (rule.sep *ℤ pos (length sizes)) rule.gap
-    (sum_by_up (size ∷ sizes) a) (times rule.sep (length sizes) r.sep_in.0) r.gap_in.0
+    add (whole_sum_by (λ (z : ℤ). z) (size ∷ sizes)) (rule.sep.size *ℤ pos (length sizes)) rule.gap.size
+    (sum_by_up (size ∷ sizes) a) (times rule.sep.size (length sizes) r.sep_in.size_in.0) r.gap_in.size_in.0
   where
     add : (x y z : ℤ) → pos 0 ≤ℤ x → pos 0 ≤ℤ y → pos 0 ≤ℤ z → pos 0 ≤ℤ ((x +ℤ y) +ℤ z)
     add x y z p q r = omega (arith, ints)

@@ -16,18 +16,19 @@ use Rattle.pg_list.specs.Badness.{is_over}
 use Rattle.pg_list.specs.Break.{break_penalty, is_forced, passes_between}
 use Rattle.pg_list.specs.Flat.{fronts}
 use Rattle.pg_list.specs.Totals.{shrink, total}
-use Rattle.pg_rules.specs.ColumnRules.{column_variants, passes_breaks, segment, text_goal, text_is_over, text_total}
-use Rattle.pg_rules.specs.Floats.{float_count, is_area_allowed, takes_wide}
+use Rattle.pg_rules.specs.ColumnRules.{column_variants, passes_breaks, segment, tallest_goal, text_is_over, text_total}
+use Rattle.pg_rules.specs.Floats.{float_count, floats, gap_shrink, is_area_allowed, takes_bottom, takes_top, takes_wide}
 use Rattle.pg_rules.specs.Follow.{Follow, context_in}
 use Rattle.pg_rules.specs.History.{made_wide}
 use Rattle.pg_rules.specs.IsState.{IsState, not_first}
-use Rattle.pg_rules.specs.Reach.{Reaches, greatest_extra, is_over_at_most}
-use Rattle.pg_rules.specs.Room.{ColumnContext, Document, bottom_height, extra, flat_items_of, is_text, items_of, notes, room, size_of, top_height, wide_height}
+use Rattle.pg_rules.specs.Reach.{Reaches, greatest_areas, greatest_extra, greatest_give, greatest_skips, is_over_at_most}
+use Rattle.pg_rules.specs.Room.{ColumnContext, Document, areas_give, before_bottom, bottom_height, extra, flat_items_of, is_bottom_allowed, is_text, is_top_allowed, items_of, notes, room, size_of, skips_give, top_height, wide_height}
 use Rattle.pg_column.proofs.Passing.{at_ranges}
 use Rattle.pg_lemmas.proofs.Bools.{both, both_of}
 use Rattle.pg_lemmas.proofs.Lists.{all_take}
 use Rattle.law_places.proofs.Tests.{int_le_of, int_less, le_int, less_int, int_le_trans}
-use Rattle.law_space.proofs.Lengths.{NotNegative, all_items, height_up, notes_up, trimmed_all}
+use Rattle.law_columns.proofs.Gives.{checked_to, dealt_within, shrink_part, skips_to}
+use Rattle.law_space.proofs.Lengths.{NotNegative, all_items, height_up, smallest_up, trimmed_all}
 
 -- ---- the tallest room
 
@@ -117,14 +118,38 @@ module _ (doc : Document) (blocks : AllByRecursion IsBlock doc.blocks) (ranges :
           ((((h +ℤ x) -ℤ w) -ℤ t) -ℤ b) ≤ℤ (h +ℤ g)
       lower h x g w t b i j k l = omega (arith, ints)
 
-  goal_low : (k : ℕ) → text_goal it k ≤ℤ (doc.style.height +ℤ greatest_extra doc.style.runs)
-  goal_low k = lower (room it) (notes doc.style (segment it k)) _ room_low
-      (notes_up doc.style.classes (segment it k) ranges.classes_in.each
+  -- the gaps of its areas give no more than those of full ones
+  areas_low : is_text it ≡ true → areas_give gap_shrink it ≤ℤ greatest_areas gap_shrink doc.style
+  areas_low t = add _ _ _ _
+      (checked_to gap_shrink shrink_part (floats doc.blocks doc.style) (is_top_allowed it) doc.style.top it.before
+      it.column.top ranges.top_in (λ e. dealt_within doc.blocks doc.style takes_top doc.style.top.count it.before
+      it.column.top (allowed (is_text it) _ _ t e))).1
+      (checked_to gap_shrink shrink_part (floats doc.blocks doc.style) (is_bottom_allowed it) doc.style.bottom
+      (before_bottom it) it.column.bottom ranges.bottom_in (λ e. dealt_within doc.blocks doc.style takes_bottom
+      doc.style.bottom.count (before_bottom it) it.column.bottom (allowed (is_text it) _ _ t e))).1
+    where
+      add : (a b c d : ℤ) → a ≤ℤ b → c ≤ℤ d → (a +ℤ c) ≤ℤ (b +ℤ d)
+      add a b c d p q = omega (arith, ints)
+
+      allowed : (b x y : Bool) → b ≡ true → (if b then x else y) ≡ true → x ≡ true
+      allowed true x y t e = e
+      allowed false x y t e = absurd cc
+
+  goal_low : is_text it ≡ true → (k : ℕ) →
+      tallest_goal it k ≤ℤ ((doc.style.height +ℤ greatest_extra doc.style.runs) +ℤ greatest_give gap_shrink doc.style)
+  goal_low t k =
+      let all = skips_to gap_shrink shrink_part (segment it k) doc.style.classes ranges.classes_in.each in
+      lower (room it) (areas_give gap_shrink it) (notes doc.style (segment it k))
+      (skips_give gap_shrink doc.style (segment it k)) _ (greatest_areas gap_shrink doc.style)
+      (greatest_skips gap_shrink doc.style) room_low (areas_low t)
+      (smallest_up doc.style.classes (segment it k) ranges.classes_in.each
       (trimmed_all IsItemInRange (take k (items_of it)) (all_take IsItemInRange k (items_of it)
       (all_items IsItemInRange (flat_items_of it) (at_ranges doc.blocks m.column.from m.column.picks blocks)))))
+      all.0 all.1
     where
-      lower : (r n g : ℤ) → r ≤ℤ g → pos 0 ≤ℤ n → (r -ℤ n) ≤ℤ g
-      lower r n g i j = omega (arith, ints)
+      lower : (r a n s g b c : ℤ) → r ≤ℤ g → a ≤ℤ b → s ≤ℤ n → pos 0 ≤ℤ s → s ≤ℤ c →
+          ((r +ℤ a) -ℤ (n -ℤ s)) ≤ℤ (g +ℤ (b +ℤ c))
+      lower r a n s g b c i j k l m = omega (arith, ints)
 
   pub reaches_next : is_text it ≡ true → Reaches doc m.column.from m.column.to
   reaches_next t = by (size_of it) refl f.stands.rules.fits
@@ -152,6 +177,6 @@ module _ (doc : Document) (blocks : AllByRecursion IsBlock doc.blocks) (ranges :
         leads = sym e;
         picked = h;
         passes = passes_lower (items_of it) (text_is_over it) (is_over_at_most doc.style (items_of it)) n
-            (λ k. over_lower (text_total it k) (shrink (segment it k)) (text_goal it k) _ (goal_low k))
+            (λ k. over_lower (text_total it k) (shrink (segment it k)) (tallest_goal it k) _ (goal_low t k))
             (passed n (sym e) f.stands.rules.passes);
       }

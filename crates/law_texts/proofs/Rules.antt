@@ -1,6 +1,6 @@
 -- The rules on a text column are those of its part of the flat list.
 use Rattle.std.proofs.Common.{◌≡◌, sym, ap, subst, ◌∙◌, ℕ, zero, suc, ◌+◌, ◌-◌, ◌<◌, ◌≤◌, inl, inr, List, [], ◌∷◌, take, drop, Bool, true, false, Option, Some, arith}
-use Rattle.std.specs.Prelude.{◌&&◌, ◌||◌, ◌==◌, not, nat_le, if◌then◌else◌, is_some, ℤ, pos, ◌+ℤ◌, ◌-ℤ◌}
+use Rattle.std.specs.Prelude.{◌&&◌, ◌||◌, ◌==◌, not, nat_le, if◌then◌else◌, is_some, ℤ, pos, ◌+ℤ◌, ◌-ℤ◌, unwrap_or}
 use Rattle.std.specs.List.{AllByRecursion, list_any, range_with_len}
 use Rattle.std.specs.Option.{option_map_or}
 use Rattle.pg_list.specs.GalleyValue.{GalleyValue}
@@ -10,17 +10,18 @@ use Rattle.pg_list.specs.declared.galley.Place.{Place}
 use Rattle.pg_list.specs.declared.item.Item.{Item}
 use Rattle.pg_plan.specs.Order.{columns}
 use Rattle.pg_style.specs.Values.{StyleValue}
-use Rattle.pg_list.specs.Badness.{is_over, page_badness}
+use Rattle.pg_list.specs.Badness.{is_over, fill_badness, has_infinite}
 use Rattle.pg_list.specs.Break.{break_penalty, is_forced, is_spent, passes_between}
 use Rattle.pg_list.specs.Flat.{FlatItem, is_same_place}
-use Rattle.pg_list.specs.Totals.{shrink, total}
-use Rattle.pg_list.specs.Whole.{square}
-use Rattle.pg_rules.specs.ColumnRules.{fitness_by, is_tolerable, is_well_formed, keeps_note_limits, passes_breaks, segment, text_badness, text_is_over, text_total, text_goal, text_fitness}
-use Rattle.pg_rules.specs.Cost.{column_demerits, penalty_demerits, text_demerits}
+use Rattle.pg_list.specs.Totals.{shrink, stretch, total}
+use Rattle.pg_list.specs.declared.item.Order.TheVariants.{Finite}
+use Rattle.pg_rules.specs.ColumnRules.{fitness_by, is_tolerable, is_well_formed, keeps_note_limits, passes_breaks, segment, text_badness, text_is_over, text_total, text_goal, text_fitness, text_shrink, text_stretch}
+use Rattle.pg_rules.specs.Cost.{break_demerits, column_demerits, text_demerits}
+use Rattle.pg_rules.specs.Floats.{gap_stretch, gap_shrink}
 use Rattle.pg_rules.specs.History.{column_fitness, context, place_of}
 use Rattle.pg_rules.specs.IsState.{IsPlace}
 use Rattle.pg_rules.specs.Legal.{document}
-use Rattle.pg_rules.specs.Room.{are_notes_within_limits, at_size, ColumnContext, flat_items_of, is_text, items_of, notes, room, size_of}
+use Rattle.pg_rules.specs.Room.{are_notes_within_limits, at_size, ColumnContext, flat_items_of, give, is_text, items_of, notes, room, size_of, smallest_notes, tallest_room}
 use Rattle.law_places.proofs.Among.{Among, all_same}
 use Rattle.law_places.proofs.Places.{Leads, leads}
 use Rattle.law_places.proofs.Splits.{StandsAt, stands_at}
@@ -50,15 +51,17 @@ module _ (it : ColumnContext) (flat : List Item) (start n : ℕ) (r : ReadsFlat 
   over_is : (j : ℕ) → j ≤ n → text_is_over it j ≡ flat_is_over it flat start j
   over_is j h = ap (λ (xs : List Item). is_over
       (total it.document.style.topskip it.document.style.maxdepth xs) (shrink xs)
-      (room it -ℤ notes it.document.style xs)) (r.segment j h)
+      (tallest_room it -ℤ smallest_notes it.document.style xs)) (r.segment j h)
 
   badness_is : text_badness it n ≡ flat_badness it flat start n
   badness_is =
-      ap (λ (b : Bool). page_badness b (text_goal it n) (text_total it n) (segment it n))
-      (r.spent n (omega arith))
-      ∙ ap (λ (xs : List Item). page_badness (is_spent flat (start + n))
+      ap (λ (b : Bool). fill_badness b (text_goal it n) (text_total it n) (has_infinite (segment it n))
+      (text_stretch it n) (text_shrink it n)) (r.spent n (omega arith))
+      ∙ ap (λ (xs : List Item). fill_badness (is_spent flat (start + n))
       (room it -ℤ notes it.document.style xs)
-      (total it.document.style.topskip it.document.style.maxdepth xs) xs) (r.segment n (omega arith))
+      (total it.document.style.topskip it.document.style.maxdepth xs) (has_infinite xs)
+      (unwrap_or it.document.style.ragged (stretch Finite xs +ℤ give gap_stretch it xs))
+      (shrink xs +ℤ give gap_shrink it xs)) (r.segment n (omega arith))
 
   and_same : (a b c d : Bool) → a ≡ c → b ≡ d → (a && b) ≡ (c && d)
   and_same a b c d p q = cc
@@ -139,16 +142,16 @@ module _ (it : ColumnContext) (flat : List Item) (start n : ℕ) (r : ReadsFlat 
           b) p ∙ (ap (λ (x : ℤ). if it.document.style.version == 1 then 2 else fitness_by t' x b) q
           ∙ ap (λ (x : ℕ). if it.document.style.version == 1 then 2 else fitness_by t' g' x) s)
 
-  demerits : column_demerits it ≡ square (pos (it.document.style.line + flat_badness it flat start n)) +ℤ
-      option_map_or penalty_demerits (break_penalty flat (start + n)) (pos 0)
+  demerits : column_demerits it ≡ break_demerits it.document.style (flat_badness it flat start n)
+      (unwrap_or (break_penalty flat (start + n)) (pos 0))
   demerits =
       if_true (is_text it) (option_map_or (text_demerits it) (size_of it) (pos 0))
       (pos it.document.style.float_column.demerits) text
       ∙ (at_is (size_of it) (text_demerits it) (pos 0) n r.size
-      ∙ (ap (λ (b : ℕ). square (pos (it.document.style.line + b)) +ℤ option_map_or penalty_demerits
-      (break_penalty (items_of it) n) (pos 0)) badness_is
-      ∙ ap (λ (o : Option ℤ). square (pos (it.document.style.line + flat_badness it flat start n)) +ℤ
-      option_map_or penalty_demerits o (pos 0)) (r.penalty n some (omega arith))))
+      ∙ (ap (λ (b : ℕ). break_demerits it.document.style b (unwrap_or (break_penalty (items_of it) n) (pos 0)))
+      badness_is
+      ∙ ap (λ (o : Option ℤ). break_demerits it.document.style (flat_badness it flat start n) (unwrap_or o (pos 0)))
+      (r.penalty n some (omega arith))))
 
   rules_read : RulesReadFlat it flat start n
   rules_read = record {

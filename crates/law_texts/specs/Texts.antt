@@ -1,5 +1,5 @@
 -- The texts of columns, their segments and their floats, joined; and what the flat list says of a column.
-use Rattle.std.specs.Prelude.{◌≡◌, ℕ, ◌+◌, ◌-◌, ◌≤◌, Bool, true, false, ◌&&◌, ◌||◌, ◌==◌, not, nat_le, if◌then◌else◌, length, List, [], ◌∷◌, ◌++◌, take, drop, Some, slice_get, ℤ, pos, ◌+ℤ◌, ◌-ℤ◌, is_some}
+use Rattle.std.specs.Prelude.{◌≡◌, ℕ, ◌+◌, ◌-◌, ◌≤◌, Bool, true, false, ◌&&◌, ◌||◌, ◌==◌, not, nat_le, if◌then◌else◌, length, List, [], ◌∷◌, ◌++◌, take, drop, Some, slice_get, ℤ, pos, ◌+ℤ◌, ◌-ℤ◌, is_some, unwrap_or}
 use Rattle.std.specs.List.{count_by, filter, list_all, list_any, range_with_len}
 use Rattle.std.specs.Option.{option_map_or}
 use Rattle.pg_list.specs.GalleyValue.{GalleyValue}
@@ -13,15 +13,15 @@ use Rattle.pg_plan.specs.declared.pages.Pagination.{Pagination}
 use Rattle.pg_style.specs.Values.{StyleValue}
 use Rattle.pg_list.specs.Break.{break_penalty, is_forced, is_spent, passes_between}
 use Rattle.pg_list.specs.Flat.{flat, flat_items, flat_items_at, items_before, picked_variants}
-use Rattle.pg_list.specs.Badness.{is_over, page_badness}
-use Rattle.pg_list.specs.Totals.{shrink, total, trimmed}
-use Rattle.pg_list.specs.Whole.{square}
+use Rattle.pg_list.specs.Badness.{is_over, fill_badness, has_infinite}
+use Rattle.pg_list.specs.Totals.{shrink, stretch, total, trimmed}
+use Rattle.pg_list.specs.declared.item.Order.TheVariants.{Finite}
 use Rattle.pg_rules.specs.ColumnRules.{fitness_by, is_tolerable, is_well_formed, keeps_note_limits, passes_breaks, segment}
-use Rattle.pg_rules.specs.Cost.{column_demerits, penalty_demerits}
-use Rattle.pg_rules.specs.Floats.{entry, float_numbers, insert_size, plus_counts, sizes_of}
+use Rattle.pg_rules.specs.Cost.{break_demerits, column_demerits}
+use Rattle.pg_rules.specs.Floats.{entry, float_numbers, gap_stretch, gap_shrink, insert_size, plus_counts, sizes_of}
 use Rattle.pg_rules.specs.History.{column_fitness, context, placed_of, with_wide, place_of}
 use Rattle.pg_rules.specs.Legal.{Legal, document, is_chained}
-use Rattle.pg_rules.specs.Room.{are_notes_within_limits, ColumnContext, Document, is_text, items_of, notes, room, size_of}
+use Rattle.pg_rules.specs.Room.{are_notes_within_limits, ColumnContext, Document, give, is_text, items_of, notes, room, size_of, smallest_notes, tallest_room}
 
 -- ---- columns that stand from the last to the first
 
@@ -160,12 +160,16 @@ flat_goal it flat start j = room it -ℤ notes it.document.style (flat_segment f
 
 abbrev pub flat_is_over : ColumnContext → List Item → ℕ → ℕ → Bool
 flat_is_over it flat start j =
-    is_over (flat_total it flat start j) (shrink (flat_segment flat start j)) (flat_goal it flat start j)
+    is_over (flat_total it flat start j) (shrink (flat_segment flat start j))
+    (tallest_room it -ℤ smallest_notes it.document.style (flat_segment flat start j))
 
 abbrev pub flat_badness : ColumnContext → List Item → ℕ → ℕ → ℕ
 flat_badness it flat start n =
-    page_badness (is_spent flat (start + n)) (flat_goal it flat start n) (flat_total it flat start n)
-    (flat_segment flat start n)
+    fill_badness (is_spent flat (start + n)) (flat_goal it flat start n) (flat_total it flat start n)
+    (has_infinite (flat_segment flat start n))
+    (unwrap_or it.document.style.ragged (stretch Finite (flat_segment flat start n)
+    +ℤ give gap_stretch it (flat_segment flat start n)))
+    (shrink (flat_segment flat start n) +ℤ give gap_shrink it (flat_segment flat start n))
 
 -- each rule, the fitness and the demerits of a text column are those of the flat list between its places
 pub record RulesReadFlat (it : ColumnContext) (flat : List Item) (start n : ℕ) : Type 0 where
@@ -179,8 +183,8 @@ pub record RulesReadFlat (it : ColumnContext) (flat : List Item) (start n : ℕ)
   pub fitness : column_fitness it
       ≡ (if it.document.style.version == 1 then 2 else fitness_by (flat_total it flat start n)
       (flat_goal it flat start n) (flat_badness it flat start n))
-  pub demerits : column_demerits it ≡ square (pos (it.document.style.line + flat_badness it flat start n)) +ℤ
-      option_map_or penalty_demerits (break_penalty flat (start + n)) (pos 0)
+  pub demerits : column_demerits it ≡ break_demerits it.document.style (flat_badness it flat start n)
+      (unwrap_or (break_penalty flat (start + n)) (pos 0))
 
 -- a text column keeps the rules that its part of the flat list keeps, at the same demerits
 pub record KeepsFlatRules (galley : GalleyValue) (style : StyleValue) (behind : List PageMove) (m : PageMove)

@@ -1,9 +1,10 @@
 -- The laws in the form of their contracts.
-use Rattle.std.proofs.Common.{inl, inr, ◌≤◌, ◌^◌, List, [], ◌∷◌, length, ℤ}
+use Rattle.std.proofs.Common.{inl, inr, ◌≤◌, ◌^◌, List, [], ◌∷◌, length}
 use Rattle.std.specs.List.{AllByRecursion}
 use Rattle.pg_list.specs.Shapes.{IsBlock}
 use Rattle.pg_rules.specs.Room.{Document}
 use Rattle.pg_style.specs.Ranges.{IsStyle}
+use Rattle.pg_column.specs.declared.cost.TextRoom.{TextRoom}
 use Rattle.law_walk.specs.Candidates.{ends_in_each}
 use Rattle.law_walk.specs.Laws.{AreEndsInEach, AreUpTo, CandidatesGiveEnds, CandidatesServeRooms, LabelsSuffice, LabelsTellReach, StretchSuffices, StretchTellsReach, WalkFindsCandidates, WalkIsSpace, WalkTellsReach}
 use Rattle.law_walk.proofs.Ends.{best_are_ends, candidates_give_ends}
@@ -23,7 +24,7 @@ module _ (doc : Document) (all : AllByRecursion IsBlock doc.blocks) where
   pub serve_rooms : IsStyle doc.style → CandidatesServeRooms doc
   serve_rooms is-style from top rooms cs upto cands = by rooms upto
     where
-      by : (rooms : List ℤ) → AreUpTo top rooms → AreEndsInEach doc from rooms (ends_in_each doc rooms cs)
+      by : (rooms : List TextRoom) → AreUpTo top rooms → AreEndsInEach doc from rooms (ends_in_each doc rooms cs)
       by [] u = tt
       by (height ∷ rooms) u = (candidates_give_ends doc from top height cs all is-style u.0 cands, by rooms u.1)
 

@@ -15,7 +15,7 @@ use Rattle.pg_rules.specs.BestPicks.{keeps_text, text_cost, with_picks}
 use Rattle.pg_rules.specs.ColumnRules.{text_fitness}
 use Rattle.pg_rules.specs.Cost.{column_demerits, pick_demerits, text_demerits}
 use Rattle.pg_rules.specs.History.{column_fitness}
-use Rattle.pg_rules.specs.Room.{ColumnContext, Document, is_text, room, size_of}
+use Rattle.pg_rules.specs.Room.{ColumnContext, Document, is_text, room, size_of, tallest_room}
 use Rattle.pg_column.specs.declared.end.End.{End}
 use Rattle.pg_column.specs.Ends.{AreEnds, HasEnd, IsColumnIn, IsEndOf}
 use Rattle.law_walk.specs.Best.{AreBest, IsAmong, IsCheaper, IsUnder, end_cmp, end_cost}
@@ -24,17 +24,18 @@ use Rattle.pg_column.specs.Passed.{Passed, fits, least_room}
 use Rattle.law_walk.proofs.BestLaws.{among_contains, best_are, cheaper_chain, contains_among, ends_tied, in_order, tied_ends}
 use Rattle.law_walk.proofs.Keeps.{HasCandidate, has_candidate, keeps_back, numbers_are, usable_is}
 use Rattle.law_walk.proofs.Bounds.{fits_less}
-use Rattle.pg_column.specs.Numbers.{AreNumbers}
+use Rattle.pg_column.specs.Numbers.{AreNumbers, most_room, text_room}
+use Rattle.pg_column.specs.declared.cost.TextRoom.{TextRoom}
 
 -- ---- the ends of those that keep the rules
 
-pub record IsKept (doc : Document) (height : ℤ) (cs : List Candidate) (end : End) : Type 0 where
+pub record IsKept (doc : Document) (height : TextRoom) (cs : List Candidate) (end : End) : Type 0 where
   pub candidate : Candidate
   pub listed : IsAmong candidate cs
   pub keeps : keeps_in doc height candidate ≡ true
   pub is : end ≡ end_in doc height candidate
 
-pub kept_of : (doc : Document) (height : ℤ) (cs : List Candidate) (end : End) →
+pub kept_of : (doc : Document) (height : TextRoom) (cs : List Candidate) (end : End) →
     IsAmong end (kept_ends doc height cs) → IsKept doc height cs end
 kept_of doc height [] end a = absurd a
 kept_of doc height (c ∷ cs) end a = by (keeps_in doc height c) refl a (λ b. kept_of doc height cs end b)
@@ -51,7 +52,7 @@ kept_of doc height (c ∷ cs) end a = by (keeps_in doc height c) refl a (λ b. k
     by true e (inr p) more = longer (more p)
     by false e p more = longer (more p)
 
-pub kept_listed : (doc : Document) (height : ℤ) (cs : List Candidate) (c : Candidate) → IsAmong c cs →
+pub kept_listed : (doc : Document) (height : TextRoom) (cs : List Candidate) (c : Candidate) → IsAmong c cs →
     keeps_in doc height c ≡ true →
     IsAmong (end_in doc height c) (kept_ends doc height cs)
 kept_listed doc height [] c a k = absurd a
@@ -73,20 +74,20 @@ kept_listed doc height (d ∷ cs) c (inr a) k = by (keeps_in doc height d) (kept
 
 -- ---- one that covers another does as well in each room
 
-pub record DoesAsWell (doc : Document) (height : ℤ) (a c : Candidate) : Type 0 where
+pub record DoesAsWell (doc : Document) (height : TextRoom) (a c : Candidate) : Type 0 where
   pub keeps : keeps_in doc height a ≡ true
   pub fitness : (cost_in doc height a).fitness ≡ (cost_in doc height c).fitness
   pub demerits : (cost_in doc height a).demerits ≡ (cost_in doc height c).demerits
 
-pub does_as_well : (doc : Document) (height : ℤ) (a c : Candidate) → Covers a c → keeps_in doc height c ≡ true →
+pub does_as_well : (doc : Document) (height : TextRoom) (a c : Candidate) → Covers a c → keeps_in doc height c ≡ true →
     DoesAsWell doc height a c
 does_as_well doc height a c v k =
     let two = both_of (not (is_over_in doc.style height c.passed)
     && (place_forced doc.blocks c.to || nat_le (cost_in doc height c).badness doc.style.tolerance)) _ k in
-    let rest = both_of (fits c.passed.bound height) (int_le doc.style.min_text height) two.1 in
+    let rest = both_of (fits c.passed.bound (most_room height)) (int_le doc.style.min_text height.size) two.1 in
     record {
       keeps = both _ _ (rw (v.to, v.totals, v.notes) two.0)
-          (both _ _ (fits_less a.passed.bound c.passed.bound height v.bound rest.0) rest.1);
+          (both _ _ (fits_less a.passed.bound c.passed.bound (most_room height) v.bound rest.0) rest.1);
       fitness = rw (v.to, v.totals, v.notes) refl;
       demerits = rw (v.to, v.totals, v.notes) refl;
     }
@@ -106,18 +107,18 @@ fits_more (Some x) height top h f = let a = le_int x height f in int_le_of x top
 -- ---- a column in its context
 
 module _ (it : ColumnContext) (all : AllByRecursion IsBlock it.document.blocks) (is-style : IsStyle it.document.style)
-    (text : is_text it ≡ true) (top : ℤ) (lower : room it ≤ℤ top) (cs : List Candidate)
+    (text : is_text it ≡ true) (top : ℤ) (lower : tallest_room it ≤ℤ top) (cs : List Candidate)
     (cands : AreCandidates it.document it.column.from top cs) where
   abbrev pub listing : List End
-  listing = kept_ends it.document (room it) cs
+  listing = kept_ends it.document (text_room it) cs
 
   -- an end as good as the column's
   pub record IsServed : Type 0 where
     pub candidate : Candidate
-    pub listed : IsAmong (end_in it.document (room it) candidate) listing
+    pub listed : IsAmong (end_in it.document (text_room it) candidate) listing
     pub to : candidate.to ≡ it.column.to
-    pub fitness : (cost_in it.document (room it) candidate).fitness ≡ column_fitness it
-    pub cheaper : IsCheaper (end_cost (end_in it.document (room it) candidate)) candidate.picks (text_cost it)
+    pub fitness : (cost_in it.document (text_room it) candidate).fitness ≡ column_fitness it
+    pub cheaper : IsCheaper (end_cost (end_in it.document (text_room it) candidate)) candidate.picks (text_cost it)
         it.column.picks
 
   fitness_of : (n : ℕ) → size_of it ≡ Some n → column_fitness it ≡ text_fitness it n
@@ -136,28 +137,28 @@ module _ (it : ColumnContext) (all : AllByRecursion IsBlock it.document.blocks) 
         passed = h.passed;
         pick_demerits = pick_demerits it;
       } in
-      let two = both_of (not (is_over_in it.document.style (room it) h.passed)
+      let two = both_of (not (is_over_in it.document.style (text_room it) h.passed)
       && (place_forced it.document.blocks it.column.to
-      || nat_le (cost_in it.document (room it) c).badness it.document.style.tolerance)) _ h.keeps in
-      let rest = both_of (fits h.passed.bound (room it)) (int_le it.document.style.min_text (room it)) two.1 in
-      let under = (both_of (not (is_over_in it.document.style (room it) h.passed)) _ two.0).0 in
-      let least : int_le (least_room it.document.style h.passed) (room it) ≡ true =
+      || nat_le (cost_in it.document (text_room it) c).badness it.document.style.tolerance)) _ h.keeps in
+      let rest = both_of (fits h.passed.bound (tallest_room it)) (int_le it.document.style.min_text (room it)) two.1 in
+      let under = (both_of (not (is_over_in it.document.style (text_room it) h.passed)) _ two.0).0 in
+      let least : int_le (least_room it.document.style h.passed) (tallest_room it) ≡ true =
       not_true _ (ap not (sym (usable_is it all is-style h.named text h.size h.size_is h.passed h.kept)) ∙ under) in
-      let low = le_int (least_room it.document.style h.passed) (room it) least in
+      let low = le_int (least_room it.document.style h.passed) (tallest_room it) least in
       let usable : is_usable it.document.style top h.passed ≡ true =
-      both _ _ (fits_more h.passed.bound (room it) top lower rest.0)
+      both _ _ (fits_more h.passed.bound (tallest_room it) top lower rest.0)
       (int_le_of (least_room it.document.style h.passed) top (omega (arith, ints, low, lower))) in
       let v : CoversIn cs c = cands.whole c h.is usable in
-      let d : DoesAsWell it.document (room it) v.candidate c =
-      does_as_well it.document (room it) v.candidate c v.covers h.keeps in
-      let numbers : AreNumbers it h.size (cost_in it.document (room it) c) =
+      let d : DoesAsWell it.document (text_room it) v.candidate c =
+      does_as_well it.document (text_room it) v.candidate c v.covers h.keeps in
+      let numbers : AreNumbers it h.size (cost_in it.document (text_room it) c) =
       numbers_are it all is-style h.named text h.size h.size_is h.passed h.kept h.is.ends in
       record {
         candidate = v.candidate;
-        listed = kept_listed it.document (room it) cs v.candidate v.listed d.keeps;
+        listed = kept_listed it.document (text_room it) cs v.candidate v.listed d.keeps;
         to = v.covers.to;
         fitness = d.fitness ∙ (numbers.fitness ∙ sym (fitness_of h.size h.size_is));
-        cheaper = priced (cost_in it.document (room it) v.candidate).demerits
+        cheaper = priced (cost_in it.document (text_room it) v.candidate).demerits
             v.candidate.pick_demerits (pick_demerits it) (column_demerits it) v.candidate.picks it.column.picks
             (d.demerits ∙ (numbers.demerits ∙ sym (demerits_of h.size h.size_is))) v.covers.cheaper;
       }
@@ -172,8 +173,8 @@ module _ (it : ColumnContext) (all : AllByRecursion IsBlock it.document.blocks) 
   pub has_end : (ends : List End) → AreBest listing ends → keeps_text it ≡ true → HasEnd ends it
   has_end ends b k =
       let s : IsServed = served k in
-      let w = b.there (end_in it.document (room it) s.candidate) s.listed in
-      let t = tied_ends w.0 (end_in it.document (room it) s.candidate) w.1.1 in
+      let w = b.there (end_in it.document (text_room it) s.candidate) s.listed in
+      let t = tied_ends w.0 (end_in it.document (text_room it) s.candidate) w.1.1 in
       record {
         end = w.0;
         listed = among_contains ends w.0 w.1.0;
@@ -184,10 +185,10 @@ module _ (it : ColumnContext) (all : AllByRecursion IsBlock it.document.blocks) 
 -- ---- sound
 
 module _ (it : ColumnContext) (all : AllByRecursion IsBlock it.document.blocks) (is-style : IsStyle it.document.style)
-    (text : is_text it ≡ true) (top : ℤ) (lower : room it ≤ℤ top) (cs : List Candidate)
+    (text : is_text it ≡ true) (top : ℤ) (lower : tallest_room it ≤ℤ top) (cs : List Candidate)
     (cands : AreCandidates it.document it.column.from top cs) where
   abbrev pub all_kept : List End
-  all_kept = kept_ends it.document (room it) cs
+  all_kept = kept_ends it.document (text_room it) cs
 
   same_candidate : (c : Candidate) → it.column.to ≡ c.to → it.column.picks ≡ c.picks →
       c ≡ record { to = it.column.to; picks = it.column.picks; passed = c.passed; pick_demerits = c.pick_demerits }
@@ -198,46 +199,46 @@ module _ (it : ColumnContext) (all : AllByRecursion IsBlock it.document.blocks) 
     picks = it.column.picks;
     passed = c.passed;
     pick_demerits = c.pick_demerits;
-  } → IsCandidate it.document it.column.from c → keeps_in it.document (room it) c ≡ true →
-      ((y : End) → IsAmong y all_kept → end_cmp (end_in it.document (room it) c) y ≡ Equal →
-      IsUnder (end_in it.document (room it) c) y) → IsEndOf it (end_in it.document (room it) c)
+  } → IsCandidate it.document it.column.from c → keeps_in it.document (text_room it) c ≡ true →
+      ((y : End) → IsAmong y all_kept → end_cmp (end_in it.document (text_room it) c) y ≡ Equal →
+      IsUnder (end_in it.document (text_room it) c) y) → IsEndOf it (end_in it.document (text_room it) c)
   end_of_kept c same is' k' under' =
       made c.passed c.pick_demerits (subst (IsCandidate it.document it.column.from) same is')
-      (ap (keeps_in it.document (room it)) (sym same) ∙ k')
+      (ap (keeps_in it.document (text_room it)) (sym same) ∙ k')
       (subst (λ (x : Candidate). (y : End) → IsAmong y all_kept →
-      end_cmp (end_in it.document (room it) x) y ≡ Equal → IsUnder (end_in it.document (room it) x) y) same under')
+      end_cmp (end_in it.document (text_room it) x) y ≡ Equal → IsUnder (end_in it.document (text_room it) x) y) same under')
       same
     where
       made : (p : Passed) (z : ℤ) →
           IsCandidate it.document it.column.from
           (record { to = it.column.to; picks = it.column.picks; passed = p; pick_demerits = z }) →
-          keeps_in it.document (room it)
+          keeps_in it.document (text_room it)
           (record { to = it.column.to; picks = it.column.picks; passed = p; pick_demerits = z }) ≡ true →
           ((y : End) → IsAmong y all_kept →
-          end_cmp (end_in it.document (room it)
+          end_cmp (end_in it.document (text_room it)
           (record { to = it.column.to; picks = it.column.picks; passed = p; pick_demerits = z })) y ≡ Equal →
-          IsUnder (end_in it.document (room it)
+          IsUnder (end_in it.document (text_room it)
           (record { to = it.column.to; picks = it.column.picks; passed = p; pick_demerits = z })) y) →
           c ≡ record { to = it.column.to; picks = it.column.picks; passed = p; pick_demerits = z } →
-          IsEndOf it (end_in it.document (room it) c)
+          IsEndOf it (end_in it.document (text_room it) c)
       made p z is k under e =
           let d : Candidate = record { to = it.column.to; picks = it.column.picks; passed = p; pick_demerits = z } in
-          let numbers : AreNumbers it is.size (cost_in it.document (room it) d) =
+          let numbers : AreNumbers it is.size (cost_in it.document (text_room it) d) =
           numbers_are it all is-style is.named text is.size is.leads p is.passes is.ends in
-          let own : (cost_in it.document (room it) d).demerits ≡ column_demerits it =
+          let own : (cost_in it.document (text_room it) d).demerits ≡ column_demerits it =
           numbers.demerits ∙ sym (demerits_of it all is-style text top lower cs cands is.size is.leads) in
-          let fit : column_fitness it ≡ (cost_in it.document (room it) d).fitness =
+          let fit : column_fitness it ≡ (cost_in it.document (text_room it) d).fitness =
           fitness_of it all is-style text top lower cs cands is.size is.leads ∙ sym numbers.fitness in
-          let cost : end_cost (end_in it.document (room it) d) ≡ text_cost it =
+          let cost : end_cost (end_in it.document (text_room it) d) ≡ text_cost it =
           ap (λ (x : ℤ). x +ℤ z) own ∙ ap (λ (x : ℤ). column_demerits it +ℤ x) is.demerits in
-          subst (λ (x : Candidate). IsEndOf it (end_in it.document (room it) x)) (sym e) (record {
+          subst (λ (x : Candidate). IsEndOf it (end_in it.document (text_room it) x)) (sym e) (record {
             keeps = keeps_back it all is-style text p z is k;
             least = record {
               least = λ picks text' kept same.
                   let s = served (with_picks it picks) all is-style text' top lower cs cands kept in
-                  let tie = ends_tied (end_in it.document (room it) d) (end_in it.document (room it) s.candidate)
+                  let tie = ends_tied (end_in it.document (text_room it) d) (end_in it.document (text_room it) s.candidate)
                   (sym s.to) (sym fit ∙ (sym same ∙ sym s.fitness)) in
-                  let u = under (end_in it.document (room it) s.candidate) s.listed tie in
+                  let u = under (end_in it.document (text_room it) s.candidate) s.listed tie in
                   subst (λ (x : ℤ). IsCheaper x it.column.picks (text_cost (with_picks it picks)) picks) cost
                   (cheaper_chain _ _ _ it.column.picks s.candidate.picks picks u s.cheaper);
             };
@@ -251,32 +252,32 @@ module _ (it : ColumnContext) (all : AllByRecursion IsBlock it.document.blocks) 
       it.column.picks ≡ end.picks → IsEndOf it end
   sound_end ends b end has to picks =
       let a : IsAmong end ends = contains_among ends end has in
-      let k : IsKept it.document (room it) cs end = kept_of it.document (room it) cs end (b.among end a) in
+      let k : IsKept it.document (text_room it) cs end = kept_of it.document (text_room it) cs end (b.among end a) in
       subst (IsEndOf it) (sym k.is)
       (end_of_kept k.candidate
       (same_candidate k.candidate (to ∙ ap (λ (e : End). e.to) k.is) (picks ∙ ap (λ (e : End). e.picks) k.is))
       (cands.sound k.candidate k.listed) k.keeps
-      (λ y listed tie. b.under (end_in it.document (room it) k.candidate) y
+      (λ y listed tie. b.under (end_in it.document (text_room it) k.candidate) y
       (subst (λ (e : End). IsAmong e ends) k.is a) listed tie))
 
 -- ---- the ends
 
 -- the best of the ends of candidates that suffice are the ends in a room
-pub best_are_ends : (doc : Document) (from : Place) (top height : ℤ) (cs : List Candidate) (ends : List End) →
-    AllByRecursion IsBlock doc.blocks → IsStyle doc.style → height ≤ℤ top → AreCandidates doc from top cs →
+pub best_are_ends : (doc : Document) (from : Place) (top : ℤ) (height : TextRoom) (cs : List Candidate) (ends : List End) →
+    AllByRecursion IsBlock doc.blocks → IsStyle doc.style → most_room height ≤ℤ top → AreCandidates doc from top cs →
     AreBest (kept_ends doc height cs) ends → AreEnds doc from height ends
 best_are_ends doc from top height cs ends all is-style lower cands best = record {
   sound = λ end it has is to picks.
       let blocks : AllByRecursion IsBlock it.document.blocks =
       subst (λ (d : Document). AllByRecursion IsBlock d.blocks) (sym is.document) all in
       let styled : IsStyle it.document.style = subst (λ (d : Document). IsStyle d.style) (sym is.document) is-style in
-      let low : room it ≤ℤ top = subst (λ (z : ℤ). z ≤ℤ top) (sym is.height_is) lower in
+      let low : tallest_room it ≤ℤ top = subst (λ (r : TextRoom). most_room r ≤ℤ top) (sym is.room_is) lower in
       sound_end it blocks styled is.text top low cs (own it is) ends (best_own it is) end has to picks;
   whole = λ it is kept.
       let blocks : AllByRecursion IsBlock it.document.blocks =
       subst (λ (d : Document). AllByRecursion IsBlock d.blocks) (sym is.document) all in
       let styled : IsStyle it.document.style = subst (λ (d : Document). IsStyle d.style) (sym is.document) is-style in
-      let low : room it ≤ℤ top = subst (λ (z : ℤ). z ≤ℤ top) (sym is.height_is) lower in
+      let low : tallest_room it ≤ℤ top = subst (λ (r : TextRoom). most_room r ≤ℤ top) (sym is.room_is) lower in
       has_end it blocks styled is.text top low cs (own it is) ends (best_own it is) kept;
   order = in_order ends best.ascend;
 }
@@ -285,12 +286,12 @@ best_are_ends doc from top height cs ends all is-style lower cands best = record
     own it is = subst (λ (d : Document). AreCandidates d it.column.from top cs) (sym is.document)
         (subst (λ (p : Place). AreCandidates doc p top cs) (sym is.starts) cands)
 
-    best_own : (it : ColumnContext) → IsColumnIn doc from height it → AreBest (kept_ends it.document (room it) cs) ends
-    best_own it is = subst (λ (d : Document). AreBest (kept_ends d (room it) cs) ends) (sym is.document)
-        (subst (λ (z : ℤ). AreBest (kept_ends doc z cs) ends) (sym is.height_is) best)
+    best_own : (it : ColumnContext) → IsColumnIn doc from height it → AreBest (kept_ends it.document (text_room it) cs) ends
+    best_own it is = subst (λ (d : Document). AreBest (kept_ends d (text_room it) cs) ends) (sym is.document)
+        (subst (λ (r : TextRoom). AreBest (kept_ends doc r cs) ends) (sym is.room_is) best)
 
-pub candidates_give_ends : (doc : Document) (from : Place) (top height : ℤ) (cs : List Candidate) →
-    AllByRecursion IsBlock doc.blocks → IsStyle doc.style → height ≤ℤ top → AreCandidates doc from top cs →
+pub candidates_give_ends : (doc : Document) (from : Place) (top : ℤ) (height : TextRoom) (cs : List Candidate) →
+    AllByRecursion IsBlock doc.blocks → IsStyle doc.style → most_room height ≤ℤ top → AreCandidates doc from top cs →
     AreEnds doc from height (ends_in doc height cs)
 unfolding ends_in
 candidates_give_ends doc from top height cs all is-style lower cands =

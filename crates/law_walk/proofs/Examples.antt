@@ -5,7 +5,7 @@ use Rattle.pg_list.specs.Places.{place}
 use Rattle.pg_rules.specs.Legal.{document}
 use Rattle.pg_rules.specs.Room.{Document}
 use Rattle.pg_list.specs.declared.blocks.Block.TheVariants.{One, Choice}
-use Rattle.pg_column.proofs.Examples.{behind}
+use Rattle.pg_column.proofs.Examples.{behind, high}
 use Rattle.pg_rules.proofs.Examples.{at, choice_style, eject, gap, line, one_choice, plain, points, ten_lines}
 use Rattle.pg_column.specs.declared.end.End.{End}
 use Rattle.law_walk.specs.Candidates.{ends_in, ends_in_each}
@@ -37,7 +37,7 @@ shown to picks badness demerits picked =
 paragraph : Document
 paragraph = document one_choice (choice_style 1)
 
-paragraph_ends : map show (ends_in paragraph (points 34) (candidates_from paragraph (points 34) (at 0)))
+paragraph_ends : map show (ends_in paragraph (high 34) (candidates_from paragraph (points 34) (at 0)))
     ≡ shown (place 0 0 1) (0 ∷ []) 10000 100222600 0
     ∷ shown (place 0 0 4) (0 ∷ []) 10000 100200100 0
     ∷ shown (place 0 0 6) (0 ∷ []) 0 22600 0
@@ -51,7 +51,7 @@ paragraph_ends = refl
 lines : Document
 lines = document ten_lines (plain 34)
 
-lines_ends : map (map (λ (end : End). end.to)) (ends_in_each lines (points 10 ∷ points 34 ∷ [])
+lines_ends : map (map (λ (end : End). end.to)) (ends_in_each lines (high 10 ∷ high 34 ∷ [])
     (candidates_from lines (points 34) (at 0))) ≡ (at 1 ∷ []) ∷ (at 1 ∷ at 3 ∷ at 5 ∷ []) ∷ []
 unfolding ends_in candidates_from lines
 lines_ends = refl
@@ -92,7 +92,7 @@ meeting = document (record {
       ∷ One gap ∷ One line ∷ [];
 }) (choice_style 1)
 
-meeting_ends : map show (ends_in meeting (points 34) (candidates_from meeting (points 34) (at 0)))
+meeting_ends : map show (ends_in meeting (high 34) (candidates_from meeting (points 34) (at 0)))
     ≡ shown (place 0 0 1) (0 ∷ []) 10000 100200100 300
     ∷ shown (place 0 1 1) (1 ∷ []) 10000 100200100 200
     ∷ shown (place 0 2 1) (2 ∷ []) 10000 100200100 200

@@ -14,10 +14,10 @@ use Rattle.pg_lemmas.proofs.Numbers.{eq_refl}
 use Rattle.pg_rules.specs.BestPicks.{keeps_text}
 use Rattle.pg_rules.specs.ColumnRules.{column_variants, does_fit, has_room, is_tolerable, is_well_formed, keeps_looseness, keeps_note_limits, passes_breaks, text_is_over}
 use Rattle.pg_rules.specs.Cost.{pick_demerits}
-use Rattle.pg_rules.specs.Room.{ColumnContext, flat_items_of, is_text, items_of, room, size_of}
+use Rattle.pg_rules.specs.Room.{ColumnContext, flat_items_of, is_text, items_of, room, size_of, tallest_room}
 use Rattle.pg_column.specs.Judged.{Walked}
-use Rattle.pg_column.specs.Numbers.{AreNumbers}
-use Rattle.pg_column.specs.Passed.{IsPassed, Passed, are_within, fits, is_end_here, least_room, note_height, nothing, pass_items}
+use Rattle.pg_column.specs.Numbers.{AreNumbers, text_room}
+use Rattle.pg_column.specs.Passed.{IsPassed, Passed, are_within, fits, is_end_here, least_notes, least_room, nothing, pass_items}
 use Rattle.pg_column.proofs.Judging.{steps_within, some_items as some_judged, formed_is as formed_judged, tolerable_is as tolerable_judged, passes_is as passes_judged, room_is as room_judged, limits_is as limits_judged, numbers_at}
 use Rattle.pg_column.proofs.Passing.{agrees, over_least}
 use Rattle.pg_column.proofs.Walking.{IsWalked}
@@ -58,13 +58,13 @@ module _ (it : ColumnContext) (all : AllByRecursion IsBlock it.document.blocks) 
     is = (agrees it.document all is-style it.column.from it.column.picks named n within).0 p kept
 
     abbrev walked : Walked
-    walked = record { totals = p.totals; notes = p.notes; passes = fits p.bound (room it) }
+    walked = record { totals = p.totals; notes = p.notes; passes = fits p.bound (tallest_room it) }
 
-    went : IsWalked it.document all is-style it.column.from it.column.picks named (room it) n walked
+    went : IsWalked it.document all is-style it.column.from it.column.picks named (text_room it) n walked
     went = record {
       sums = record { totals_are = is.totals_are; notes_are = is.notes_are; places = is.places };
-      passes = sym ((agrees it.document all is-style it.column.from it.column.picks named n within).1 (room it)
-          ∙ ap (λ (o : Option Passed). option_map_or (λ (q : Passed). fits q.bound (room it)) o false) kept);
+      passes = sym ((agrees it.document all is-style it.column.from it.column.picks named n within).1 (tallest_room it)
+          ∙ ap (λ (o : Option Passed). option_map_or (λ (q : Passed). fits q.bound (tallest_room it)) o false) kept);
     }
 
     pub some_items : p.totals.has_box ≡ true → 1 ≤ n
@@ -73,12 +73,12 @@ module _ (it : ColumnContext) (all : AllByRecursion IsBlock it.document.blocks) 
     pub formed_is : is_well_formed it ≡ is_end_here it.document.blocks p it.column.to
     formed_is = formed_judged it all is-style named text n size walked went
 
-    pub tolerable_is : is_tolerable it ≡ (not (is_over_in it.document.style (room it) p)
+    pub tolerable_is : is_tolerable it ≡ (not (is_over_in it.document.style (text_room it) p)
         && (place_forced it.document.blocks it.column.to
-        || nat_le (cost_in it.document (room it) candidate).badness it.document.style.tolerance))
+        || nat_le (cost_in it.document (text_room it) candidate).badness it.document.style.tolerance))
     tolerable_is = tolerable_judged it all is-style named text n size walked went
 
-    pub passes_is : passes_breaks it ≡ fits p.bound (room it)
+    pub passes_is : passes_breaks it ≡ fits p.bound (tallest_room it)
     passes_is = passes_judged it all is-style named text n size walked went
 
     pub room_is : has_room it ≡ int_le it.document.style.min_text (room it)
@@ -87,12 +87,12 @@ module _ (it : ColumnContext) (all : AllByRecursion IsBlock it.document.blocks) 
     pub limits_is : keeps_note_limits it ≡ are_within it.document.style p
     limits_is = limits_judged it all is-style named text n size walked went
 
-    pub usable_is : is_over_in it.document.style (room it) p ≡ not (int_le (least_room it.document.style p) (room it))
-    usable_is = over_least p.totals.total p.totals.shrink (note_height it.document.style p) (room it)
+    pub usable_is : is_over_in it.document.style (text_room it) p ≡ not (int_le (least_room it.document.style p) (tallest_room it))
+    usable_is = over_least p.totals.total p.totals.shrink (least_notes it.document.style p) (tallest_room it)
 
     -- at an end the numbers are those of the column
     pub numbers_are : is_end_here it.document.blocks p it.column.to ≡ true →
-        AreNumbers it n (cost_in it.document (room it) candidate)
+        AreNumbers it n (cost_in it.document (text_room it) candidate)
     numbers_are h =
         let two = both_of p.totals.has_box _ h in
         numbers_at it all is-style named text n size walked went
@@ -113,7 +113,7 @@ pub record HasCandidate (it : ColumnContext) : Type 0 where
     passed = passed;
     pick_demerits = pick_demerits it;
   })
-  pub keeps : keeps_in it.document (room it) (record {
+  pub keeps : keeps_in it.document (text_room it) (record {
     to = it.column.to;
     picks = it.column.picks;
     passed = passed;
@@ -159,10 +159,10 @@ module _ (it : ColumnContext) (all : AllByRecursion IsBlock it.document.blocks) 
           pass_items it.document nothing (take n (flat_items_of it)) ≡ o → HasCandidate it
       known n size fr named None e =
           let a = (agrees it.document all is-style it.column.from it.column.picks named n
-          (within it all is-style named text n size)).1 (room it) in
+          (within it all is-style named text n size)).1 (tallest_room it) in
           let none : passes_breaks it ≡ false =
           text_passes it all is-style named text n size ∙ (a
-          ∙ ap (λ (o : Option Passed). option_map_or (λ (q : Passed). fits q.bound (room it)) o false) e) in
+          ∙ ap (λ (o : Option Passed). option_map_or (λ (q : Passed). fits q.bound (tallest_room it)) o false) e) in
           absurd (let k : true ≡ false = sym t4.0 ∙ none in cc)
       known n size fr named (Some p) e = record {
         size = n;
@@ -203,7 +203,7 @@ module _ (it : ColumnContext) (all : AllByRecursion IsBlock it.document.blocks) 
     picks = it.column.picks;
     passed = p;
     pick_demerits = d;
-  })) → keeps_in it.document (room it) (record {
+  })) → keeps_in it.document (text_room it) (record {
     to = it.column.to;
     picks = it.column.picks;
     passed = p;
@@ -211,12 +211,12 @@ module _ (it : ColumnContext) (all : AllByRecursion IsBlock it.document.blocks) 
   }) ≡ true → keeps_text it ≡ true
   keeps_back p d c k =
       let n = c.size in
-      let two = both_of (not (is_over_in it.document.style (room it) p)
+      let two = both_of (not (is_over_in it.document.style (text_room it) p)
       && (place_forced it.document.blocks it.column.to
-      || nat_le (cost_in it.document (room it)
+      || nat_le (cost_in it.document (text_room it)
       (record { to = it.column.to; picks = it.column.picks; passed = p; pick_demerits = d })).badness
       it.document.style.tolerance)) _ k in
-      let rest = both_of (fits p.bound (room it)) (int_le it.document.style.min_text (room it)) two.1 in
+      let rest = both_of (fits p.bound (tallest_room it)) (int_le it.document.style.min_text (room it)) two.1 in
       both _ _ (ap (λ (o : Option ℕ). option_map_or (λ (n : ℕ). (fronts (flat_items_of it) n == length it.column.picks)
       && (length (column_variants it) == length it.column.picks)) o false) c.leads
       ∙ both _ _ (ap (λ (m : ℕ). m == length it.column.picks) c.fronts_are ∙ eq_refl _)

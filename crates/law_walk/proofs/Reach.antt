@@ -76,6 +76,14 @@ quiet_style style s = record {
   classes_in = record { few = omega arith; in_order = tt; each = tt };
   no_fitness = s.no_fitness;
   few_classes = λ e. omega arith;
+  ragged_in = s.ragged_in;
+  rigid_in = λ e. let r = s.rigid_in e in record {
+    top_in = r.top_in;
+    bottom_in = r.bottom_in;
+    wide_in = r.wide_in;
+    classes_in = tt;
+    not_ragged = r.not_ragged;
+  };
 }
 
 -- ---- each variant may be picked

@@ -8,9 +8,10 @@ use Rattle.pg_style.specs.Values.{StyleValue}
 use Rattle.pg_breaks.specs.Near.{place_penalty, place_forced, place_spent}
 use Rattle.pg_rules.specs.Room.{Document}
 use Rattle.pg_column.specs.Judged.{are_loose_enough}
-use Rattle.pg_column.specs.Numbers.{cost_by, is_over_by}
+use Rattle.pg_column.specs.Numbers.{cost_by, is_over_by, most_room}
 use Rattle.pg_column.specs.Passed.{Passed, are_within, fits, is_end_here, least_room, nothing, pass_items}
 use Rattle.pg_column.specs.declared.cost.TextCost.{TextCost}
+use Rattle.pg_column.specs.declared.cost.TextRoom.{TextRoom}
 use Rattle.pg_column.specs.declared.end.End.{End}
 use Rattle.law_walk.specs.Best.{IsAmong, IsCheaper, best_of}
 
@@ -25,38 +26,38 @@ pub record Candidate : Type 0 where
 -- ---- in a room
 
 -- what was passed is over
-abbrev pub is_over_in : StyleValue → ℤ → Passed → Bool
+abbrev pub is_over_in : StyleValue → TextRoom → Passed → Bool
 is_over_in style room p = is_over_by style room p.totals p.notes
 
 -- the numbers of the column to this end
-abbrev pub cost_in : Document → ℤ → Candidate → TextCost
+abbrev pub cost_in : Document → TextRoom → Candidate → TextCost
 cost_in doc room c =
     cost_by doc.style room c.passed.totals c.passed.notes (place_spent doc.blocks c.to)
     (unwrap_or (place_penalty doc.blocks c.to) (pos 0))
 
 -- a column to this end keeps the rules on its text
-abbrev pub keeps_in : Document → ℤ → Candidate → Bool
+abbrev pub keeps_in : Document → TextRoom → Candidate → Bool
 keeps_in doc room c =
     (not (is_over_in doc.style room c.passed)
     && (place_forced doc.blocks c.to || nat_le (cost_in doc room c).badness doc.style.tolerance))
-    && (fits c.passed.bound room && int_le doc.style.min_text room)
+    && (fits c.passed.bound (most_room room) && int_le doc.style.min_text room.size)
 
 -- the end with its numbers
-abbrev pub end_in : Document → ℤ → Candidate → End
+abbrev pub end_in : Document → TextRoom → Candidate → End
 end_in doc room c =
     record { to = c.to; picks = c.picks; cost = cost_in doc room c; pick_demerits = c.pick_demerits }
 
 -- the ends of the candidates that keep the rules in a room
-abbrev pub kept_ends : Document → ℤ → List Candidate → List End
+abbrev pub kept_ends : Document → TextRoom → List Candidate → List End
 kept_ends doc room cs = map (end_in doc room) (filter (keeps_in doc room) cs)
 
 -- the ends in a room: the best of them for each place and fitness, in order
-unfoldable pub ends_in : Document → ℤ → List Candidate → List End
+unfoldable pub ends_in : Document → TextRoom → List Candidate → List End
 ends_in doc room cs = best_of (kept_ends doc room cs)
 
 -- the ends in each of these rooms
-abbrev pub ends_in_each : Document → List ℤ → List Candidate → List (List End)
-ends_in_each doc rooms cs = map (λ (room : ℤ). ends_in doc room cs) rooms
+abbrev pub ends_in_each : Document → List TextRoom → List Candidate → List (List End)
+ends_in_each doc rooms cs = map (λ (room : TextRoom). ends_in doc room cs) rooms
 
 -- ---- which they are
 

@@ -11,30 +11,33 @@ use Rattle.pg_column.specs.declared.end.End.{End}
 use Rattle.law_walk.specs.Best.{AreBest, IsAmong}
 use Rattle.law_walk.specs.Candidates.{AreCandidates, Candidate, CoversIn, ends_in_each, kept_ends}
 use Rattle.pg_column.specs.Passed.{nothing}
+use Rattle.pg_column.specs.Numbers.{most_room}
+use Rattle.pg_column.specs.declared.cost.TextRoom.{TextRoom}
 use Rattle.law_walk.specs.Reached.{IsGreatest, first_reach, quiet, reach_of, tallest}
 use Rattle.law_walk.specs.Space.{AreCollected, HasLabels, IsStart, WalkKey, WalkState, first_ends, walk_meaning}
 use Rattle.law_walk.specs.Walk.{candidates_from, first_front, first_items, past_stretch, variants_at}
 
 -- of candidates that suffice up to a greatest room the best are the ends in each room up to it
 abbrev pub CandidatesGiveEnds : Document → Type 0
-CandidatesGiveEnds doc = (from : Place) (top height : ℤ) (cs : List Candidate) (ends : List End) → height ≤ℤ top →
-    AreCandidates doc from top cs → AreBest (kept_ends doc height cs) ends → AreEnds doc from height ends
+CandidatesGiveEnds doc = (from : Place) (top : ℤ) (room : TextRoom) (cs : List Candidate) (ends : List End) →
+    most_room room ≤ℤ top →
+    AreCandidates doc from top cs → AreBest (kept_ends doc room cs) ends → AreEnds doc from room ends
 
 -- a list of ends for each room
-abbrev pub AreEndsInEach : Document → Place → List ℤ → List (List End) → Type 0
+abbrev pub AreEndsInEach : Document → Place → List TextRoom → List (List End) → Type 0
 AreEndsInEach doc from [] [] = Unit {0}
-AreEndsInEach doc from (height ∷ rooms) (ends ∷ lists) = AreEnds doc from height ends ×
+AreEndsInEach doc from (room ∷ rooms) (ends ∷ lists) = AreEnds doc from room ends ×
     AreEndsInEach doc from rooms lists
 AreEndsInEach doc from _ _ = ⊥
 
 -- no room is above the greatest one
-abbrev pub AreUpTo : ℤ → List ℤ → Type 0
+abbrev pub AreUpTo : ℤ → List TextRoom → Type 0
 AreUpTo top [] = Unit {0}
-AreUpTo top (height ∷ rooms) = (height ≤ℤ top) × AreUpTo top rooms
+AreUpTo top (room ∷ rooms) = (most_room room ≤ℤ top) × AreUpTo top rooms
 
 -- one list of candidates serves each of these rooms
 abbrev pub CandidatesServeRooms : Document → Type 0
-CandidatesServeRooms doc = (from : Place) (top : ℤ) (rooms : List ℤ) (cs : List Candidate) → AreUpTo top rooms →
+CandidatesServeRooms doc = (from : Place) (top : ℤ) (rooms : List TextRoom) (cs : List Candidate) → AreUpTo top rooms →
     AreCandidates doc from top cs → AreEndsInEach doc from rooms (ends_in_each doc rooms cs)
 
 -- fewer candidates that cover the others suffice too

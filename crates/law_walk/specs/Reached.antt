@@ -4,7 +4,8 @@ use Rattle.std.specs.Option.{option_map_or}
 use Rattle.pg_list.specs.declared.galley.Place.{Place}
 use Rattle.pg_list.specs.declared.variants.Variant.{Variant}
 use Rattle.pg_list.specs.Flat.{FlatItem}
-use Rattle.pg_rules.specs.Reach.{greatest_extra}
+use Rattle.pg_rules.specs.Floats.{gap_shrink}
+use Rattle.pg_rules.specs.Reach.{greatest_extra, greatest_give}
 use Rattle.pg_rules.specs.Room.{Document}
 use Rattle.pg_style.specs.Values.{StyleValue}
 use Rattle.pg_column.specs.Passed.{Passed, fits, nothing, pass_item}
@@ -16,9 +17,9 @@ use Rattle.law_walk.specs.Walk.{first_front, first_items, past_stretch, picked_f
 abbrev pub quiet : Document → Document
 quiet doc = record { blocks = doc.blocks; style = record doc.style { classes = []; max_looseness = 100 } }
 
--- the room of the tallest run
+-- the room of the tallest run, where all gaps around a text are shrunk
 abbrev pub tallest : StyleValue → ℤ
-tallest style = style.height +ℤ greatest_extra style.runs
+tallest style = (style.height +ℤ greatest_extra style.runs) +ℤ greatest_give gap_shrink style
 
 -- the greatest block that is reached along a stretch with the front b behind it
 abbrev pub reach_along : Document → ℤ → ℕ → Passed → List FlatItem → ℕ

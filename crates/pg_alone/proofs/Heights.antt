@@ -27,7 +27,7 @@ among_low [] z a m = absurd m
 among_low (x ∷ sizes) z a (inl e) = subst (λ (y : ℤ). pos 0 ≤ℤ y) e a.0.0
 among_low (x ∷ sizes) z a (inr m) = among_low sizes z a.1 m
 
-sum_above : (sizes : List ℤ) (z : ℤ) → AllByRecursion IsSize sizes → Among z sizes → z ≤ℤ sum sizes
+pub sum_above : (sizes : List ℤ) (z : ℤ) → AllByRecursion IsSize sizes → Among z sizes → z ≤ℤ sum sizes
 sum_above [] z a m = absurd m
 sum_above (x ∷ sizes) z a (inl e) =
     let q : pos 0 ≤ℤ sum sizes = sum_low sizes a.1 in
@@ -43,12 +43,12 @@ times_low (negsuc k) n h = absurd (omega (arith, ints))
 
 -- an area with a float is as high as the float and the gap below it
 pub area_above : (rule : AreaRuleValue) (sizes : List ℤ) (z : ℤ) → IsAreaRule rule → AllByRecursion IsSize sizes →
-    Among z sizes → (z +ℤ rule.gap) ≤ℤ area_height rule sizes
+    Among z sizes → (z +ℤ rule.gap.size) ≤ℤ area_height rule sizes
 area_above rule [] z range a m = absurd m
 area_above rule (x ∷ sizes) z range a m =
     let s : z ≤ℤ sum (x ∷ sizes) = sum_above (x ∷ sizes) z a m in
-    let t : pos 0 ≤ℤ (rule.sep *ℤ pos (length sizes)) = times_low rule.sep (length sizes) range.sep_in.0 in
-    add z (sum (x ∷ sizes)) (rule.sep *ℤ pos (length sizes)) rule.gap s t
+    let t : pos 0 ≤ℤ (rule.sep.size *ℤ pos (length sizes)) = times_low rule.sep.size (length sizes) range.sep_in.size_in.0 in
+    add z (sum (x ∷ sizes)) (rule.sep.size *ℤ pos (length sizes)) rule.gap.size s t
   where
     add : (z s t g : ℤ) → z ≤ℤ s → pos 0 ≤ℤ t → (z +ℤ g) ≤ℤ ((s +ℤ t) +ℤ g)
     add z s t g h i = omega (arith, ints)
@@ -57,8 +57,8 @@ area_low : (rule : AreaRuleValue) (sizes : List ℤ) → IsAreaRule rule → All
     pos 0 ≤ℤ area_height rule sizes
 area_low rule [] range a = omega (arith, ints)
 area_low rule (x ∷ sizes) range a =
-    add (sum (x ∷ sizes)) (rule.sep *ℤ pos (length sizes)) rule.gap (sum_low (x ∷ sizes) a)
-    (times_low rule.sep (length sizes) range.sep_in.0) range.gap_in.0
+    add (sum (x ∷ sizes)) (rule.sep.size *ℤ pos (length sizes)) rule.gap.size (sum_low (x ∷ sizes) a)
+    (times_low rule.sep.size (length sizes) range.sep_in.size_in.0) range.gap_in.size_in.0
   where
     add : (s t g : ℤ) → pos 0 ≤ℤ s → pos 0 ≤ℤ t → pos 0 ≤ℤ g → pos 0 ≤ℤ ((s +ℤ t) +ℤ g)
     add s t g h i j = omega (arith, ints)
@@ -78,11 +78,11 @@ checked_low lists allowed rule before counts a range = by (allowed && has_all li
 -- an area that is allowed, of floats that are there
 pub checked_above : (lists : List (List ℤ)) (allowed : Bool) (rule : AreaRuleValue) (before counts : List ℕ) (z : ℤ) →
     AreSizes lists → IsAreaRule rule → allowed ≡ true → has_all lists before counts ≡ true →
-    Among z (dealt lists before counts) → (z +ℤ rule.gap) ≤ℤ checked_height lists allowed rule before counts
+    Among z (dealt lists before counts) → (z +ℤ rule.gap.size) ≤ℤ checked_height lists allowed rule before counts
 checked_above lists allowed rule before counts z a range is all m = by allowed (has_all lists before counts) is all
   where
     by : (b c : Bool) → b ≡ true → c ≡ true →
-        (z +ℤ rule.gap) ≤ℤ (if b && c then area_height rule (dealt lists before counts) else pos 0)
+        (z +ℤ rule.gap.size) ≤ℤ (if b && c then area_height rule (dealt lists before counts) else pos 0)
     by true true e f = area_above rule (dealt lists before counts) z range (dealt_range 0 lists before counts a) m
     by true false e f = absurd cc
     by false c e f = absurd cc

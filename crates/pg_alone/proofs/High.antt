@@ -5,7 +5,6 @@ use Rattle.std.specs.List.{range_with_len, sum_by}
 use Rattle.std.specs.Option.{option_map_or}
 use Rattle.std.proofs.Math.Seq.{take-length}
 use Rattle.std.proofs.lemmas.Bool.{eqb-true}
-use Rattle.std.proofs.lemmas.Bool.Decides.{nat_tests}
 use Rattle.std.proofs.lemmas.Int.{ints}
 use Rattle.std.proofs.lemmas.List.{length-map}
 use Rattle.std.proofs.lemmas.Option.{slice_get_within}
@@ -64,9 +63,6 @@ top_alone full wide top gap z r a h = omega (arith, ints)
 
 too_high : (height extra z : ℤ) → (height +ℤ extra) <ℤ z → z ≤ℤ (height +ℤ extra) → ⊥
 too_high height extra z a h = omega (arith, ints)
-
-not_none : (n : ℕ) → 0 < n → (n == 0) ≡ false
-not_none n h = grind (arith, nat_tests)
 
 module _ (g : GalleyValue) (s : StyleValue) (range : AreInRange g s) where
   abbrev doc : Document
@@ -156,23 +152,23 @@ module _ (g : GalleyValue) (s : StyleValue) (range : AreInRange g s) where
           checked_low lists (is_bottom_allowed it) s.bottom (before_bottom it) it.column.bottom in_range
           range.style_in.bottom_in
 
-      in_top : InArea (with_wide s placed m) m.column.top → (z +ℤ s.top.gap) ≤ℤ top_height it
+      in_top : InArea (with_wide s placed m) m.column.top → (z +ℤ s.top.gap.size) ≤ℤ top_height it
       in_top a = checked_above lists (is_top_allowed it) s.top it.before it.column.top z in_range range.style_in.top_in
           top_allowed dealable.0 (in_dealt it.before it.column.top a)
 
       in_bottom : InArea (plus_counts s (with_wide s placed m) m.column.top) m.column.bottom →
-          (z +ℤ s.bottom.gap) ≤ℤ bottom_height it
+          (z +ℤ s.bottom.gap.size) ≤ℤ bottom_height it
       in_bottom a = checked_above lists (is_bottom_allowed it) s.bottom (before_bottom it) it.column.bottom z in_range
           range.style_in.bottom_in bottom_allowed dealable.1 (in_dealt (before_bottom it) it.column.bottom a)
 
-      in_wide : InArea placed m.wide → (z +ℤ s.wide.gap) ≤ℤ wide_height it
+      in_wide : InArea placed m.wide → (z +ℤ s.wide.gap.size) ≤ℤ wide_height it
       in_wide a = by_bool (next_column s ms == 1) first later
         where
           counts : (if next_column s ms == 1 then is_area_allowed s takes_wide s.wide.count m.wide
               else total_count m.wide == 0) ≡ true
           counts = (both_of (length m.wide == length (float_numbers s)) _ stands.stands.wide).1
 
-          first : (next_column s ms == 1) ≡ true → (z +ℤ s.wide.gap) ≤ℤ wide_height it
+          first : (next_column s ms == 1) ≡ true → (z +ℤ s.wide.gap.size) ≤ℤ wide_height it
           first is_it =
               let allowed : is_area_allowed s takes_wide s.wide.count m.wide ≡ true =
               sym (if_true (next_column s ms == 1) _ _ is_it) ∙ counts in
@@ -180,11 +176,11 @@ module _ (g : GalleyValue) (s : StyleValue) (range : AreInRange g s) where
               let made : wide_of doc (m ∷ ms) ≡ Some (checked_height lists
               (is_area_allowed s takes_wide s.wide.count m.wide) s.wide placed m.wide) =
               if_true (next_column s ms == 1) _ _ is_it ∙ if_true (nat_lt 0 (float_count s m.wide)) _ _ some in
-              subst (λ (h : Option ℤ). (z +ℤ s.wide.gap) ≤ℤ unwrap_or h (pos 0)) (sym made)
+              subst (λ (h : Option ℤ). (z +ℤ s.wide.gap.size) ≤ℤ unwrap_or h (pos 0)) (sym made)
               (checked_above lists (is_area_allowed s takes_wide s.wide.count m.wide) s.wide placed m.wide z in_range
               range.style_in.wide_in allowed deals.0 (in_dealt placed m.wide a))
 
-          later : (next_column s ms == 1) ≡ false → (z +ℤ s.wide.gap) ≤ℤ wide_height it
+          later : (next_column s ms == 1) ≡ false → (z +ℤ s.wide.gap.size) ≤ℤ wide_height it
           later no_first =
               let none : (total_count m.wide == 0) ≡ true = sym (if_false (next_column s ms == 1) _ _ no_first) ∙ counts in
               absurd (none_taken (entry m.wide slot) (drop (entry placed slot) own) z
@@ -200,7 +196,7 @@ module _ (g : GalleyValue) (s : StyleValue) (range : AreInRange g s) where
 
       -- without text
       float_room : is_text it ≡ false → ((wide_height it +ℤ top_height it)
-          -ℤ (if float_count s it.column.top == 0 then s.wide.gap else s.top.gap)) ≤ℤ full_height it
+          -ℤ (if float_count s it.column.top == 0 then s.wide.gap.size else s.top.gap.size)) ≤ℤ full_height it
       float_room bare = le_int _ (full_height it) (sym (if_false (is_text it) _ _ bare) ∙ stands.stands.rules.room)
 
       bare_bottom : is_text it ≡ false → float_count s it.column.bottom ≡ 0
@@ -215,31 +211,34 @@ module _ (g : GalleyValue) (s : StyleValue) (range : AreInRange g s) where
           ]
 
       -- a top area with floats is no lower than its gap
-      gap_fits : (float_count s it.column.top == 0) ≡ false → s.top.gap ≤ℤ top_height it
+      gap_fits : (float_count s it.column.top == 0) ≡ false → s.top.gap.size ≤ℤ top_height it
       gap_fits some =
           let more : 0 < float_count s it.column.top = not_zero (float_count s it.column.top) some in
           let one = some_dealt lists 0 it.before it.column.top dealable.0
           (subst (λ (n : ℕ). 0 < sum_by (entry it.column.top) (range_with_len 0 n)) (sym lists_long) more) in
-          below one.0 s.top.gap (top_height it)
+          below one.0 s.top.gap.size (top_height it)
           (among_low (dealt lists it.before it.column.top) one.0 (dealt_range 0 lists it.before it.column.top in_range) one.1)
           (checked_above lists (is_top_allowed it) s.top it.before it.column.top one.0 in_range range.style_in.top_in
           top_allowed dealable.0 one.1)
 
       bare_wide : InArea placed m.wide → is_text it ≡ false → z ≤ℤ full_height it
       bare_wide a bare = by_bool (float_count s it.column.top == 0)
-          (λ none. wide_alone (full_height it) (wide_height it) (top_height it) s.wide.gap z
+          (λ none. wide_alone (full_height it) (wide_height it) (top_height it) s.wide.gap.size z
           (subst (λ (gap : ℤ). ((wide_height it +ℤ top_height it) -ℤ gap) ≤ℤ full_height it)
           (if_true (float_count s it.column.top == 0) _ _ none) (float_room bare)) top_low (in_wide a))
-          (λ some. wide_above (full_height it) (wide_height it) (top_height it) s.wide.gap s.top.gap z
+          (λ some. wide_above (full_height it) (wide_height it) (top_height it) s.wide.gap.size s.top.gap.size z
           (subst (λ (gap : ℤ). ((wide_height it +ℤ top_height it) -ℤ gap) ≤ℤ full_height it)
-          (if_false (float_count s it.column.top == 0) _ _ some) (float_room bare)) range.style_in.wide_in.gap_in.0
+          (if_false (float_count s it.column.top == 0) _ _ some) (float_room bare)) range.style_in.wide_in.gap_in.size_in.0
           (gap_fits some) (in_wide a))
 
       bare_top : InArea (with_wide s placed m) m.column.top → is_text it ≡ false → z ≤ℤ full_height it
       bare_top a bare =
+          let more : 0 < float_count s it.column.top = some_float (with_wide s placed m) m.column.top a in
           let some : (float_count s it.column.top == 0) ≡ false =
-          not_none (float_count s it.column.top) (some_float (with_wide s placed m) m.column.top a) in
-          top_alone (full_height it) (wide_height it) (top_height it) s.top.gap z
+          by_bool (float_count s it.column.top == 0)
+          (λ is. absurd (let none : float_count s it.column.top ≡ 0 = eqb-true (float_count s it.column.top) 0 is in omega arith))
+          (λ off. off) in
+          top_alone (full_height it) (wide_height it) (top_height it) s.top.gap.size z
           (subst (λ (gap : ℤ). ((wide_height it +ℤ top_height it) -ℤ gap) ≤ℤ full_height it)
           (if_false (float_count s it.column.top == 0) _ _ some) (float_room bare)) (wide_low (m ∷ ms)) (in_top a)
 
@@ -251,13 +250,13 @@ module _ (g : GalleyValue) (s : StyleValue) (range : AreInRange g s) where
           text is = elim (among_cases z (next_floats own slot placed m.wide)
               (next_floats own slot (with_wide s placed m) m.column.top
               ++ next_floats own slot (plus_counts s (with_wide s placed m) m.column.top) m.column.bottom) a) [
-                | inl h ↦ text_high (inl (less_gap z s.wide.gap (wide_height it) range.style_in.wide_in.gap_in.0 (in_wide h))) is
+                | inl h ↦ text_high (inl (less_gap z s.wide.gap.size (wide_height it) range.style_in.wide_in.gap_in.size_in.0 (in_wide h))) is
                 | inr h ↦ elim (among_cases z (next_floats own slot (with_wide s placed m) m.column.top)
                     (next_floats own slot (plus_counts s (with_wide s placed m) m.column.top) m.column.bottom) h) [
                       | inl i ↦ text_high
-                          (inr (inl (less_gap z s.top.gap (top_height it) range.style_in.top_in.gap_in.0 (in_top i)))) is
+                          (inr (inl (less_gap z s.top.gap.size (top_height it) range.style_in.top_in.gap_in.size_in.0 (in_top i)))) is
                       | inr i ↦ text_high
-                          (inr (inr (less_gap z s.bottom.gap (bottom_height it) range.style_in.bottom_in.gap_in.0 (in_bottom i)))) is
+                          (inr (inr (less_gap z s.bottom.gap.size (bottom_height it) range.style_in.bottom_in.gap_in.size_in.0 (in_bottom i)))) is
                     ]
               ]
 

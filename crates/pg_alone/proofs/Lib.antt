@@ -1,6 +1,8 @@
 mod Dealt
-mod Finding
+pub mod Finding
 mod Heights
 mod High
+mod HighNotes
+mod Picked
 mod Placeless
 mod Runs

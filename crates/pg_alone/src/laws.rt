@@ -1,6 +1,7 @@
 //! Each law is the contract of a function that does nothing. Its premise is what the types of a galley and of a style
 //! keep.
 ghost use Rattle.pg_alone.specs.Alone.{AloneForbids, HighFloatsForbid, PlacelessForbid};
+ghost use Rattle.pg_alone.specs.Notes.{HighNoteForbids, HighNotesForbid};
 ghost use Rattle.pg_rules.specs.Ranges.{AreInRange};
 
 use pg_list::Galley;
@@ -13,4 +14,11 @@ pub fn alone_forbids(galley: &Galley, style: &Style)
     ensures high { HighFloatsForbid galley.now style.now }
     ensures placeless { PlacelessForbid galley.now style.now }
     ensures found { AloneForbids galley.now style.now }
+{}
+
+/// Where a note is above the limit of its class, nothing is legal.
+pub fn high_notes_forbid(galley: &Galley, style: &Style)
+    requires { AreInRange galley.now style.now }
+    ensures notes { HighNotesForbid galley.now style.now }
+    ensures found { HighNoteForbids galley.now style.now }
 {}

@@ -3,13 +3,14 @@ use Rattle.std.proofs.Common.{◌≡◌, refl, sym, ap, subst, ℤ, ℕ, List, [
 use Rattle.std.specs.Prelude.{if◌then◌else◌, cond, filter}
 use Rattle.pg_list.specs.declared.galley.Place.{Place}
 use Rattle.pg_column.specs.declared.cost.TextCost.{TextCost}
+use Rattle.pg_column.specs.declared.cost.TextRoom.{TextRoom}
 use Rattle.pg_rules.specs.Room.{Document}
 use Rattle.pg_column.specs.declared.end.End.{End}
 use Rattle.law_walk.specs.Best.{AreBest, insert_end}
 use Rattle.law_walk.specs.Candidates.{Candidate, end_in, keeps_in, kept_ends}
 use Rattle.law_walk.proofs.BestLaws.{best_push}
 
-pub kept_last : (doc : Document) (room : ℤ) (cs : List Candidate) (c : Candidate) →
+pub kept_last : (doc : Document) (room : TextRoom) (cs : List Candidate) (c : Candidate) →
     kept_ends doc room (cs ++ c ∷ [])
     ≡ kept_ends doc room cs ++ (if keeps_in doc room c then end_in doc room c ∷ [] else [])
 kept_last doc room [] c = by (keeps_in doc room c)
@@ -29,7 +30,7 @@ kept_last doc room (d ∷ cs) c = by (keeps_in doc room d) (kept_last doc room c
     by false e = e
 
 -- the best with one candidate more
-pub keep_more : (doc : Document) (room : ℤ) (cs : List Candidate) (c : Candidate) (bs : List End) →
+pub keep_more : (doc : Document) (room : TextRoom) (cs : List Candidate) (c : Candidate) (bs : List End) →
     AreBest (kept_ends doc room cs) bs → AreBest (kept_ends doc room (cs ++ c ∷ []))
     (if keeps_in doc room c then insert_end (end_in doc room c) bs else bs)
 keep_more doc room cs c bs r =

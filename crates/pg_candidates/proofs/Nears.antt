@@ -5,9 +5,12 @@ use Rattle.std.specs.List.{AllByRecursion}
 use Rattle.std.specs.Option.{option_map_or}
 use Rattle.std.proofs.lemmas.Int.{ints}
 use Rattle.pg_breaks.specs.Near.{place_forced}
-use Rattle.pg_column.specs.Numbers.{cost_for, goal_by}
+use Rattle.pg_column.specs.Numbers.{cost_for, give_by, goal_by, most_room}
 use Rattle.pg_column.specs.Passed.{fits}
 use Rattle.pg_column.specs.declared.cost.TextCost.{TextCost}
+use Rattle.pg_column.specs.declared.cost.TextRoom.{TextRoom}
+use Rattle.pg_style.specs.Plain.{plus_give}
+use Rattle.pg_style.specs.declared.style.Give.{Give}
 use Rattle.pg_column.specs.declared.end.End.{End}
 use Rattle.pg_lemmas.proofs.Bools.{if_false, if_true}
 use Rattle.pg_list.proofs.BodyLemmas.{all_front}
@@ -26,19 +29,26 @@ use Rattle.pg_candidates.proofs.Needed.{needed_more}
 not_below : (z least : ℤ) → int_lt z least ≡ false → int_le least z ≡ true
 not_below z least h = grind (arith, ints, h)
 
-tolerable_alone : (over tolerable suits : Bool) → (not over && suits) ≡ true → ((not over && tolerable) && suits) ≡ tolerable
-tolerable_alone true tolerable suits h = absurd cc
-tolerable_alone false true suits h = h
-tolerable_alone false false suits h = refl
+tolerable_alone : (over tolerable suits text : Bool) → (not over && suits) ≡ true → text ≡ true →
+    ((not over && tolerable) && (suits && text)) ≡ tolerable
+tolerable_alone true tolerable suits text h t = absurd cc
+tolerable_alone false true true text h t = t
+tolerable_alone false true false text h t = absurd cc
+tolerable_alone false false suits text h t = refl
 
-module _ (doc : Document) (room : ℤ) (it : Candidate) (near : NearValue) (is : IsNear doc it near) (cost : TextCost)
-    (made : cost ≡ cost_for doc.style (room -ℤ near.notes) near.totals near.kind.is_spent near.kind.penalty) where
+module _ (doc : Document) (most : ℤ) (room : TextRoom) (it : Candidate) (near : NearValue) (is : IsNear doc most it near)
+    (cost : TextCost) (made : cost ≡ cost_for doc.style (room.size -ℤ near.notes) (plus_give room.give near.give)
+    near.totals near.kind.is_spent near.kind.penalty) where
   cost_is : cost ≡ cost_in doc room it
-  cost_is = made ∙ (ap (λ (t : Totals). cost_for doc.style (room -ℤ near.notes) t near.kind.is_spent near.kind.penalty)
-      is.totals
-      ∙ (ap (λ (z : ℤ). cost_for doc.style (room -ℤ z) it.passed.totals near.kind.is_spent near.kind.penalty) is.notes
-      ∙ ap (λ (k : EndKind). cost_for doc.style (goal_by doc.style room it.passed.notes) it.passed.totals
-      k.is_spent k.penalty) is.kind))
+  cost_is = made
+      ∙ (ap (λ (t : Totals). cost_for doc.style (room.size -ℤ near.notes) (plus_give room.give near.give) t
+      near.kind.is_spent near.kind.penalty) is.totals
+      ∙ (ap (λ (z : ℤ). cost_for doc.style (room.size -ℤ z) (plus_give room.give near.give) it.passed.totals
+      near.kind.is_spent near.kind.penalty) is.notes
+      ∙ (ap (λ (g : Give). cost_for doc.style (goal_by doc.style room it.passed.notes) (plus_give room.give g)
+      it.passed.totals near.kind.is_spent near.kind.penalty) is.give
+      ∙ ap (λ (k : EndKind). cost_for doc.style (goal_by doc.style room it.passed.notes)
+      (give_by doc.style room it.passed.notes) it.passed.totals k.is_spent k.penalty) is.kind)))
 
   tolerable_is : (near.kind.is_forced || nat_le cost.badness doc.style.tolerance)
       ≡ (place_forced doc.blocks it.to || nat_le (cost_in doc room it).badness doc.style.tolerance)
@@ -46,12 +56,12 @@ module _ (doc : Document) (room : ℤ) (it : Candidate) (near : NearValue) (is :
       ap (λ (k : EndKind). k.is_forced || nat_le cost.badness doc.style.tolerance) is.kind
       ∙ ap (λ (k : TextCost). place_forced doc.blocks it.to || nat_le k.badness doc.style.tolerance) cost_is
 
-  pub keeps_is : int_lt room near.least ≡ false →
+  pub keeps_is : int_lt (most_room room) near.least ≡ false → int_le doc.style.min_text room.size ≡ true →
       keeps_in doc room it ≡ (near.kind.is_forced || nat_le cost.badness doc.style.tolerance)
-  keeps_is high = tolerable_alone (is_over_in doc.style room it.passed)
+  keeps_is high text = tolerable_alone (is_over_in doc.style room it.passed)
       (place_forced doc.blocks it.to || nat_le (cost_in doc room it).badness doc.style.tolerance)
-      (fits it.passed.bound room && int_le doc.style.min_text room)
-      (is.least room ∙ not_below room near.least high) ∙ sym tolerable_is
+      (fits it.passed.bound (most_room room)) (int_le doc.style.min_text room.size)
+      (is.least room ∙ not_below (most_room room) near.least high) text ∙ sym tolerable_is
 
   pub end_is : (ds : List Candidate) → slice_get ds near.at ≡ Some it → end_of ds (end_by near cost) ≡ end_in doc room it
   end_is ds there = end_same near.to it.to (picks_at ds near.at) it.picks cost (cost_in doc room it) near.pick_demerits
@@ -60,56 +70,54 @@ module _ (doc : Document) (room : ℤ) (it : Candidate) (near : NearValue) (is :
 
   -- the best with this candidate's end
   module _ (cs ds : List Candidate) (there : slice_get ds near.at ≡ Some it) (bs : List End)
-      (best : AreBest (kept_ends doc room cs) bs) (high : int_lt room near.least ≡ false) where
+      (best : AreBest (kept_ends doc room cs) bs) (high : int_lt (most_room room) near.least ≡ false)
+      (text : int_le doc.style.min_text room.size ≡ true) where
     pub best_refused : (near.kind.is_forced || nat_le cost.badness doc.style.tolerance) ≡ false →
         AreBest (kept_ends doc room (cs ++ it ∷ [])) bs
     best_refused off = subst (AreBest (kept_ends doc room (cs ++ it ∷ [])))
-        (if_false (keeps_in doc room it) _ _ (keeps_is high ∙ off)) (keep_more doc room cs it bs best)
+        (if_false (keeps_in doc room it) _ _ (keeps_is high text ∙ off)) (keep_more doc room cs it bs best)
 
     pub best_kept : (near.kind.is_forced || nat_le cost.badness doc.style.tolerance) ≡ true → (new : List End) →
         new ≡ insert_end (end_of ds (end_by near cost)) bs → AreBest (kept_ends doc room (cs ++ it ∷ [])) new
     best_kept on new e = subst (AreBest (kept_ends doc room (cs ++ it ∷ [])))
-        (if_true (keeps_in doc room it) _ _ (keeps_is high ∙ on)
+        (if_true (keeps_in doc room it) _ _ (keeps_is high text ∙ on)
         ∙ (ap (λ (x : End). insert_end x bs) (sym (end_is ds there)) ∙ sym e)) (keep_more doc room cs it bs best)
 
 -- ---- one turn of the loop
 
-pub best_near : (doc : Document) (room : ℤ) (cs : List Candidate) (more nears : List NearValue) (near : NearValue)
-    (bs new : List End) → more ≡ nears ++ near ∷ [] →
-    (AllByRecursion (IsNearIn doc cs) nears → AreBest (kept_ends doc room (needed_in room cs nears)) bs) →
-    (IsNearIn doc cs near → AreBest (kept_ends doc room (needed_in room cs nears)) bs →
-    AreBest (kept_ends doc room (needed_in room cs nears ++ needed_of room cs near)) new) →
-    AllByRecursion (IsNearIn doc cs) more → AreBest (kept_ends doc room (needed_in room cs more)) new
-best_near doc room cs more nears near bs new e best step all =
-    let parts = all_front (IsNearIn doc cs) nears near (subst (AllByRecursion (IsNearIn doc cs)) e all) in
-    subst (λ (ns : List NearValue). AreBest (kept_ends doc room (needed_in room cs ns)) new) (sym e)
-    (subst (λ (ds : List Candidate). AreBest (kept_ends doc room ds) new) (sym (needed_more room cs nears near))
+pub best_near : (doc : Document) (most : ℤ) (room : TextRoom) (cs : List Candidate) (more nears : List NearValue)
+    (near : NearValue) (bs new : List End) → more ≡ nears ++ near ∷ [] →
+    (AllByRecursion (IsNearIn doc most cs) nears → AreBest (kept_ends doc room (needed_in room.size cs nears)) bs) →
+    (IsNearIn doc most cs near → AreBest (kept_ends doc room (needed_in room.size cs nears)) bs →
+    AreBest (kept_ends doc room (needed_in room.size cs nears ++ needed_of room.size cs near)) new) →
+    AllByRecursion (IsNearIn doc most cs) more → AreBest (kept_ends doc room (needed_in room.size cs more)) new
+best_near doc most room cs more nears near bs new e best step all =
+    let parts = all_front (IsNearIn doc most cs) nears near (subst (AllByRecursion (IsNearIn doc most cs)) e all) in
+    subst (λ (ns : List NearValue). AreBest (kept_ends doc room (needed_in room.size cs ns)) new) (sym e)
+    (subst (λ (ds : List Candidate). AreBest (kept_ends doc room ds) new) (sym (needed_more room.size cs nears near))
     (step parts.1 (best parts.0)))
 
 -- with what is needed of one candidate
-pub best_with : (doc : Document) (room z : ℤ) → z ≡ room → (cs ds own : List Candidate) (near : NearValue)
-    (old new : List End) → needed_of z ds near ≡ own →
-    (AreBest (kept_ends doc z cs) old → AreBest (kept_ends doc z (cs ++ own)) new) → AreBest (kept_ends doc room cs) old →
-    AreBest (kept_ends doc room (cs ++ needed_of room ds near)) new
-best_with doc room z e cs ds own near old new is step best =
-    subst (λ (y : ℤ). AreBest (kept_ends doc y (cs ++ needed_of y ds near)) new) e
-    (subst (λ (xs : List Candidate). AreBest (kept_ends doc z (cs ++ xs)) new) (sym is)
-    (step (subst (λ (y : ℤ). AreBest (kept_ends doc y cs) old) (sym e) best)))
+pub best_with : (doc : Document) (room : TextRoom) (cs ds own : List Candidate) (near : NearValue)
+    (old new : List End) → needed_of room.size ds near ≡ own →
+    (AreBest (kept_ends doc room cs) old → AreBest (kept_ends doc room (cs ++ own)) new) →
+    AreBest (kept_ends doc room cs) old → AreBest (kept_ends doc room (cs ++ needed_of room.size ds near)) new
+best_with doc room cs ds own near old new is step best =
+    subst (λ (xs : List Candidate). AreBest (kept_ends doc room (cs ++ xs)) new) (sym is) (step best)
 
 -- with nothing
-pub best_same : (doc : Document) (room : ℤ) (cs : List Candidate) (bs : List End) → AreBest (kept_ends doc room cs) bs →
-    AreBest (kept_ends doc room (cs ++ [])) bs
+pub best_same : (doc : Document) (room : TextRoom) (cs : List Candidate) (bs : List End) →
+    AreBest (kept_ends doc room cs) bs → AreBest (kept_ends doc room (cs ++ [])) bs
 best_same doc room cs bs best =
     subst (λ (xs : List Candidate). AreBest (kept_ends doc room xs) bs) (sym (append-nil cs)) best
 
 -- of the whole list
-pub best_of_all : (doc : Document) (room z : ℤ) → z ≡ room → (cs ds : List Candidate) → ds ≡ cs →
+pub best_of_all : (doc : Document) (most : ℤ) (room : TextRoom) (cs ds : List Candidate) → ds ≡ cs →
     (nears whole : List NearValue) → whole ≡ nears → (bs : List End) →
-    (AllByRecursion (IsNearIn doc ds) whole → AreBest (kept_ends doc z (needed_in z ds whole)) bs) →
-    AllByRecursion (IsNearIn doc cs) nears → AreBest (kept_ends doc room (needed_in room cs nears)) bs
-best_of_all doc room z e cs ds same nears whole all bs h =
-    subst (λ (y : ℤ). AllByRecursion (IsNearIn doc cs) nears → AreBest (kept_ends doc y (needed_in y cs nears)) bs) e
-    (subst (λ (xs : List Candidate). AllByRecursion (IsNearIn doc xs) nears →
-    AreBest (kept_ends doc z (needed_in z xs nears)) bs) same
-    (subst (λ (ns : List NearValue). AllByRecursion (IsNearIn doc ds) ns →
-    AreBest (kept_ends doc z (needed_in z ds ns)) bs) all h))
+    (AllByRecursion (IsNearIn doc most ds) whole → AreBest (kept_ends doc room (needed_in room.size ds whole)) bs) →
+    AllByRecursion (IsNearIn doc most cs) nears → AreBest (kept_ends doc room (needed_in room.size cs nears)) bs
+best_of_all doc most room cs ds same nears whole all bs h =
+    subst (λ (xs : List Candidate). AllByRecursion (IsNearIn doc most xs) nears →
+    AreBest (kept_ends doc room (needed_in room.size xs nears)) bs) same
+    (subst (λ (ns : List NearValue). AllByRecursion (IsNearIn doc most ds) ns →
+    AreBest (kept_ends doc room (needed_in room.size ds ns)) bs) all h)

@@ -18,7 +18,8 @@ use Rattle.law_walk.specs.Candidates.{Candidate, end_in, keeps_in, kept_ends}
 use Rattle.law_walk.proofs.BestLaws.{among_contains, contains_among, end_total, under_chain, under_itself}
 use Rattle.law_walk.proofs.Complete.{among_left, among_right}
 use Rattle.law_walk.proofs.Ends.{kept_listed, kept_of}
-use Rattle.pg_candidates.specs.Nears.{AreNear, IsHopelessFrom, IsNear, IsNearIn, IsServedFrom, IsWorst, NearValue, Suffice, is_needed, kind_at, needed_in, needed_of, one_at}
+use Rattle.pg_column.specs.declared.cost.TextRoom.{TextRoom}
+use Rattle.pg_candidates.specs.Nears.{IsWithin, AreNear, IsHopelessFrom, IsNear, IsNearIn, IsServedFrom, IsWorst, NearValue, Suffice, is_needed, kind_at, needed_in, needed_of, one_at}
 use Rattle.pg_candidates.specs.Seen.{AreSeen, AreServed, HasServer, IsLeading}
 use Rattle.pg_candidates.specs.View.{candidate_of}
 use Rattle.pg_candidates.specs.declared.candidate.Candidate.{Candidate as CandidateParts}
@@ -133,14 +134,14 @@ last_or [] i j (inr a) = absurd a
 last_or (k ∷ is) i j (inl p) = inl (inl p)
 last_or (k ∷ is) i j (inr a) = elim (last_or is i j a) [ inl p ↦ inl (inr p) | inr p ↦ inr p ]
 
-module _ (doc : Document) (cs : List Candidate) (seen : List ℕ) (nears : List NearValue) (at : ℕ)
-    (are : AreServed doc cs seen nears) where
+module _ (doc : Document) (most : ℤ) (cs : List Candidate) (seen : List ℕ) (nears : List NearValue) (at : ℕ)
+    (are : AreServed doc most cs seen nears) where
   -- one that is not there
-  pub served_none : slice_get cs at ≡ None → AreServed doc cs (seen ++ at ∷ []) nears
+  pub served_none : slice_get cs at ≡ None → AreServed doc most cs (seen ++ at ∷ []) nears
   served_none none = record {
     right = are.right;
-    served = λ i c room a there keeps. elim (last_or seen at i a) [
-      | inl p ↦ are.served i c room p there keeps
+    served = λ i c room gives a there keeps. elim (last_or seen at i a) [
+      | inl p ↦ are.served i c room gives p there keeps
       | inr p ↦ absurd (no_one c (ap (slice_get cs) p ∙ there))
     ];
   }
@@ -149,12 +150,12 @@ module _ (doc : Document) (cs : List Candidate) (seen : List ℕ) (nears : List 
       no_one c e = let f : None ≡ Some c = sym none ∙ e in absurd cc
 
   module _ (near : NearValue) (at_is : near.at ≡ at) (c : Candidate) (there : slice_get cs at ≡ Some c)
-      (is : IsNear doc c near) where
-    itself : (room : ℤ) → keeps_in doc room c ≡ true → is_needed room near.until ≡ true →
-        HasServer doc room (needed_in room cs (nears ++ near ∷ [])) c
+      (is : IsNear doc most c near) where
+    itself : (room : TextRoom) → keeps_in doc room c ≡ true → is_needed room.size near.until ≡ true →
+        HasServer doc room (needed_in room.size cs (nears ++ near ∷ [])) c
     itself room keeps e = record {
       server = c;
-      listed = last_needed room cs nears near c (ap (slice_get cs) at_is ∙ there) e;
+      listed = last_needed room.size cs nears near c (ap (slice_get cs) at_is ∙ there) e;
       serves = record {
         keeps = keeps;
         tied = tied_itself end_total (end_in doc room c);
@@ -162,93 +163,95 @@ module _ (doc : Document) (cs : List Candidate) (seen : List ℕ) (nears : List 
       };
     }
 
-    served_one : ((room : ℤ) → keeps_in doc room c ≡ true → is_needed room near.until ≡ false →
-        HasServer doc room (needed_in room cs nears) c) →
-        AreServed doc cs (seen ++ at ∷ []) (nears ++ near ∷ [])
+    served_one : ((room : TextRoom) → IsWithin most room → keeps_in doc room c ≡ true →
+        is_needed room.size near.until ≡ false → HasServer doc room (needed_in room.size cs nears) c) →
+        AreServed doc most cs (seen ++ at ∷ []) (nears ++ near ∷ [])
     served_one other = record {
-      right = all_push (IsNearIn doc cs) nears near are.right
-          (λ d e. subst (λ (x : Candidate). IsNear doc x near)
+      right = all_push (IsNearIn doc most cs) nears near are.right
+          (λ d e. subst (λ (x : Candidate). IsNear doc most x near)
           (same_Some c d (sym there ∙ (ap (slice_get cs) (sym at_is) ∙ e))) is);
-      served = λ i d room a here keeps. elim (last_or seen at i a) [
-        | inl p ↦ longer room d (are.served i d room p here keeps)
+      served = λ i d room gives a here keeps. elim (last_or seen at i a) [
+        | inl p ↦ longer room d (are.served i d room gives p here keeps)
         | inr p ↦
             let e : c ≡ d = same_Some c d (sym there ∙ (ap (slice_get cs) p ∙ here)) in
-            subst (HasServer doc room (needed_in room cs (nears ++ near ∷ []))) e
-            (own room (ap (keeps_in doc room) e ∙ keeps))
+            subst (HasServer doc room (needed_in room.size cs (nears ++ near ∷ []))) e
+            (own room gives (ap (keeps_in doc room) e ∙ keeps))
       ];
     }
       where
-        longer : (room : ℤ) (d : Candidate) → HasServer doc room (needed_in room cs nears) d →
-            HasServer doc room (needed_in room cs (nears ++ near ∷ [])) d
+        longer : (room : TextRoom) (d : Candidate) → HasServer doc room (needed_in room.size cs nears) d →
+            HasServer doc room (needed_in room.size cs (nears ++ near ∷ [])) d
         longer room d h = record {
           server = h.server;
-          listed = still_needed room cs nears near h.server h.listed;
+          listed = still_needed room.size cs nears near h.server h.listed;
           serves = h.serves;
         }
 
-        own : (room : ℤ) → keeps_in doc room c ≡ true →
-            HasServer doc room (needed_in room cs (nears ++ near ∷ [])) c
-        own room keeps = by_bool (is_needed room near.until) (itself room keeps)
-            (λ f. longer room c (other room keeps f))
+        own : (room : TextRoom) → IsWithin most room → keeps_in doc room c ≡ true →
+            HasServer doc room (needed_in room.size cs (nears ++ near ∷ [])) c
+        own room gives keeps = by_bool (is_needed room.size near.until) (itself room keeps)
+            (λ f. longer room c (other room gives keeps f))
 
 -- one that is not there
-pub seen_none : (doc : Document) (cs : List Candidate) (seen : List ℕ) (nears : List NearValue) (at : ℕ)
-    (first : Option First) → slice_get cs at ≡ None → AreSeen doc cs seen first nears →
-    AreSeen doc cs (seen ++ at ∷ []) first nears
-seen_none doc cs seen nears at first none h = record {
-  served = served_none doc cs seen nears at h.served none;
+pub seen_none : (doc : Document) (most : ℤ) (cs : List Candidate) (seen : List ℕ) (nears : List NearValue) (at : ℕ)
+    (first : Option First) → slice_get cs at ≡ None → AreSeen doc most cs seen first nears →
+    AreSeen doc most cs (seen ++ at ∷ []) first nears
+seen_none doc most cs seen nears at first none h = record {
+  served = served_none doc most cs seen nears at h.served none;
   leading = h.leading;
 }
 
-module _ (doc : Document) (cs : List Candidate) (seen : List ℕ) (nears : List NearValue) (at : ℕ)
-    (first : Option First) (h : AreSeen doc cs seen first nears) (near : NearValue) (at_is : near.at ≡ at)
+module _ (doc : Document) (most : ℤ) (cs : List Candidate) (seen : List ℕ) (nears : List NearValue) (at : ℕ)
+    (first : Option First) (h : AreSeen doc most cs seen first nears) (near : NearValue) (at_is : near.at ≡ at)
     (c : Candidate) (there : slice_get cs at ≡ Some c) where
   -- the first one of a place
   pub seen_first : (own : First) → own.at ≡ at → own.kind ≡ kind_at doc.blocks c.to →
-      IfSome own.worst (IsWorst doc.style c) → IsNear doc c near → IfSome near.until (IsHopelessFrom doc c) →
-      AreSeen doc cs (seen ++ at ∷ []) (Some own) (nears ++ near ∷ [])
+      IfSome own.worst (IsWorst doc.style most c) → IsNear doc most c near → IfSome near.until (IsHopelessFrom doc most c) →
+      AreSeen doc most cs (seen ++ at ∷ []) (Some own) (nears ++ near ∷ [])
   seen_first own own_at kind_is worst is until = record {
-    served = served_one doc cs seen nears at h.served near at_is c there is (λ room keeps f.
-        absurd (hopeless room keeps f));
+    served = served_one doc most cs seen nears at h.served near at_is c there is (λ room gives keeps f.
+        absurd (hopeless room gives keeps f));
     leading = record {
       candidate = c;
       there = ap (slice_get cs) own_at ∙ there;
       kind = kind_is;
       worst = worst;
-      needed = λ room keeps. by_bool (is_needed room near.until)
-          (last_needed room cs nears near c (ap (slice_get cs) at_is ∙ there))
-          (λ f. absurd (hopeless room keeps f));
+      needed = λ room gives keeps. by_bool (is_needed room.size near.until)
+          (last_needed room.size cs nears near c (ap (slice_get cs) at_is ∙ there))
+          (λ f. absurd (hopeless room gives keeps f));
     };
   }
     where
-      hopeless : (room : ℤ) → keeps_in doc room c ≡ true → is_needed room near.until ≡ false → ⊥
-      hopeless room keeps f =
-          let w = out_of room near.until until f in
-          not_both (keeps_in doc room c) keeps (w.1.1 room w.1.0)
+      hopeless : (room : TextRoom) → IsWithin most room → keeps_in doc room c ≡ true →
+          is_needed room.size near.until ≡ false → ⊥
+      hopeless room gives keeps f =
+          let w = out_of room.size near.until until f in
+          not_both (keeps_in doc room c) keeps (w.1.1 room gives w.1.0)
 
   -- one behind the first of its place
   pub seen_behind : (same : First) → first ≡ Some same →
       ((one : Candidate) → slice_get cs same.at ≡ Some one → one.to ≡ c.to) →
-      (same.kind ≡ kind_at doc.blocks c.to → IsNear doc c near) →
+      (same.kind ≡ kind_at doc.blocks c.to → IsNear doc most c near) →
       ((one : Candidate) → slice_get cs same.at ≡ Some one → one.to ≡ c.to → same.kind ≡ kind_at doc.blocks c.to →
-      IfSome same.worst (IsWorst doc.style one) → IfSome near.until (IsServedFrom doc one c)) →
-      AreSeen doc cs (seen ++ at ∷ []) (Some same) (nears ++ near ∷ [])
+      IfSome same.worst (IsWorst doc.style most one) → IfSome near.until (IsServedFrom doc most one c)) →
+      AreSeen doc most cs (seen ++ at ∷ []) (Some same) (nears ++ near ∷ [])
   seen_behind same e place is until = record {
-    served = served_one doc cs seen nears at h.served near at_is c there (is kind_is) (λ room keeps f.
-        let w = out_of room near.until (until lead.candidate lead.there to kind_is lead.worst) f in
-        let s = w.1.1 room w.1.0 keeps in
-        record { server = lead.candidate; listed = lead.needed room s.keeps; serves = s });
+    served = served_one doc most cs seen nears at h.served near at_is c there (is kind_is) (λ room gives keeps f.
+        let w = out_of room.size near.until (until lead.candidate lead.there to kind_is lead.worst) f in
+        let s = w.1.1 room gives w.1.0 keeps in
+        record { server = lead.candidate; listed = lead.needed room gives s.keeps; serves = s });
     leading = record {
       candidate = lead.candidate;
       there = lead.there;
       kind = lead.kind;
       worst = lead.worst;
-      needed = λ room keeps. still_needed room cs nears near lead.candidate (lead.needed room keeps);
+      needed = λ room gives keeps.
+          still_needed room.size cs nears near lead.candidate (lead.needed room gives keeps);
     };
   }
     where
-      lead : IsLeading doc cs nears same
-      lead = subst (λ (o : Option First). IfSome o (IsLeading doc cs nears)) e h.leading
+      lead : IsLeading doc most cs nears same
+      lead = subst (λ (o : Option First). IfSome o (IsLeading doc most cs nears)) e h.leading
 
       to : lead.candidate.to ≡ c.to
       to = place lead.candidate lead.there
@@ -258,28 +261,31 @@ module _ (doc : Document) (cs : List Candidate) (seen : List ℕ) (nears : List 
 
 -- ---- all of them
 
-pub none_seen : (doc : Document) (cs : List Candidate) → AreSeen doc cs [] None []
-none_seen doc cs = record { served = record { right = tt; served = λ i c room a there keeps. absurd a }; leading = tt }
+pub none_seen : (doc : Document) (most : ℤ) (cs : List Candidate) → AreSeen doc most cs [] None []
+none_seen doc most cs = record {
+  served = record { right = tt; served = λ i c room gives a there keeps. absurd a };
+  leading = tt;
+}
 
-pub near_all : (doc : Document) (cs : List Candidate) (order : List ℕ) (nears : List NearValue) →
-    ((i : ℕ) → i < length cs → IsAmong i order) → AreServed doc cs order nears →
-    AreNear doc cs (record { candidates = cs; nears = nears })
-near_all doc cs order nears all are = record {
+pub near_all : (doc : Document) (most : ℤ) (cs : List Candidate) (order : List ℕ) (nears : List NearValue) →
+    ((i : ℕ) → i < length cs → IsAmong i order) → AreServed doc most cs order nears →
+    AreNear doc most cs (record { candidates = cs; nears = nears })
+near_all doc most cs order nears all are = record {
   same = refl;
   right = are.right;
-  suffice = λ room. record {
+  suffice = λ room gives. record {
     among = λ x a.
-        let k = kept_of doc room (needed_in room cs nears) x a in
+        let k = kept_of doc room (needed_in room.size cs nears) x a in
         subst (λ (e : End). IsAmong e (kept_ends doc room cs)) (sym k.is)
-        (kept_listed doc room cs k.candidate (needed_listed room cs nears k.candidate k.listed) k.keeps);
+        (kept_listed doc room cs k.candidate (needed_listed room.size cs nears k.candidate k.listed) k.keeps);
     there = λ y a.
         let k = kept_of doc room cs y a in
         let at = index_of cs k.candidate k.listed in
-        let h = are.served at.0 k.candidate room (all at.0 at.1.0) at.1.1 k.keeps in
+        let h = are.served at.0 k.candidate room gives (all at.0 at.1.0) at.1.1 k.keeps in
         let it = end_in doc room h.server in (
           it,
           (
-            kept_listed doc room (needed_in room cs nears) h.server h.listed h.serves.keeps,
+            kept_listed doc room (needed_in room.size cs nears) h.server h.listed h.serves.keeps,
             (
               subst (λ (e : End). end_cmp it e ≡ Equal) (sym k.is) h.serves.tied,
               subst (IsUnder it) (sym k.is) h.serves.under,
@@ -290,15 +296,15 @@ near_all doc cs order nears all are = record {
 }
 
 -- made of slices that hold these
-pub near_made : (doc : Document) (cs : List Candidate) (ps qs : List CandidateParts) (order is : List ℕ)
+pub near_made : (doc : Document) (most : ℤ) (cs : List Candidate) (ps qs : List CandidateParts) (order is : List ℕ)
     (nears : List NearValue) → map candidate_of ps ≡ cs → map candidate_of qs ≡ cs → is ≡ order →
-    ((i : ℕ) → i < length ps → IsAmong i order) → AreServed doc (map candidate_of qs) is nears →
-    AreNear doc cs (record { candidates = cs; nears = nears })
-near_made doc cs ps qs order is nears p q e all are =
-    near_all doc cs order nears
+    ((i : ℕ) → i < length ps → IsAmong i order) → AreServed doc most (map candidate_of qs) is nears →
+    AreNear doc most cs (record { candidates = cs; nears = nears })
+near_made doc most cs ps qs order is nears p q e all are =
+    near_all doc most cs order nears
     (λ i less. all i (subst (λ (n : ℕ). i < n) (sym (ap length p) ∙ length-map ps candidate_of) less))
-    (subst (λ (xs : List Candidate). AreServed doc xs order nears) q
-    (subst (λ (js : List ℕ). AreServed doc (map candidate_of qs) js nears) e are))
+    (subst (λ (xs : List Candidate). AreServed doc most xs order nears) q
+    (subst (λ (js : List ℕ). AreServed doc most (map candidate_of qs) js nears) e are))
 
 -- one more of a list, whatever stands for what is not there
 pub next_at : {X : Type 0} (xs : List X) (k : ℕ) (d : X) → k < length xs → take (k + 1) xs ≡ take k xs ++ get_or xs k d ∷ []

@@ -8,15 +8,14 @@ ghost use Rattle.pg_candidates.specs.Nears.{IsLeastRoom};
 ghost use Rattle.pg_candidates.specs.View.{candidate_of};
 
 use crate::candidate::Candidate;
-use crate::until::{greater, raised};
+use crate::until::raised;
 use pg_style::Style;
 
-// The least room that is neither one in which what was passed is over, nor below what it needs, nor below the least text.
+// The least room that is neither one in which what was passed is over, nor below what it needs, the gaps of the areas
+// shrunk.
 pub(crate) fn least_of(style: &Style, candidate: &Candidate) -> i64
-    ensures least { (g : GalleyValue) → IsLeastRoom (document g style.now) (candidate_of candidate.now) result }
-    ensures enough { least_room style.now (view candidate.now.passed) ≤ℤ result }
+    ensures { (g : GalleyValue) → IsLeastRoom (document g style.now) (candidate_of candidate.now) result }
 {
     let passed = &candidate.passed;
-    let text = greater(i64::from(style.min_text), passed.least_room(style));
-    raised(passed.bound, text)
+    raised(passed.bound, passed.least_room(style))
 }

@@ -1,28 +1,32 @@
 //! What the rooms of a place share of its candidates.
 ghost use Rattle.std.specs.Prelude.{◌≡◌, IfNone, IfSome, [], int_lt};
+ghost use Rattle.pg_column.specs.Numbers.{IsRoom, most_room};
 ghost use Rattle.pg_candidates.specs.RoomEnds.{picks_at};
 ghost use Rattle.pg_candidates.specs.Nears.{at_goal as at_goal_of, is_needed as is_needed_of, worst_at as worst_at_of};
 
 use crate::candidate::CandidateList;
 use crate::kind::EndKind;
 use crate::room_end::picks_of;
-use pg_column::TextCost;
+use pg_column::{TextCost, TextRoom};
 use pg_list::Place;
 use pg_plan::Picks;
+use pg_scaled::plus;
+use pg_style::Give;
 use pg_sums::Sums;
 use std::marker::Model;
 
 /// What no room changes of a candidate, in scaled points: which one of the list it is, where its end is, the sums of what
-/// was passed and the height of its notes, the demerits of its picks, the kind of its end, the room from which on that end
-/// is not needed, if there is one, the least room for a column to it, and the numbers of the end at a goal at which its
-/// badness is the worst, if one was found: at each greater goal they are the same but for the goal. All that a room asks
-/// stands together here.
+/// was passed, the height of its notes and what their skips give, the demerits of its picks, the kind of its end, the room
+/// from which on that end is not needed, if there is one, the least room for a column to it where the gaps of the areas
+/// are shrunk, and the numbers of the end at a goal at which its badness is the worst, if one was found: at each greater
+/// goal they are the same but for the goal. All that a room asks stands together here.
 #[derive(Drop)]
 pub struct Near {
     pub at: usize,
     pub to: Place,
     pub sums: Sums,
     pub notes: i64,
+    pub give: Give,
     pub pick_demerits: i64,
     pub kind: EndKind,
     pub until: Option<i64>,
@@ -40,6 +44,7 @@ impl Model for Near {
       to = a.to;
       totals = a.sums.totals;
       notes = a.notes;
+      give = a.give;
       pick_demerits = a.pick_demerits;
       kind = a.kind;
       until = a.until;
@@ -47,7 +52,7 @@ impl Model for Near {
       worst = a.worst;
     } };
 
-    ghost invariant = { λ a. IsWellKept a.notes a.sums.totals a.least };
+    ghost invariant = { λ a. IsWellKept a.notes a.give };
 }
 
 // Whether a goal is below the one of these numbers.
@@ -68,20 +73,21 @@ fn at_goal(goal: i64, cost: &TextCost) -> TextCost
 
 impl Near {
     // Whether the end is needed in a room.
-    pub(crate) fn is_needed(&self, room: i64) -> bool
-        ensures { result ≡ is_needed_of room self.now.until }
+    pub(crate) fn is_needed(&self, room: &TextRoom) -> bool
+        ensures { result ≡ is_needed_of room.now.size self.now.until }
     {
         match self.until {
-            Some(from) => room < from,
+            Some(from) => room.size < from,
             None => true,
         }
     }
 
-    // Whether a room is below the least one worth asking.
-    pub(crate) fn is_too_low(&self, room: i64) -> bool
-        ensures { result ≡ int_lt room self.now.least }
+    // Whether a room, the gaps of its areas shrunk, is below the least one worth asking.
+    pub(crate) fn is_too_low(&self, room: &TextRoom) -> bool
+        requires { IsRoom room.now }
+        ensures { result ≡ int_lt (most_room room.now) self.now.least }
     {
-        room < self.least
+        plus(room.size, room.give.shrink) < self.least
     }
 
     // The numbers at a goal, where its badness is known to be the worst.

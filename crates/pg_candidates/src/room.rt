@@ -1,14 +1,15 @@
 //! The ends in a room among candidates.
-ghost use Rattle.std.specs.Prelude.{◌≡◌, ◌<◌, ◌^◌, ◌≤ℤ◌, ◌-ℤ◌, ◌||◌, ◌++◌, ◌∷◌, [], ℤ, List, false, int_lt, map, nat_le, OnOk, IfOk, IfSome, nat_abs, slice_get, Some};
+ghost use Rattle.std.specs.Prelude.{◌≡◌, ◌<◌, ◌^◌, ◌≤ℤ◌, ◌-ℤ◌, ◌||◌, ◌++◌, ◌∷◌, [], ℤ, List, true, false, int_le, int_lt, map, nat_le, OnOk, IfOk, IfSome, nat_abs, slice_get, Some};
 ghost use Rattle.std.specs.List.{AllByRecursion};
 ghost use Rattle.pg_list.specs.GalleyValue.{GalleyValue};
 ghost use Rattle.pg_list.specs.declared.galley.Place.{Place as APlace};
-ghost use Rattle.pg_column.specs.Numbers.{cost_for as cost_for_goal};
+ghost use Rattle.pg_column.specs.Numbers.{IsRoom, cost_for as cost_for_goal, most_room};
+ghost use Rattle.pg_style.specs.Plain.{plus_give};
 ghost use Rattle.pg_column.specs.Ends.{AreEnds};
 ghost use Rattle.pg_rules.specs.Legal.{document};
 ghost use Rattle.law_walk.specs.Best.{AreBest};
 ghost use Rattle.law_walk.specs.Candidates.{AreCandidates, Candidate as ACandidate, kept_ends};
-ghost use Rattle.pg_candidates.specs.Nears.{AreNear, IsNear, IsNearIn, IsWorstCost, needed_in, needed_of};
+ghost use Rattle.pg_candidates.specs.Nears.{AreNear, IsNear, IsNearIn, IsWithin, IsWorstCost, needed_in, needed_of};
 ghost use Rattle.pg_candidates.specs.RoomEnds.{ends_of};
 ghost use Rattle.pg_candidates.specs.View.{candidate_of};
 
@@ -19,22 +20,31 @@ use crate::near::{Near, NearList};
 use crate::order::in_order;
 use crate::room_end::{RoomEnd, all_with_picks};
 use law_walk::laws::candidates_give_ends;
-use pg_column::{EndList, TextCost, cost_for};
+use pg_column::{EndList, TextCost, TextRoom, cost_for};
 use pg_list::Galley;
 use pg_scaled::minus;
-use pg_style::Style;
+use pg_style::{Give, Style};
 use std::alloc::{AllocError, Global};
 
 // For how many ends there is room at once: few rooms have more.
 const ROOM: usize = 256;
 
 // What the notes of a candidate leave of a room.
-fn goal_of(room: i64, near: &Near) -> i64
-    requires { nat_abs room < 2 ^ 40 }
-    ensures value { result ≡ room -ℤ near.now.notes }
+fn goal_of(room: &TextRoom, near: &Near) -> i64
+    requires { IsRoom room.now }
+    ensures value { result ≡ room.now.size -ℤ near.now.notes }
     ensures size { nat_abs result < 2 ^ 52 }
 {
-    minus(room, near.notes)
+    minus(room.size, near.notes)
+}
+
+// What the gaps around a candidate's text give in a room.
+fn give_of(room: &TextRoom, near: &Near) -> Give
+    requires { IsRoom room.now }
+    ensures value { result ≡ plus_give room.now.give near.now.give }
+    ensures size { (nat_abs result.stretch < 2 ^ 62) × (nat_abs result.shrink < 2 ^ 62) }
+{
+    room.give.plus(near.give)
 }
 
 // Whether an end is forced or the badness within the tolerance.
@@ -44,13 +54,13 @@ fn is_tolerable(style: &Style, near: &Near, badness: u16) -> bool
     near.kind.is_forced || badness <= style.tolerance
 }
 
-// The numbers of a candidate in a room that is not below its least one.
-fn cost_of(style: &Style, room: i64, near: &Near) -> TextCost
-    requires size { nat_abs room < 2 ^ 40 }
-    requires high { int_lt room near.now.least ≡ false }
-    ensures { IfSome near.now.worst (IsWorstCost style.now near.now.kind near.now.totals) →
-        result ≡ cost_for_goal style.now (room -ℤ near.now.notes) near.now.totals near.now.kind.is_spent
-        near.now.kind.penalty }
+// The numbers of a candidate in a room.
+fn cost_of(style: &Style, room: &TextRoom, near: &Near) -> TextCost
+    requires { IsRoom room.now }
+    ensures { (most : ℤ) → room.now.give.stretch ≤ℤ most →
+        IfSome near.now.worst (IsWorstCost style.now most near.now.kind near.now.totals near.now.give) →
+        result ≡ cost_for_goal style.now (room.now.size -ℤ near.now.notes) (plus_give room.now.give near.now.give)
+        near.now.totals near.now.kind.is_spent near.now.kind.penalty }
 {
     let goal = goal_of(room, near);
     match near.worst_at(goal) {
@@ -58,6 +68,7 @@ fn cost_of(style: &Style, room: i64, near: &Near) -> TextCost
         None => cost_for(
             style,
             goal,
+            &give_of(room, near),
             &near.sums,
             near.kind.is_spent,
             near.kind.penalty,
@@ -69,17 +80,20 @@ fn cost_of(style: &Style, room: i64, near: &Near) -> TextCost
 // end there is better.
 fn keep_end(
     style: &Style,
-    room: i64,
+    room: &TextRoom,
     candidates: &[Candidate],
     near: &Near,
     ends: &mut Vec<RoomEnd>,
 ) -> Result<(), AllocError>
-    requires size { nat_abs room < 2 ^ 40 }
-    requires high { int_lt room near.now.least ≡ false }
-    ensures { OnOk result ((g : GalleyValue) (cs : List ACandidate) (c : ACandidate) →
-        slice_get (map candidate_of candidates.now) near.now.at ≡ Some c → IsNear (document g style.now) c near.now →
-        AreBest (kept_ends (document g style.now) room cs) (ends_of (map candidate_of candidates.now) ends.old.items) →
-        AreBest (kept_ends (document g style.now) room (cs ++ c ∷ []))
+    requires size { IsRoom room.now }
+    requires text { int_le style.now.min_text room.now.size ≡ true }
+    requires high { int_lt (most_room room.now) near.now.least ≡ false }
+    ensures { OnOk result ((g : GalleyValue) (most : ℤ) → room.now.give.stretch ≤ℤ most → (cs : List ACandidate)
+        (c : ACandidate) → slice_get (map candidate_of candidates.now) near.now.at ≡ Some c →
+        IsNear (document g style.now) most c near.now →
+        AreBest (kept_ends (document g style.now) room.now cs)
+        (ends_of (map candidate_of candidates.now) ends.old.items) →
+        AreBest (kept_ends (document g style.now) room.now (cs ++ c ∷ []))
         (ends_of (map candidate_of candidates.now) ends.new.items)) }
 {
     let cost = cost_of(style, room, near);
@@ -92,17 +106,19 @@ fn keep_end(
 // Adds the end of the candidate that this is of, where it is needed in a room.
 fn keep_near(
     style: &Style,
-    room: i64,
+    room: &TextRoom,
     candidates: &[Candidate],
     near: &Near,
     ends: &mut Vec<RoomEnd>,
 ) -> Result<(), AllocError>
-    requires { nat_abs room < 2 ^ 40 }
-    ensures { OnOk result ((g : GalleyValue) (cs : List ACandidate) →
-        IsNearIn (document g style.now) (map candidate_of candidates.now) near.now →
-        AreBest (kept_ends (document g style.now) room cs) (ends_of (map candidate_of candidates.now) ends.old.items) →
-        AreBest (kept_ends (document g style.now) room
-        (cs ++ needed_of room (map candidate_of candidates.now) near.now))
+    requires size { IsRoom room.now }
+    requires text { int_le style.now.min_text room.now.size ≡ true }
+    ensures { OnOk result ((g : GalleyValue) (most : ℤ) → room.now.give.stretch ≤ℤ most → (cs : List ACandidate) →
+        IsNearIn (document g style.now) most (map candidate_of candidates.now) near.now →
+        AreBest (kept_ends (document g style.now) room.now cs)
+        (ends_of (map candidate_of candidates.now) ends.old.items) →
+        AreBest (kept_ends (document g style.now) room.now
+        (cs ++ needed_of room.now.size (map candidate_of candidates.now) near.now))
         (ends_of (map candidate_of candidates.now) ends.new.items)) }
 {
     if near.is_too_low(room) {
@@ -117,33 +133,44 @@ fn keep_near(
     keep_end(style, room, candidates, near, ends)
 }
 
+// Whether a room is at least the style's least.
+fn has_text(style: &Style, room: &TextRoom) -> bool
+    ensures { result ≡ int_le style.now.min_text room.now.size }
+{
+    i64::from(style.min_text) <= room.size
+}
+
 impl NearList {
-    /// The ends in a room of so many scaled points of the columns from the place whose candidates these are: for each
-    /// place and fitness the best of those that keep the rules on one column, each with the number of its candidate. Of
-    /// candidates that suffice up to a greatest room they are all ends in each room up to it.
+    /// The ends in a room of the columns from the place whose candidates these are: for each place and fitness the best of
+    /// those that keep the rules on one column, each with the number of its candidate. Of candidates that suffice up to a
+    /// greatest room they are all ends in each room up to it, where the gaps of its areas are shrunk, and stretched by no
+    /// more than was told when the list was made.
     ///
-    /// Condition: the room is below 2^40 in size. The one refusal is want of memory.
+    /// Condition: the numbers of the room are below 2^40 in size. The one refusal is want of memory.
     pub fn room_ends(
         &self,
         alloc: Global,
         galley: &Galley,
         style: &Style,
-        room: i64,
+        room: &TextRoom,
     ) -> Result<Vec<RoomEnd>, AllocError>
-        requires { nat_abs room < 2 ^ 40 }
-        ensures best { IfOk result (λ ends.
-            AllByRecursion (IsNearIn (document galley.now style.now) self.now.candidates) self.now.nears →
-            AreBest (kept_ends (document galley.now style.now) room
-            (needed_in room self.now.candidates self.now.nears)) (ends_of self.now.candidates ends.items)) }
-        ensures ends { IfOk result (λ ends. (from : APlace) (top : ℤ) (cs : List ACandidate) →
-            AreNear (document galley.now style.now) cs self.now → room ≤ℤ top →
-            AreCandidates (document galley.now style.now) from top cs →
-            AreEnds (document galley.now style.now) from room (ends_of self.now.candidates ends.items)) }
+        requires { IsRoom room.now }
+        ensures best { IfOk result (λ ends. (most : ℤ) → room.now.give.stretch ≤ℤ most →
+            AllByRecursion (IsNearIn (document galley.now style.now) most self.now.candidates) self.now.nears →
+            AreBest (kept_ends (document galley.now style.now) room.now
+            (needed_in room.now.size self.now.candidates self.now.nears)) (ends_of self.now.candidates ends.items)) }
+        ensures ends { IfOk result (λ ends. (from : APlace) (top most : ℤ) (cs : List ACandidate) →
+            AreNear (document galley.now style.now) most cs self.now → IsWithin most room.now →
+            most_room room.now ≤ℤ top → AreCandidates (document galley.now style.now) from top cs →
+            AreEnds (document galley.now style.now) from room.now (ends_of self.now.candidates ends.items)) }
     {
         style.stays_in_range();
         let _ = galley.blocks().as_slice();
         candidates_give_ends(galley, style);
         let candidates = self.candidates.as_slice();
+        if !has_text(style, room) {
+            return Ok(Vec::new(alloc));
+        }
         let mut ends = Vec::with_capacity(alloc, self.nears.len().min(ROOM))?;
         'each: for near in self.nears.as_slice() {
             keep_near(style, room, candidates, near, &mut ends)?;
@@ -153,23 +180,23 @@ impl NearList {
 
     /// The same ends with their picks.
     ///
-    /// Condition: the room is below 2^40 in size. The one refusal is want of memory.
+    /// Condition: the numbers of the room are below 2^40 in size. The one refusal is want of memory.
     pub fn ends_in(
         &self,
         alloc: Global,
         galley: &Galley,
         style: &Style,
-        room: i64,
+        room: &TextRoom,
     ) -> Result<EndList, AllocError>
-        requires { nat_abs room < 2 ^ 40 }
-        ensures best { IfOk result (λ ends.
-            AllByRecursion (IsNearIn (document galley.now style.now) self.now.candidates) self.now.nears →
-            AreBest (kept_ends (document galley.now style.now) room
-            (needed_in room self.now.candidates self.now.nears)) ends) }
-        ensures ends { IfOk result (λ ends. (from : APlace) (top : ℤ) (cs : List ACandidate) →
-            AreNear (document galley.now style.now) cs self.now → room ≤ℤ top →
-            AreCandidates (document galley.now style.now) from top cs →
-            AreEnds (document galley.now style.now) from room ends) }
+        requires { IsRoom room.now }
+        ensures best { IfOk result (λ ends. (most : ℤ) → room.now.give.stretch ≤ℤ most →
+            AllByRecursion (IsNearIn (document galley.now style.now) most self.now.candidates) self.now.nears →
+            AreBest (kept_ends (document galley.now style.now) room.now
+            (needed_in room.now.size self.now.candidates self.now.nears)) ends) }
+        ensures ends { IfOk result (λ ends. (from : APlace) (top most : ℤ) (cs : List ACandidate) →
+            AreNear (document galley.now style.now) most cs self.now → IsWithin most room.now →
+            most_room room.now ≤ℤ top → AreCandidates (document galley.now style.now) from top cs →
+            AreEnds (document galley.now style.now) from room.now ends) }
     {
         let ends = self.room_ends(alloc, galley, style, room)?;
         all_with_picks(alloc, self.candidates.as_slice(), ends.as_slice())
@@ -178,19 +205,29 @@ impl NearList {
 
 impl CandidateList {
     /// What the rooms share: these candidates, with what no room changes of each, in an order in which their ends stand.
-    /// In each room the ends of those that are needed there suffice.
+    /// In each room the ends of those that are needed there suffice, where the gaps of its areas are stretched by no more
+    /// than `most` says.
     ///
-    /// The one refusal is want of memory.
+    /// Condition: that is below 2^40 in size. The one refusal is want of memory.
     pub fn into_near(
         self,
         alloc: Global,
         galley: &Galley,
         style: &Style,
+        most: &Give,
     ) -> Result<NearList, AllocError>
-        ensures { IfOk result (AreNear (document galley.now style.now) self) }
+        requires { nat_abs most.now.stretch < 2 ^ 40 }
+        ensures { IfOk result (AreNear (document galley.now style.now) most.now.stretch self) }
     {
         let order = in_order(alloc, self.as_slice())?;
-        let nears = nears_of(alloc, galley, style, self.as_slice(), order.as_slice())?;
+        let nears = nears_of(
+            alloc,
+            galley,
+            style,
+            most,
+            self.as_slice(),
+            order.as_slice(),
+        )?;
         Ok(NearList {
             candidates: self,
             nears,

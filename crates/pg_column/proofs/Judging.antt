@@ -19,12 +19,12 @@ use Rattle.pg_notes.proofs.Sizes.{limits_trimmed}
 use Rattle.law_places.proofs.Places.{Found, found}
 use Rattle.pg_rules.specs.ColumnRules.{column_variants, does_fit, has_room, is_tolerable, is_well_formed, keeps_note_limits, passes_breaks, text_badness, text_is_over}
 use Rattle.pg_rules.specs.Legal.{unless}
-use Rattle.pg_rules.specs.Room.{ColumnContext, Document, are_notes_within_limits, flat_items_of, is_text, items_of, room, size_of}
-use Rattle.pg_sums.specs.Step.{badness_by}
+use Rattle.pg_rules.specs.Room.{ColumnContext, Document, are_notes_within_limits, flat_items_of, is_text, items_of, room, size_of, tallest_room}
 use Rattle.pg_column.specs.Fits.{does_fit_from}
 use Rattle.pg_column.specs.Judged.{Judges, Walked, are_loose_enough, decided, is_tolerable_by, started, text_fault, verdict, verdict_on, walk_to}
-use Rattle.pg_column.specs.Numbers.{AreNumbers, cost_by, goal_by, is_over_by}
+use Rattle.pg_column.specs.Numbers.{AreNumbers, badness_for, cost_by, give_by, goal_by, is_over_by, text_room}
 use Rattle.pg_column.specs.declared.cost.TextCost.{TextCost}
+use Rattle.pg_column.specs.declared.cost.TextRoom.{TextRoom}
 use Rattle.pg_column.proofs.Numbers.{badness_is, numbers_are}
 use Rattle.pg_column.proofs.Passing.{box_is, over_is}
 use Rattle.pg_column.proofs.Walking.{IsWalked, is_walked, kept, walk_all, walk_is}
@@ -95,10 +95,10 @@ module _ (it : ColumnContext) (all : AllByRecursion IsBlock it.document.blocks) 
   pub penalty_is : 1 ≤ n → place_penalty it.document.blocks it.column.to ≡ break_penalty (items_of it) n
   penalty_is h = penalty-column it.document.blocks all it.column.to it.column.from it.column.picks n named size h
 
-  module _ (w : Walked) (is : IsWalked it.document all is-style it.column.from it.column.picks named (room it) n w)
+  module _ (w : Walked) (is : IsWalked it.document all is-style it.column.from it.column.picks named (text_room it) n w)
     where
-      pub over_at : text_is_over it n ≡ is_over_by it.document.style (room it) w.totals w.notes
-      over_at = over_is it.document all is-style it.column.from it.column.picks named n (kept w) (room it) is.sums
+      pub over_at : text_is_over it n ≡ is_over_by it.document.style (text_room it) w.totals w.notes
+      over_at = over_is it.document all is-style it.column.from it.column.picks named n (kept w) (tallest_room it) is.sums
 
       pub box_at : w.totals.has_box ≡ list_any is_box (take n (items_of it))
       box_at = box_is it.document all is-style it.column.from it.column.picks named n (kept w) is.sums
@@ -110,20 +110,20 @@ module _ (it : ColumnContext) (all : AllByRecursion IsBlock it.document.blocks) 
           by zero e = absurd cc
           by (suc k) e = omega arith
 
-      pub badness_at : badness_by (place_spent it.document.blocks it.column.to)
-          (goal_by it.document.style (room it) w.notes) w.totals
+      pub badness_at : badness_for it.document.style (goal_by it.document.style (text_room it) w.notes)
+          (give_by it.document.style (text_room it) w.notes) w.totals (place_spent it.document.blocks it.column.to)
           ≡ text_badness it n
-      badness_at = badness_is it n it.document.style refl is-style w.totals w.notes (room it) refl is.sums.totals_are
+      badness_at = badness_is it n it.document.style refl is-style w.totals w.notes (text_room it) refl is.sums.totals_are
           is.sums.notes_are (place_spent it.document.blocks it.column.to) spent_is
 
       pub numbers_at : (penalty : ℤ) → w.totals.has_box ≡ true → place_penalty it.document.blocks it.column.to
           ≡ Some penalty →
           (k : ℕ) → size_of it ≡ Some k → AreNumbers it k
-          (cost_by it.document.style (room it) w.totals w.notes (place_spent it.document.blocks it.column.to) penalty)
+          (cost_by it.document.style (text_room it) w.totals w.notes (place_spent it.document.blocks it.column.to) penalty)
       numbers_at penalty b e k s = let m : n ≡ k = some_same n k (sym size ∙ s) in
-          subst (λ (j : ℕ). AreNumbers it j (cost_by it.document.style (room it) w.totals w.notes
+          subst (λ (j : ℕ). AreNumbers it j (cost_by it.document.style (text_room it) w.totals w.notes
           (place_spent it.document.blocks it.column.to) penalty)) m
-          (numbers_are it n it.document.style refl is-style w.totals w.notes (room it) refl is.sums.totals_are
+          (numbers_are it n it.document.style refl is-style w.totals w.notes (text_room it) refl is.sums.totals_are
           is.sums.notes_are (place_spent it.document.blocks it.column.to) spent_is penalty
           (sym (penalty_is (some_items b)) ∙ e))
         where
@@ -143,8 +143,8 @@ module _ (it : ColumnContext) (all : AllByRecursion IsBlock it.document.blocks) 
           none : (a b c d : Bool) → a ≡ false → c ≡ false → (a && b) ≡ (c && d)
           none a b c d p q = rw (p, q) refl
 
-      pub tolerable_is : is_tolerable it ≡ (not (is_over_by it.document.style (room it) w.totals w.notes)
-          && is_tolerable_by it.document (room it) w it.column.to)
+      pub tolerable_is : is_tolerable it ≡ (not (is_over_by it.document.style (text_room it) w.totals w.notes)
+          && is_tolerable_by it.document (text_room it) w it.column.to)
       tolerable_is = where_true (is_text it) _ text
           ∙ (at_is (λ n. not (text_is_over it n)
           && (is_forced (items_of it) n || nat_le (text_badness it n) it.document.style.tolerance))
@@ -169,31 +169,31 @@ module _ (it : ColumnContext) (all : AllByRecursion IsBlock it.document.blocks) 
           ∙ sym (ap is_none (first_is (take n (items_of it)) it.document.style.classes w.notes
           is-style.classes_in.each is.sums.notes_are) ∙ none_is (take n (items_of it)) it.document.style.classes)))
 
-      pub judges : Judges it (verdict it.document (room it)
+      pub judges : Judges it (verdict it.document (text_room it)
           (are_loose_enough it.document.style (blocks_at it.document.blocks it.column.from) it.column.picks)
           it.column.to w)
       judges = judged it w.totals.has_box (place_penalty it.document.blocks it.column.to)
-          (is_over_by it.document.style (room it) w.totals w.notes) (is_tolerable_by it.document (room it) w it.column.to)
+          (is_over_by it.document.style (text_room it) w.totals w.notes) (is_tolerable_by it.document (text_room it) w it.column.to)
           w.passes (int_le it.document.style.min_text (room it))
           (is_none (first_over_limit it.document.style.classes w.notes))
           (are_loose_enough it.document.style (blocks_at it.document.blocks it.column.from) it.column.picks)
-          (cost_by it.document.style (room it) w.totals w.notes (place_spent it.document.blocks it.column.to))
+          (cost_by it.document.style (text_room it) w.totals w.notes (place_spent it.document.blocks it.column.to))
           (faults_same it _ _ _ _ _ _ _ _ _ _ _ _ formed_is tolerable_is passes_is room_is limits_is refl)
           numbers_at
 
 -- ---- a column that fits
 
 pub judges_walk : (it : ColumnContext) → AllByRecursion IsBlock it.document.blocks → IsStyle it.document.style →
-    does_fit it ≡ true → is_text it ≡ true → Judges it (verdict it.document (room it)
+    does_fit it ≡ true → is_text it ≡ true → Judges it (verdict it.document (text_room it)
     (are_loose_enough it.document.style (blocks_at it.document.blocks it.column.from) it.column.picks) it.column.to
-    (walk_to it.document (room it) (is_same_place it.column.to (end_of it.document.blocks)) it.column.to started
+    (walk_to it.document (text_room it) (is_same_place it.column.to (end_of it.document.blocks)) it.column.to started
     (flat_items_of it)))
 judges_walk it all is-style fits text = by (size_of it) refl fits
   where
     Goal : Type 0
-    Goal = Judges it (verdict it.document (room it)
+    Goal = Judges it (verdict it.document (text_room it)
         (are_loose_enough it.document.style (blocks_at it.document.blocks it.column.from) it.column.picks) it.column.to
-        (walk_to it.document (room it) (is_same_place it.column.to (end_of it.document.blocks)) it.column.to started
+        (walk_to it.document (text_room it) (is_same_place it.column.to (end_of it.document.blocks)) it.column.to started
         (flat_items_of it)))
 
     by : (o : Option ℕ) → size_of it ≡ o → does_fit it ≡ true → Goal
@@ -207,26 +207,26 @@ judges_walk it all is-style fits text = by (size_of it) refl fits
         (λ (n : ℕ). (fronts (flat_items_of it) n == length it.column.picks)
         && (length (column_variants it) == length it.column.picks)) o false) e) ∙ f) in
         let named : length (column_variants it) ≡ length it.column.picks = eqb-true _ _ two.1 in
-        subst (λ (w : Walked). Judges it (verdict it.document (room it)
+        subst (λ (w : Walked). Judges it (verdict it.document (text_room it)
         (are_loose_enough it.document.style (blocks_at it.document.blocks it.column.from) it.column.picks)
         it.column.to w))
-        (sym (walk_is it.document (room it) it.document.blocks it.column.to started (flat_items_of it) n e))
-        (judges it all is-style named text n e (walk_all it.document (room it) started (take n (flat_items_of it)))
-        (is_walked it.document all is-style it.column.from it.column.picks named (room it) n
+        (sym (walk_is it.document (text_room it) it.document.blocks it.column.to started (flat_items_of it) n e))
+        (judges it all is-style named text n e (walk_all it.document (text_room it) started (take n (flat_items_of it)))
+        (is_walked it.document all is-style it.column.from it.column.picks named (text_room it) n
         (steps_within it.document.blocks (flat_items_of it) it.column.to n e)))
 
 -- ---- of a span
 
-pub verdict_same : (doc : Document) (to : Place) (z room : ℤ) → z ≡ room → (loose loose' : Bool) → loose ≡ loose' →
+pub verdict_same : (doc : Document) (to : Place) (z room : TextRoom) → z ≡ room → (loose loose' : Bool) → loose ≡ loose' →
     (w w' : Walked) → w ≡ w' → verdict doc z loose to w ≡ verdict doc room loose' to w'
 verdict_same doc to z room r loose loose' l w w' e =
-    ap (λ (k : ℤ). verdict doc k loose to w) r ∙ (ap (λ (b : Bool). verdict doc room b to w) l
+    ap (λ (k : TextRoom). verdict doc k loose to w) r ∙ (ap (λ (b : Bool). verdict doc room b to w) l
     ∙ ap (λ (v : Walked). verdict doc room loose' to v) e)
 
-on_same : (d d' : Document) → d ≡ d' → (h h' : ℤ) → h ≡ h' → (f f' t t' : Place) → f ≡ f' → t ≡ t' → (p p' : List ℕ) →
+on_same : (d d' : Document) → d ≡ d' → (h h' : TextRoom) → h ≡ h' → (f f' t t' : Place) → f ≡ f' → t ≡ t' → (p p' : List ℕ) →
     p ≡ p' → verdict_on d h f p t ≡ verdict_on d' h' f' p' t'
 on_same d d' a h h' b f f' t t' q r p p' s =
-    ap (λ (x : Document). verdict_on x h f p t) a ∙ (ap (λ (x : ℤ). verdict_on d' x f p t) b
+    ap (λ (x : Document). verdict_on x h f p t) a ∙ (ap (λ (x : TextRoom). verdict_on d' x f p t) b
     ∙ (ap (λ (x : Place). verdict_on d' h' x p t) q ∙ (ap (λ (x : List ℕ). verdict_on d' h' f' x t) s
     ∙ ap (λ (x : Place). verdict_on d' h' f' p' x) r)))
 
@@ -242,7 +242,7 @@ text_same f f' t t' q r e = ap (λ (x : Place). not (is_same_place x t)) q
 
 pub judges_span : (it : ColumnContext) (doc : Document) → it.document ≡ doc → AllByRecursion IsBlock doc.blocks →
     IsStyle doc.style → (from to : Place) (picks : List ℕ) → it.column.from ≡ from → it.column.to ≡ to →
-    it.column.picks ≡ picks → (height : ℤ) → room it ≡ height → does_fit_from doc.blocks from picks to ≡ true →
+    it.column.picks ≡ picks → (height : TextRoom) → text_room it ≡ height → does_fit_from doc.blocks from picks to ≡ true →
     is_same_place from to ≡ false → (x : Result TextCost ℕ) → x ≡ verdict_on doc height from picks to → Judges it x
 judges_span it doc d all is-style from to picks f t p height r fits apart x e =
     subst (Judges it) (on_same _ _ d _ _ r _ _ _ _ f t _ _ p ∙ sym e)

@@ -26,11 +26,12 @@ use Rattle.pg_breaks.proofs.Answers.{forced_seen, penalty_seen}
 use Rattle.pg_breaks.proofs.Column.{SeenAt, column_seen}
 use Rattle.pg_breaks.proofs.Listed.{are_picks}
 use Rattle.pg_breaks.proofs.Lists.{follows}
-use Rattle.pg_notes.proofs.Kept.{heights_are}
-use Rattle.pg_notes.proofs.Sizes.{notes_trimmed}
+use Rattle.pg_notes.proofs.Kept.{heights_are, skips_are}
+use Rattle.pg_notes.proofs.Sizes.{notes_trimmed, skips_trimmed}
 use Rattle.law_places.proofs.Tests.{le_int, less_int, int_le_of, int_less}
-use Rattle.pg_rules.specs.Room.{Document, notes}
-use Rattle.pg_column.specs.Passed.{IsPassed, Passed, crossed, fits, is_end_here, least_room, note_height, nothing, pass_item, pass_items, raised, with_next}
+use Rattle.pg_rules.specs.Floats.{gap_shrink}
+use Rattle.pg_rules.specs.Room.{Document, smallest_notes}
+use Rattle.pg_column.specs.Passed.{IsPassed, Passed, crossed, fits, is_end_here, least_notes, least_room, nothing, pass_item, pass_items, raised, with_next}
 use Rattle.pg_column.proofs.Sums.{passed_crossed, passed_none, passed_push}
 use Rattle.pg_lemmas.proofs.Bools.{both_ways, where_neither}
 use Rattle.std.proofs.Math.Bool.{and-true}
@@ -245,11 +246,11 @@ module _ (doc : Document) (all : AllByRecursion IsBlock doc.blocks) (is-style : 
   abbrev pub read : List Item
   read = items_at doc.blocks from picks
 
-  -- the first k items are over in a room
+  -- the first k items are over in a room whose gaps are shrunk
   abbrev pub over_in : ℤ → ℕ → Bool
   over_in room k =
       is_over (total doc.style.topskip doc.style.maxdepth (trimmed (take k read))) (shrink (trimmed (take k read)))
-      (room -ℤ notes doc.style (trimmed (take k read)))
+      (room -ℤ smallest_notes doc.style (trimmed (take k read)))
 
   seen_at : (n : ℕ) (x : FlatItem) → slice_get passing n ≡ Some x → SeenAt read n doc.blocks x.place
   seen_at n x got =
@@ -270,16 +271,21 @@ module _ (doc : Document) (all : AllByRecursion IsBlock doc.blocks) (is-style : 
   box_is n p is = is.totals_are.has_box_is ∙ trimmed_any (take n read)
 
   pub notes_is : (n : ℕ) (p : Passed) → IsPassed doc.style (take n read) p →
-      notes doc.style (trimmed (take n read)) ≡ note_height doc.style p
-  notes_is n p is = notes_trimmed doc.style (take n read)
-      ∙ sym (heights_are (take n read) doc.style.classes p.notes is-style.classes_in.each is.notes_are)
+      smallest_notes doc.style (trimmed (take n read)) ≡ least_notes doc.style p
+  notes_is n p is = less _ _ _ _ (notes_trimmed doc.style (take n read)
+      ∙ sym (heights_are (take n read) doc.style.classes p.notes is-style.classes_in.each is.notes_are))
+      (skips_trimmed gap_shrink doc.style (take n read)
+      ∙ sym (skips_are gap_shrink (take n read) doc.style.classes p.notes is.notes_are))
+    where
+      less : (a a' b b' : ℤ) → a ≡ a' → b ≡ b' → (a -ℤ b) ≡ (a' -ℤ b')
+      less a a' b b' p q = rw (p, q) refl
 
   over_by : (t s h t' s' h' room : ℤ) → t ≡ t' → s ≡ s' → h ≡ h' →
       is_over t' s' (room -ℤ h') ≡ is_over t s (room -ℤ h)
   over_by t s h t' s' h' room p q r = cc
 
   pub over_is : (n : ℕ) (p : Passed) (room : ℤ) → IsPassed doc.style (take n read) p →
-      over_in room n ≡ is_over p.totals.total p.totals.shrink (room -ℤ note_height doc.style p)
+      over_in room n ≡ is_over p.totals.total p.totals.shrink (room -ℤ least_notes doc.style p)
   over_is n p room is = over_by _ _ _ _ _ _ room is.totals_are.total_is is.totals_are.shrink_is (sym (notes_is n p is))
 
   -- ---- past one item
@@ -339,7 +345,7 @@ module _ (doc : Document) (all : AllByRecursion IsBlock doc.blocks) (is-style : 
 
       least : (room : ℤ) → not (over_in room n) ≡ int_le (least_room doc.style p) room
       least room =
-          ap not (over_is n p room is ∙ over_least p.totals.total p.totals.shrink (note_height doc.style p) room)
+          ap not (over_is n p room is ∙ over_least p.totals.total p.totals.shrink (least_notes doc.style p) room)
           ∙ twice (int_le (least_room doc.style p) room)
         where
           twice : (b : Bool) → not (not b) ≡ b

@@ -8,6 +8,7 @@ use Rattle.pg_list.specs.Ranges.{IsItemInRange}
 use Rattle.pg_list.specs.declared.blocks.Block.TheVariants.{One, Choice}
 use Rattle.pg_list.specs.declared.variants.Variant.{Variant}
 use Rattle.pg_rules.specs.Room.{Document}
+use Rattle.pg_column.specs.declared.cost.TextRoom.{TextRoom}
 use Rattle.pg_column.specs.Judged.{Walked, walk_item, walk_to}
 use Rattle.pg_column.proofs.Passing.{around_ranges}
 use Rattle.pg_list.specs.declared.item.Item.{Item}
@@ -123,7 +124,7 @@ module _ (blocks : List Block) (all : AllByRecursion IsBlock blocks) (at : Place
 -- ---- what is kept along it
 
 module _ (blocks : List Block) (all : AllByRecursion IsBlock blocks) (at : Place) (picks : List ℕ)
-    (is : IsSettled blocks at) (named : Named blocks at picks) (doc : Document) (room : ℤ) (is_end : Bool) (to : Place)
+    (is : IsSettled blocks at) (named : Named blocks at picks) (doc : Document) (room : TextRoom) (is_end : Bool) (to : Place)
     (w : Walked) where
   abbrev whole_walk : Walked
   whole_walk = walk_to doc room is_end to w (flat_items_at blocks at picks)
@@ -238,7 +239,7 @@ pub leads_whole : (bs blocks : List Block) → bs ≡ blocks → (is_end : Bool)
     ≡ leads_to (is_same_place to (end_of blocks)) to (flat_items_at blocks from picks) (length picks)
 leads_whole bs blocks same is_end to from picks e = rw (e, same) refl
 
-pub walk_last : (bs blocks : List Block) → bs ≡ blocks → (doc : Document) (z room : ℤ) → z ≡ room → (is_end : Bool)
+pub walk_last : (bs blocks : List Block) → bs ≡ blocks → (doc : Document) (z room : TextRoom) → z ≡ room → (is_end : Bool)
     (to from : Place) (picks : List ℕ) → is_end ≡ is_same_place to (end_of bs) → (w : Walked) →
     walk_to doc z is_end to w (flat_items_at bs from picks)
     ≡ walk_to doc room (is_same_place to (end_of blocks)) to w (flat_items_at blocks from picks)

@@ -13,7 +13,8 @@ use Rattle.pg_breaks.specs.Near.{place_forced}
 use Rattle.pg_breaks.specs.Read.{items_at}
 use Rattle.pg_rules.specs.Room.{Document}
 use Rattle.pg_column.specs.Judged.{Walked, is_break_by, may_pass, started, walk_item, walk_to}
-use Rattle.pg_column.specs.Numbers.{is_over_by}
+use Rattle.pg_column.specs.Numbers.{is_over_by, most_room}
+use Rattle.pg_column.specs.declared.cost.TextRoom.{TextRoom}
 use Rattle.pg_column.specs.Passed.{IsPassed, Passed}
 use Rattle.pg_column.proofs.Leads.{is_at, position_here, position_later, stands}
 use Rattle.pg_column.proofs.Passing.{at_ranges, end_test, forced_at, got_within, is_passable, map_got, over_in, over_is, passes_more, range_at, taken_more, test_is}
@@ -22,7 +23,7 @@ use Rattle.pg_lemmas.proofs.Bools.{by_bool, if_false, if_true}
 
 -- ---- a walk to a place is one along the items before it
 
-module _ (doc : Document) (room : ℤ) where
+module _ (doc : Document) (room : TextRoom) where
   abbrev pub walk_all : Walked → List FlatItem → Walked
   walk_all w [] = w
   walk_all w (x ∷ xs) = walk_all (walk_item doc room w x) xs
@@ -77,50 +78,50 @@ abbrev pub kept : Walked → Passed
 kept w = record { totals = w.totals; notes = w.notes; bound = None }
 
 module _ (doc : Document) (all : AllByRecursion IsBlock doc.blocks) (is-style : IsStyle doc.style) (from : Place)
-    (picks : List ℕ) (named : length (picked_variants (blocks_at doc.blocks from) picks) ≡ length picks) (room : ℤ)
-  where
-    abbrev ahead : List FlatItem
-    ahead = flat_items_at doc.blocks from picks
+    (picks : List ℕ) (named : length (picked_variants (blocks_at doc.blocks from) picks) ≡ length picks)
+    (room : TextRoom) where
+  abbrev ahead : List FlatItem
+  ahead = flat_items_at doc.blocks from picks
 
-    abbrev read : List Item
-    read = items_at doc.blocks from picks
+  abbrev read : List Item
+  read = items_at doc.blocks from picks
 
-    abbrev over : ℕ → Bool
-    over = over_in doc all is-style from picks named room
+  abbrev over : ℕ → Bool
+  over = over_in doc all is-style from picks named (most_room room)
 
-    pub record IsWalked (n : ℕ) (w : Walked) : Type 0 where
-      pub sums : IsPassed doc.style (take n read) (kept w)
-      pub passes : w.passes ≡ passes_between read over n
+  pub record IsWalked (n : ℕ) (w : Walked) : Type 0 where
+    pub sums : IsPassed doc.style (take n read) (kept w)
+    pub passes : w.passes ≡ passes_between read over n
 
-    went : (n : ℕ) (x : FlatItem) (w : Walked) → slice_get ahead n ≡ Some x → IsWalked n w →
-        IsWalked (suc n) (walk_item doc room w x)
-    went n x w got is = record {
-      sums = subst (λ (ys : List Item). IsPassed doc.style ys (kept (walk_item doc room w x))) (sym next)
-          (passed_push doc.style is-style (take n read) x.item (kept w)
-          (range_at ahead n x (at_ranges doc.blocks from picks all) got) is.sums);
-      passes = both _ _ _ _ is.passes (sym test) ∙ sym (passes_more read over n);
-    }
-      where
-        next : take (suc n) read ≡ take n read ++ x.item ∷ []
-        next = taken_more n read x.item (map_got (λ (y : FlatItem). y.item) n ahead x got)
+  went : (n : ℕ) (x : FlatItem) (w : Walked) → slice_get ahead n ≡ Some x → IsWalked n w →
+      IsWalked (suc n) (walk_item doc room w x)
+  went n x w got is = record {
+    sums = subst (λ (ys : List Item). IsPassed doc.style ys (kept (walk_item doc room w x))) (sym next)
+        (passed_push doc.style is-style (take n read) x.item (kept w)
+        (range_at ahead n x (at_ranges doc.blocks from picks all) got) is.sums);
+    passes = both _ _ _ _ is.passes (sym test) ∙ sym (passes_more read over n);
+  }
+    where
+      next : take (suc n) read ≡ take n read ++ x.item ∷ []
+      next = taken_more n read x.item (map_got (λ (y : FlatItem). y.item) n ahead x got)
 
-        both : (a b c d : Bool) → a ≡ c → b ≡ d → (a && b) ≡ (c && d)
-        both a b c d p q = cc
+      both : (a b c d : Bool) → a ≡ c → b ≡ d → (a && b) ≡ (c && d)
+      both a b c d p q = cc
 
-        over_at : over n ≡ is_over_by doc.style room w.totals w.notes
-        over_at = over_is doc all is-style from picks named n (kept w) room is.sums
+      over_at : over n ≡ is_over_by doc.style room w.totals w.notes
+      over_at = over_is doc all is-style from picks named n (kept w) (most_room room) is.sums
 
-        test : is_passable read over n ≡ may_pass doc room w x.place
-        test = test_is doc all is-style from picks named _ _ _ _ (over n)
-            (end_test doc all is-style from picks named n x (kept w) got is.sums)
-            (forced_at doc all is-style from picks named n x got)
-            ∙ ap (λ (o : Bool). not (is_break_by doc.blocks w.totals x.place) || not
-            (place_forced doc.blocks x.place || o)) over_at
+      test : is_passable read over n ≡ may_pass doc room w x.place
+      test = test_is doc all is-style from picks named _ _ _ _ (over n)
+          (end_test doc all is-style from picks named n x (kept w) got is.sums)
+          (forced_at doc all is-style from picks named n x got)
+          ∙ ap (λ (o : Bool). not (is_break_by doc.blocks w.totals x.place) || not
+          (place_forced doc.blocks x.place || o)) over_at
 
-    pub is_walked : (n : ℕ) → n ≤ length ahead → IsWalked n (walk_all doc room started (take n ahead))
-    is_walked zero h = record { sums = passed_none doc.style is-style; passes = refl }
-    is_walked (suc n) h =
-        let it = got_within n ahead (omega (arith, h)) in
-        subst (IsWalked (suc n)) (sym (ap (walk_all doc room started) (taken_more n ahead it.0 it.1)
-        ∙ walk_push doc room started (take n ahead) it.0))
-        (went n it.0 (walk_all doc room started (take n ahead)) it.1 (is_walked n (omega (arith, h))))
+  pub is_walked : (n : ℕ) → n ≤ length ahead → IsWalked n (walk_all doc room started (take n ahead))
+  is_walked zero h = record { sums = passed_none doc.style is-style; passes = refl }
+  is_walked (suc n) h =
+      let it = got_within n ahead (omega (arith, h)) in
+      subst (IsWalked (suc n)) (sym (ap (walk_all doc room started) (taken_more n ahead it.0 it.1)
+      ∙ walk_push doc room started (take n ahead) it.0))
+      (went n it.0 (walk_all doc room started (take n ahead)) it.1 (is_walked n (omega (arith, h))))

@@ -1,20 +1,21 @@
 -- The ends of a column of text.
-use Rattle.std.specs.Prelude.{◌≡◌, ◌<◌, ◌⊎◌, ℕ, true, List, Some, Contains, AllPairs, ℤ}
+use Rattle.std.specs.Prelude.{◌≡◌, ◌<◌, ◌⊎◌, ℕ, true, List, Some, Contains, AllPairs}
 use Rattle.std.specs.declared.cmp.Ordering.TheVariants.{Less}
 use Rattle.pg_list.specs.declared.galley.Place.{Place}
 use Rattle.pg_plan.specs.Order.{place_cmp}
 use Rattle.pg_rules.specs.BestPicks.{IsLeast, keeps_text}
 use Rattle.pg_rules.specs.Cost.{pick_demerits}
 use Rattle.pg_rules.specs.History.{column_fitness}
-use Rattle.pg_rules.specs.Room.{ColumnContext, Document, is_text, room, size_of}
-use Rattle.pg_column.specs.Numbers.{AreNumbers}
+use Rattle.pg_rules.specs.Room.{ColumnContext, Document, is_text, size_of}
+use Rattle.pg_column.specs.Numbers.{AreNumbers, text_room}
+use Rattle.pg_column.specs.declared.cost.TextRoom.{TextRoom}
 use Rattle.pg_column.specs.declared.end.End.{End}
 
--- a column of text from a place of the galley, in a room of this height
-pub record IsColumnIn (doc : Document) (from : Place) (height : ℤ) (it : ColumnContext) : Type 0 where
+-- a column of text from a place of the galley, in this room
+pub record IsColumnIn (doc : Document) (from : Place) (room : TextRoom) (it : ColumnContext) : Type 0 where
   pub document : it.document ≡ doc
   pub starts : it.column.from ≡ from
-  pub height_is : room it ≡ height
+  pub room_is : text_room it ≡ room
   pub text : is_text it ≡ true
 
 -- the end is that of a column that keeps the rules on its text, with the best picks
@@ -39,8 +40,8 @@ IsBefore a b = (place_cmp a.to b.to ≡ Less) ⊎ ((a.to ≡ b.to) × (a.cost.fi
 
 -- the ends of the columns of text from a place in a room: each place and fitness at which one keeps the rules on its
 -- text, once, in order
-pub record AreEnds (doc : Document) (from : Place) (height : ℤ) (ends : List End) : Type 0 where
-  pub sound : (end : End) (it : ColumnContext) → Contains ends end → IsColumnIn doc from height it →
+pub record AreEnds (doc : Document) (from : Place) (room : TextRoom) (ends : List End) : Type 0 where
+  pub sound : (end : End) (it : ColumnContext) → Contains ends end → IsColumnIn doc from room it →
       it.column.to ≡ end.to → it.column.picks ≡ end.picks → IsEndOf it end
-  pub whole : (it : ColumnContext) → IsColumnIn doc from height it → keeps_text it ≡ true → HasEnd ends it
+  pub whole : (it : ColumnContext) → IsColumnIn doc from room it → keeps_text it ≡ true → HasEnd ends it
   pub order : AllPairs IsBefore ends

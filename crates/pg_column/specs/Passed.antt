@@ -16,7 +16,7 @@ use Rattle.pg_sums.specs.Step.{counted, no_totals}
 use Rattle.pg_notes.specs.declared.sums.NoteSum.{NoteSum}
 use Rattle.pg_notes.specs.AreNotes.{AreNoteSums}
 use Rattle.pg_notes.specs.Step.{no_note, with_note}
-use Rattle.pg_notes.specs.NotesValue.{first_over_limit, heights}
+use Rattle.pg_notes.specs.NotesValue.{first_over_limit, smallest_by}
 use Rattle.pg_rules.specs.Room.{Document}
 
 -- ---- what is kept
@@ -32,15 +32,15 @@ pub record Passed : Type 0 where
 abbrev pub nothing : Passed
 nothing = record { totals = no_totals; notes = replicate 8 no_note; bound = None }
 
--- the height of the notes passed
-abbrev pub note_height : StyleValue → Passed → ℤ
-note_height style p = pos (heights style.classes p.notes)
+-- the height of the notes passed where their skips are shrunk
+abbrev pub least_notes : StyleValue → Passed → ℤ
+least_notes style p = smallest_by style.classes p.notes
 
--- the least room in which the items are not over
+-- the least room in which the items are not over, the gaps of the areas shrunk
 abbrev pub least_room : StyleValue → Passed → ℤ
 least_room style p =
-    int_min ((p.totals.total +ℤ note_height style p) +ℤ pos 1)
-    ((p.totals.total +ℤ note_height style p) -ℤ p.totals.shrink)
+    int_min ((p.totals.total +ℤ least_notes style p) +ℤ pos 1)
+    ((p.totals.total +ℤ least_notes style p) -ℤ p.totals.shrink)
 
 -- no class of notes is above its limit
 abbrev pub are_within : StyleValue → Passed → Bool

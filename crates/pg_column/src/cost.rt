@@ -1,21 +1,28 @@
 //! The numbers of a column of text, from its sums and its notes.
-ghost use Rattle.std.specs.Prelude.{◌≡◌, ◌<◌, ◌+◌, ◌^◌, ◌==◌, if◌then◌else◌, Some, take, ℕ, ℤ, pos, false, nat_abs, ◌+ℤ◌};
-ghost use Rattle.pg_list.specs.Badness.{is_over};
+ghost use Rattle.std.specs.Prelude.{◌≡◌, ◌<◌, ◌≤◌, ◌+◌, ◌^◌, ◌==◌, if◌then◌else◌, Some, take, ℕ, ℤ, pos, true, nat_abs, unwrap_or, ◌+ℤ◌};
+ghost use Rattle.std.specs.Int.{int_max};
 ghost use Rattle.pg_list.specs.Break.{break_penalty, is_spent as is_spent_of};
 ghost use Rattle.pg_list.specs.Whole.{square as square_of};
 ghost use Rattle.pg_notes.specs.AreNotes.{AreNotes};
-ghost use Rattle.pg_notes.specs.NotesValue.{heights};
 ghost use Rattle.pg_style.specs.Ranges.{IsStyle};
 ghost use Rattle.pg_sums.specs.AreSums.{AreSums};
 ghost use Rattle.pg_rules.specs.ColumnRules.{fitness_by};
-ghost use Rattle.pg_rules.specs.Cost.{penalty_demerits as demerits_of_penalty};
-ghost use Rattle.pg_rules.specs.Room.{ColumnContext, items_of, room as room_of};
-ghost use Rattle.pg_column.specs.Numbers.{AreNumbers, cost_by, cost_for as cost_for_goal, goal_by, is_over_by};
+ghost use Rattle.pg_rules.specs.Cost.{break_demerits, is_bonus as is_bonus_of, penalty_demerits as demerits_of_penalty};
+ghost use Rattle.pg_rules.specs.Room.{ColumnContext, items_of};
+ghost use Rattle.pg_column.specs.Numbers.{AreNumbers, IsRoom, badness_for, cost_by, cost_for as cost_for_goal, give_by, goal_by, is_over_by, text_room};
 
 use pg_notes::NoteSums;
 use pg_scaled::{minus, plus, square, wide};
-use pg_style::Style;
+use pg_style::{Give, Style};
 use pg_sums::Sums;
+
+/// The room of a text: what the areas leave of its column in scaled points, 65536 to the point, and by how much their
+/// gaps may be stretched and shrunk.
+#[derive(Clone, Copy, PartialEq, Eq)]
+pub struct TextRoom {
+    pub size: i64,
+    pub give: Give,
+}
 
 /// The numbers of a column of text. Lengths are in scaled points, 65536 to the point.
 #[derive(Clone, Copy, PartialEq, Eq)]
@@ -33,7 +40,8 @@ pub struct TextCost {
     /// The penalty of the break at its end.
     pub penalty: i32,
     /// The square of the badness and the style's `line`, and the square of the penalty with its sign; a penalty of
-    /// -10000 or less adds nothing. The form is that of TeX: The Program, §859.
+    /// -10000 or less adds nothing. In a style of version 3 a penalty below 0 is taken off badness instead, as far as
+    /// that goes. The form is that of TeX: The Program, §859.
     pub demerits: i64,
 }
 
@@ -89,42 +97,122 @@ fn line_demerits(line: u16, badness: u16) -> i64
     square(plus(i64::from(line), i64::from(badness)))
 }
 
-// The demerits of a column.
-fn demerits(line: u16, badness: u16, penalty: i32) -> i64
-    ensures { result ≡ square_of (pos (line + badness)) +ℤ demerits_of_penalty penalty }
+// Whether a penalty is a bonus: below 0, and none that forces.
+fn is_bonus(penalty: i32) -> bool
+    ensures { result ≡ is_bonus_of penalty }
 {
-    plus(line_demerits(line, badness), penalty_demerits(penalty))
+    -10000 < penalty && penalty < 0
 }
 
-/// What the notes leave of a room of so many scaled points.
+// The badness less a bonus, as far as that goes.
+fn forgiven(badness: u16, penalty: i32) -> i64
+    ensures value { result ≡ int_max (pos 0) (pos badness +ℤ penalty) }
+    ensures size { nat_abs result ≤ badness + nat_abs penalty }
+{
+    let left = plus(i64::from(badness), wide(penalty));
+    if left > 0 { left } else { 0 }
+}
+
+// The square of a line's demerits and of what a bonus leaves of the badness.
+fn bonus_demerits(line: u16, badness: u16, penalty: i32) -> i64
+    requires { is_bonus_of penalty ≡ true }
+    ensures { result ≡ square_of (pos line +ℤ int_max (pos 0) (pos badness +ℤ penalty)) }
+{
+    square(plus(i64::from(line), forgiven(badness, penalty)))
+}
+
+// The demerits of a column.
+fn demerits(style: &Style, badness: u16, penalty: i32) -> i64
+    ensures { result ≡ break_demerits style.now badness penalty }
+{
+    if style.version == 3 && is_bonus(penalty) {
+        bonus_demerits(style.line, badness, penalty)
+    } else {
+        plus(
+            line_demerits(style.line, badness),
+            penalty_demerits(penalty),
+        )
+    }
+}
+
+/// What the notes leave of a room.
 ///
-/// Condition: the room is below 2^40 in size. Takes no memory.
-pub fn goal_in(style: &Style, room: i64, notes: &NoteSums) -> i64
-    requires { nat_abs room < 2 ^ 40 }
-    ensures value { result ≡ goal_by style.now room notes.now.sums }
+/// Condition: the numbers of the room are below 2^40 in size. Takes no memory.
+pub fn goal_in(style: &Style, room: &TextRoom, notes: &NoteSums) -> i64
+    requires { IsRoom room.now }
+    ensures value { result ≡ goal_by style.now room.now notes.now.sums }
     ensures size { nat_abs result < 2 ^ 52 }
 {
-    minus(room, notes.height(style))
+    minus(room.size, notes.height(style))
 }
 
-/// The numbers of a column of text from the sums of its items, and its goal: what its notes leave of its room. `is_spent`
-/// and `penalty` are as for `text_cost`.
+/// By how much the gaps around a text may be stretched and shrunk: those of its areas, and the skips of its notes.
 ///
-/// Conditions: the goal is below 2^52 in size, and the text is not over in it. Takes no memory.
-pub fn cost_for(style: &Style, goal: i64, sums: &Sums, is_spent: bool, penalty: i32) -> TextCost
+/// Condition: the numbers of the room are below 2^40 in size. Takes no memory.
+pub fn give_in(style: &Style, room: &TextRoom, notes: &NoteSums) -> Give
+    requires { IsRoom room.now }
+    ensures value { result ≡ give_by style.now room.now notes.now.sums }
+    ensures size { (nat_abs result.stretch < 2 ^ 41) × (nat_abs result.shrink < 2 ^ 41) }
+{
+    room.give.plus(notes.give(style))
+}
+
+/// Whether a text is longer than what the notes leave of its room, all gaps shrunk, by more than it can shrink.
+///
+/// Condition: the numbers of the room are below 2^40 in size. Takes no memory.
+pub fn is_over(style: &Style, room: &TextRoom, sums: &Sums, notes: &NoteSums) -> bool
+    requires { IsRoom room.now }
+    ensures { result ≡ is_over_by style.now room.now sums.now.totals notes.now.sums }
+{
+    let tallest = plus(room.size, room.give.shrink);
+    sums.over(minus(tallest, notes.smallest(style)))
+}
+
+// What fills the goal of a short text: the foot of a ragged style, else what is finite.
+fn stretch_of(style: &Style, give: &Give, sums: &Sums) -> i64
+    requires { nat_abs give.now.stretch < 2 ^ 62 }
+    ensures { result ≡ unwrap_or style.now.ragged (sums.now.totals.finite +ℤ give.now.stretch) }
+{
+    match style.ragged {
+        Some(foot) => wide(foot),
+        None => plus(sums.stretch(), give.stretch),
+    }
+}
+
+// How badly a text fills its goal, beside what the gaps give.
+fn badness_in(style: &Style, goal: i64, give: &Give, sums: &Sums, is_spent: bool) -> u16
     requires size { nat_abs goal < 2 ^ 52 }
-    requires fits { is_over sums.now.totals.total sums.now.totals.shrink goal ≡ false }
-    ensures { result ≡ cost_for_goal style.now goal sums.now.totals is_spent penalty }
+    requires give { (nat_abs give.now.stretch < 2 ^ 62) × (nat_abs give.now.shrink < 2 ^ 62) }
+    ensures { result ≡ badness_for style.now goal give.now sums.now.totals is_spent }
+{
+    let stretch = stretch_of(style, give, sums);
+    let shrink = plus(sums.shrink(), give.shrink);
+    sums.page_badness(goal, is_spent, stretch, shrink)
+}
+
+/// The numbers of a column of text from the sums of its items, its goal, which is what its notes leave of its room, and
+/// what the gaps around it give. `is_spent` and `penalty` are as for `text_cost`. Takes no memory.
+pub fn cost_for(
+    style: &Style,
+    goal: i64,
+    give: &Give,
+    sums: &Sums,
+    is_spent: bool,
+    penalty: i32,
+) -> TextCost
+    requires size { nat_abs goal < 2 ^ 52 }
+    requires give { (nat_abs give.now.stretch < 2 ^ 62) × (nat_abs give.now.shrink < 2 ^ 62) }
+    ensures { result ≡ cost_for_goal style.now goal give.now sums.now.totals is_spent penalty }
 {
     let total = sums.total();
-    let badness = sums.page_badness(goal, is_spent);
+    let badness = badness_in(style, goal, give, sums, is_spent);
     TextCost {
         goal,
         total,
         badness,
         fitness: fitness(style, total, goal, badness),
         penalty,
-        demerits: demerits(style.line, badness, penalty),
+        demerits: demerits(style, badness, penalty),
     }
 }
 
@@ -136,26 +224,27 @@ pub fn version_of(style: &Style) -> u8
     style.version
 }
 
-/// The numbers of a column of text in a room of so many scaled points, from the sums of its items and of its notes.
-/// `is_spent` says that only discardable items stand from its end on, and `penalty` is that of the break there.
+/// The numbers of a column of text in a room, from the sums of its items and of its notes. `is_spent` says that only
+/// discardable items stand from its end on, and `penalty` is that of the break there.
 ///
-/// Conditions: the room is below 2^40 in size, and the text is not over in it. Takes no memory.
+/// Condition: the numbers of the room are below 2^40 in size. Takes no memory.
 pub fn text_cost(
     style: &Style,
-    room: i64,
+    room: &TextRoom,
     sums: &Sums,
     notes: &NoteSums,
     is_spent: bool,
     penalty: i32,
 ) -> TextCost
-    requires size { nat_abs room < 2 ^ 40 }
-    requires fits { is_over_by style.now room sums.now.totals notes.now.sums ≡ false }
-    ensures value { result ≡ cost_by style.now room sums.now.totals notes.now.sums is_spent penalty }
-    ensures column { (it : ColumnContext) (n : ℕ) → it.document.style ≡ style.now → room_of it ≡ room →
+    requires { IsRoom room.now }
+    ensures value { result ≡ cost_by style.now room.now sums.now.totals notes.now.sums is_spent penalty }
+    ensures column { (it : ColumnContext) (n : ℕ) → it.document.style ≡ style.now → text_room it ≡ room.now →
         AreSums style.now.topskip style.now.maxdepth (take n (items_of it)) sums.now →
         AreNotes style.now (take n (items_of it)) notes.now → is_spent ≡ is_spent_of (items_of it) n →
         break_penalty (items_of it) n ≡ Some penalty → AreNumbers it n result }
 {
     let _ranges = version_of(style);
-    cost_for(style, goal_in(style, room, notes), sums, is_spent, penalty)
+    let goal = goal_in(style, room, notes);
+    let give = give_in(style, room, notes);
+    cost_for(style, goal, &give, sums, is_spent, penalty)
 }

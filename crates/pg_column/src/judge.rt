@@ -1,18 +1,19 @@
 //! The least rule on its text that a column breaks, or its numbers.
-ghost use Rattle.std.specs.Prelude.{◌≡◌, ◌<◌, ◌≤◌, ◌+◌, ◌^◌, nat_abs, true, false};
+ghost use Rattle.std.specs.Prelude.{◌≡◌, ◌≤◌, ◌+◌, ◌^◌, true, false};
 ghost use Rattle.std.specs.List.{AllByRecursion};
 ghost use Rattle.std.specs.Option.{option_map_or};
 ghost use Rattle.pg_list.specs.Shapes.{IsBlock};
 ghost use Rattle.pg_list.specs.Flat.{blocks_at, end_of, flat_items_at, is_same_place as is_same_place_of};
 ghost use Rattle.pg_style.specs.Ranges.{IsStyle};
 ghost use Rattle.pg_rules.specs.Legal.{document};
-ghost use Rattle.pg_rules.specs.Room.{ColumnContext, room as room_of};
+ghost use Rattle.pg_rules.specs.Room.{ColumnContext};
 ghost use Rattle.pg_column.specs.Ahead.{first_variant, picks_after as picks_after_of};
 ghost use Rattle.pg_column.specs.Fits.{HasSpan, are_named, does_fit_from, does_span_fit};
 ghost use Rattle.pg_column.specs.Judged.{Judges, are_loose_enough as are_loose_enough_of, is_loose_enough as is_loose_enough_of, started, verdict_on, walk_to};
+ghost use Rattle.pg_column.specs.Numbers.{IsRoom, text_room};
 ghost use Rattle.pg_column.specs.View.{IsFor, view};
 
-use crate::cost::{TextCost, version_of};
+use crate::cost::{TextCost, TextRoom, version_of};
 use crate::items::{
     blocks_of, from, from_block, is_end, item_place, next_index_of, picks_behind, settled,
     without_first,
@@ -75,10 +76,17 @@ fn are_loose_enough(style: &Style, blocks: &[Block], picks: &[u32]) -> bool
 }
 
 // What is kept of the items from a place to another.
-fn walk(galley: &Galley, style: &Style, room: i64, start: Place, picks: &[u32], to: Place) -> Walked
-    requires size { nat_abs room < 2 ^ 40 }
+fn walk(
+    galley: &Galley,
+    style: &Style,
+    room: &TextRoom,
+    start: Place,
+    picks: &[u32],
+    to: Place,
+) -> Walked
+    requires room { IsRoom room.now }
     requires named { are_named galley.now.blocks start picks.now ≡ true }
-    ensures { view result ≡ walk_to (document galley.now style.now) room
+    ensures { view result ≡ walk_to (document galley.now style.now) room.now
         (is_same_place_of to (end_of galley.now.blocks)) to started (flat_items_at galley.now.blocks start picks.now) }
 {
     let blocks = blocks_of(galley);
@@ -98,27 +106,26 @@ fn walk(galley: &Galley, style: &Style, room: i64, start: Place, picks: &[u32], 
     walked
 }
 
-/// Judges the text from a place to another with these picks in a room of so many scaled points, 65536 to the point.
-/// Answers its numbers, or else the number of the least rule on the text of a column that it breaks: 3 shape of a
+/// Judges the text from a place to another with these picks in a room. Answers its numbers, or else the number of the least rule on the text of a column that it breaks: 3 shape of a
 /// column, 4 tolerance, 5 break inside, 6 least text, 11 limit of notes, 13 looseness. What is over, a break and a
 /// forced break are TeX's (TeX: The Program, §1000 to §1007; The TeXbook, chapter 15).
 ///
-/// Conditions: the text fits the galley (`fits_from`), the places differ, and the room is below 2^40 in size. Takes no
-/// memory.
+/// Conditions: the text fits the galley (`fits_from`), the places differ, and the numbers of the room are below 2^40 in
+/// size. Takes no memory.
 pub fn judge_from(
     galley: &Galley,
     style: &Style,
     start: Place,
     picks: &[u32],
     to: Place,
-    room: i64,
+    room: &TextRoom,
 ) -> Result<TextCost, u8>
-    requires size { nat_abs room < 2 ^ 40 }
+    requires room { IsRoom room.now }
     requires fits { does_fit_from galley.now.blocks start picks.now to ≡ true }
     requires text { is_same_place_of start to ≡ false }
-    ensures value { result ≡ verdict_on (document galley.now style.now) room start picks.now to }
+    ensures value { result ≡ verdict_on (document galley.now style.now) room.now start picks.now to }
     ensures column { (it : ColumnContext) → it.document ≡ document galley.now style.now → it.column.from ≡ start →
-        it.column.to ≡ to → it.column.picks ≡ picks.now → room_of it ≡ room → Judges it result }
+        it.column.to ≡ to → it.column.picks ≡ picks.now → text_room it ≡ room.now → Judges it result }
 {
     let _ranges = version_of(style);
     let is_loose = are_loose_enough(style, from_block(blocks_of(galley), start), picks);
@@ -127,12 +134,17 @@ pub fn judge_from(
 }
 
 /// `judge_from` of a span.
-pub fn judge_text(galley: &Galley, style: &Style, span: &Span, room: i64) -> Result<TextCost, u8>
-    requires size { nat_abs room < 2 ^ 40 }
+pub fn judge_text(
+    galley: &Galley,
+    style: &Style,
+    span: &Span,
+    room: &TextRoom,
+) -> Result<TextCost, u8>
+    requires room { IsRoom room.now }
     requires fits { does_span_fit galley.now.blocks span.now ≡ true }
     requires text { is_same_place_of span.now.from span.now.to ≡ false }
     ensures { (it : ColumnContext) → it.document ≡ document galley.now style.now → HasSpan it span.now →
-        room_of it ≡ room → Judges it result }
+        text_room it ≡ room.now → Judges it result }
 {
     judge_from(
         galley,

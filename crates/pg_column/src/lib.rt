@@ -16,6 +16,7 @@
 
 mod cost;
 mod end;
+mod gives;
 mod items;
 mod judge;
 mod rule;
@@ -23,8 +24,9 @@ mod span;
 mod walk;
 mod walked;
 
-pub use cost::{TextCost, cost_for, goal_in, text_cost};
+pub use cost::{TextCost, TextRoom, cost_for, give_in, goal_in, is_over, text_cost};
 pub use end::{End, EndList, EndLists};
+pub use gives::area_give;
 pub use items::{
     blocks_of, is_end, is_same_place, item_place, next_index_of, picks_behind, settled,
 };

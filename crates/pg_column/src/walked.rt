@@ -1,15 +1,15 @@
 //! What is kept along a span.
-ghost use Rattle.std.specs.Prelude.{◌≡◌, ◌<◌, ◌≤◌, ◌+◌, ◌^◌, ◌&&◌, Bool, nat_abs, is_none, int_le, nat_le, ◌||◌};
+ghost use Rattle.std.specs.Prelude.{◌≡◌, ◌<◌, ◌≤◌, ◌+◌, ◌^◌, ◌&&◌, Bool, is_none, int_le, nat_le, ◌||◌};
 ghost use Rattle.pg_list.specs.Ranges.{IsItemInRange};
 ghost use Rattle.pg_list.specs.Flat.{FlatItem};
 ghost use Rattle.pg_notes.specs.NotesValue.{first_over_limit};
 ghost use Rattle.pg_breaks.specs.Near.{place_forced};
 ghost use Rattle.pg_rules.specs.Legal.{document};
 ghost use Rattle.pg_column.specs.Judged.{end_penalty as end_penalty_of, is_break_by, may_pass as may_pass_of, started, verdict as verdict_of, walk_item};
-ghost use Rattle.pg_column.specs.Numbers.{is_over_by};
+ghost use Rattle.pg_column.specs.Numbers.{IsRoom, is_over_by};
 ghost use Rattle.pg_column.specs.View.{IsFor, view};
 
-use crate::cost::{TextCost, goal_in, text_cost};
+use crate::cost::{TextCost, TextRoom, is_over, text_cost};
 use crate::rule::{KeptRules, TextRule};
 use pg_breaks::{break_cost, is_forced, is_spent};
 use pg_list::{Galley, Item, Place};
@@ -40,11 +40,11 @@ impl Walked {
     }
 
     /// Whether the items so far are over in a room.
-    pub fn is_over(&self, style: &Style, room: i64) -> bool
-        requires { nat_abs room < 2 ^ 40 }
-        ensures { result ≡ is_over_by style.now room self.now.sums.totals self.now.notes.sums }
+    pub fn is_over(&self, style: &Style, room: &TextRoom) -> bool
+        requires { IsRoom room.now }
+        ensures { result ≡ is_over_by style.now room.now self.now.sums.totals self.now.notes.sums }
     {
-        self.sums.over(goal_in(style, room, &self.notes))
+        is_over(style, room, &self.sums, &self.notes)
     }
 
     // Whether a place is a break behind a box.
@@ -55,9 +55,9 @@ impl Walked {
     }
 
     // Whether a place is no break behind a box that is forced or over.
-    fn may_pass(&self, galley: &Galley, style: &Style, room: i64, at: Place) -> bool
-        requires { nat_abs room < 2 ^ 40 }
-        ensures { result ≡ may_pass_of (document galley.now style.now) room (view self.now) at }
+    fn may_pass(&self, galley: &Galley, style: &Style, room: &TextRoom, at: Place) -> bool
+        requires { IsRoom room.now }
+        ensures { result ≡ may_pass_of (document galley.now style.now) room.now (view self.now) at }
     {
         if !self.is_break(galley, at) {
             return true;
@@ -66,13 +66,13 @@ impl Walked {
     }
 
     /// One more item, and the break before it.
-    pub fn pass(&mut self, galley: &Galley, style: &Style, room: i64, at: Place, item: &Item)
-        requires size { nat_abs room < 2 ^ 40 }
+    pub fn pass(&mut self, galley: &Galley, style: &Style, room: &TextRoom, at: Place, item: &Item)
+        requires room { IsRoom room.now }
         requires style { IsFor style.now self.old }
         requires range { IsItemInRange item.now }
         requires few { (self.old.sums.count < 2 ^ 20) × (self.old.notes.count < 2 ^ 20) }
         ensures value { (is_front : Bool) → view self.new
-            ≡ walk_item (document galley.now style.now) room (view self.old)
+            ≡ walk_item (document galley.now style.now) room.now (view self.old)
             (record { place = at; item = item.now; is_front = is_front }) }
         ensures style { IsFor style.now self.new }
         ensures counts { (self.new.sums.count ≡ self.old.sums.count + 1)
@@ -107,12 +107,12 @@ impl Walked {
         &self,
         galley: &Galley,
         style: &Style,
-        room: i64,
+        room: &TextRoom,
         to: Place,
         is_loose: bool,
     ) -> Result<TextCost, u8>
-        requires { nat_abs room < 2 ^ 40 }
-        ensures { result ≡ verdict_of (document galley.now style.now) room is_loose to (view self.now) }
+        requires { IsRoom room.now }
+        ensures { result ≡ verdict_of (document galley.now style.now) room.now is_loose to (view self.now) }
     {
         let Some(penalty) = self.end_penalty(galley, to) else {
             return Err(TextRule::Shape.number());
@@ -141,8 +141,8 @@ fn is_tolerable(galley: &Galley, style: &Style, to: Place, badness: u16) -> bool
 }
 
 // Whether the room is at least the style's least.
-fn has_room(style: &Style, room: i64) -> bool
-    ensures { result ≡ int_le style.now.min_text room }
+fn has_room(style: &Style, room: &TextRoom) -> bool
+    ensures { result ≡ int_le style.now.min_text room.now.size }
 {
-    i64::from(style.min_text) <= room
+    i64::from(style.min_text) <= room.size
 }

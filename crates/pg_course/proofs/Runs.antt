@@ -170,6 +170,30 @@ styled (Some held) chosen style name product wrap old new says h =
     subst (λ (said : Result StyleValue Stop).
     BeginsBy (StyledCourse product said (opened name wrap (held name))) old new) (sym says) h
 
+ended : (told : Option Held) (chosen : StyleName) (style : StyleValue) (name : List ℕ) (product : Product)
+    (wrap : Option ℕ) (old new : Sent) (status : Status) (line : List ℕ) →
+    IfSome told (λ held. opened_style chosen held ≡ Ok style) →
+    IfSome told (λ held. EndsBy (RunCourse product style (opened name wrap (held name))) old new status line) →
+    IfSome told (λ held.
+    EndsBy (StyledCourse product (opened_style chosen held) (opened name wrap (held name))) old new status line)
+ended None chosen style name product wrap old new status line says h = tt
+ended (Some held) chosen style name product wrap old new status line says h =
+    subst (λ (said : Result StyleValue Stop).
+    EndsBy (StyledCourse product said (opened name wrap (held name))) old new status line) (sym says) h
+
+-- the style of a file, and a galley whose text was written
+pub styled_ends : (told mid : Option Held) (chosen : StyleName) (style : StyleValue) (name : List ℕ)
+    (product : Product) (wrap : Option ℕ) (old new : Sent) (status : Status) (line : List ℕ) →
+    IfSome told (λ held. opened_style chosen held ≡ Ok style) → mid ≡ told →
+    OnSettled status (IfSome mid (λ held.
+    EndsBy (RunCourse product style (opened name wrap (held name))) old new status line)) →
+    OnSettled status (IfSome told (λ held.
+    EndsBy (StyledCourse product (opened_style chosen held) (opened name wrap (held name))) old new status line))
+styled_ends told mid chosen style name product wrap old new status line says same h =
+    on_settled status (λ all. ended told chosen style name product wrap old new status line says
+    (subst (λ (t : Option Held). IfSome t (λ held.
+    EndsBy (RunCourse product style (opened name wrap (held name))) old new status line)) same all)) h
+
 -- the style of a file, and a galley of whose text a front was written
 pub styled_begins : (told mid : Option Held) (chosen : StyleName) (style : StyleValue) (name : List ℕ)
     (product : Product) (wrap : Option ℕ) (old new : Sent) (status : Status) →

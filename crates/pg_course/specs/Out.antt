@@ -1,5 +1,5 @@
 -- What is written for a galley.
-use Rattle.std.specs.Prelude.{◌≡◌, ◌==◌, ℕ, Bool, true, false, List, ◌++◌}
+use Rattle.std.specs.Prelude.{◌≡◌, ◌==◌, ℕ, Bool, true, false, not, List, ◌++◌}
 use Rattle.pg_list.specs.GalleyValue.{GalleyValue}
 use Rattle.pg_plan.specs.declared.pages.Pagination.{Pagination}
 use Rattle.pg_plan.specs.declared.states.Label.{Label}
@@ -37,9 +37,9 @@ Out galley style text Done = IsBestText galley style text
 Out galley style text NoLegal = IsNoneText galley style text
 Out galley style text end = ⊥
 
--- labels tell their fitness where the style has version 2
+-- labels tell their fitness from version 2 of a style on
 abbrev pub tells_fitness : StyleValue → Bool
-tells_fitness style = style.version == 2
+tells_fitness style = not (style.version == 1)
 
 -- that text with the text of the frontier's labels behind it
 pub record IsLabelledText (galley : GalleyValue) (style : StyleValue) (text : List ℕ) (end : Status) : Type 0 where

@@ -93,7 +93,7 @@ fn text_of(
 fn has_fitness(style: &Style) -> bool
     ensures { result ≡ tells_fitness style.now }
 {
-    style.version == 2
+    style.version != 1
 }
 
 // The text with that of the labels behind it.

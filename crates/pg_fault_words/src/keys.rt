@@ -9,11 +9,11 @@ pub struct Key {
 }
 
 /// All keys, table by table.
-pub const KEYS: [Key; 30] = [
+pub const KEYS: [Key; 31] = [
     Key {
         table: "",
         key: "version",
-        value: "1 or 2",
+        value: "1 to 3",
     },
     Key {
         table: "",
@@ -63,7 +63,12 @@ pub const KEYS: [Key; 30] = [
     Key {
         table: "",
         key: "fitness",
-        value: "version 2 alone: demerits",
+        value: "from version 2 on: demerits",
+    },
+    Key {
+        table: "",
+        key: "ragged",
+        value: "version 3 alone: dimension, above 0; may be missing",
     },
     Key {
         table: "",
@@ -93,7 +98,7 @@ pub const KEYS: [Key; 30] = [
     Key {
         table: "",
         key: "classes",
-        value: "array of up to 4 tables, 8 in version 2; may be missing",
+        value: "array of up to 4 tables, 8 from version 2 on; may be missing",
     },
     Key {
         table: "runs",
@@ -113,12 +118,12 @@ pub const KEYS: [Key; 30] = [
     Key {
         table: "area",
         key: "sep",
-        value: "dimension, not negative",
+        value: "gap, as `\"12.0\"` or, in version 3, `\"12.0 plus 1.0 minus 1.0\"`",
     },
     Key {
         table: "area",
         key: "gap",
-        value: "dimension, not negative",
+        value: "gap, as `\"12.0\"` or, in version 3, `\"12.0 plus 1.0 minus 1.0\"`",
     },
     Key {
         table: "float_column",
@@ -143,7 +148,7 @@ pub const KEYS: [Key; 30] = [
     Key {
         table: "classes",
         key: "skip",
-        value: "dimension, not negative",
+        value: "gap, as `\"12.0\"` or, in version 3, `\"12.0 plus 1.0 minus 1.0\"`",
     },
     Key {
         table: "classes",

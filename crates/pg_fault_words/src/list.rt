@@ -8,7 +8,7 @@ use pg_showbox::ListKind;
 const NO_LISTING: Row = Row {
     number: 1,
     cause: "no listing in the file (line 0)",
-    act: "There is no `\\showbox` of a vertical box in this log. Or the file is no log: is it the style?",
+    act: "There is no `\\showbox` of a vertical box in this log. Or the file is not a log: is it the style?",
 };
 
 const BAD_LINE: Row = Row {
@@ -29,7 +29,7 @@ const UNKNOWN_NODE: Row = Row {
 
 const BAD_NUMBER: Row = Row {
     number: 4,
-    cause: "a number is wanting",
+    cause: "a number is missing",
     act: "As with 2: the number may stand on the next line, where the log is wrapped.",
 };
 
@@ -66,11 +66,11 @@ const NEGATIVE_SIZE: Row = Row {
 
 const CHOICE_SHAPE: Row = Row {
     number: 10,
-    cause: "a marker out of place or of no such form, an item in front of the first version, a version that is \
-            none, or a choice that is not closed (told at the line that ends its listing; at the end of the file \
-            one line behind the last)",
+    cause: "a marker out of place or not of its form, an item in front of the first version, a version that does \
+            not begin with a box or rule or ends with what is discarded, or a choice that is not closed (told at \
+            the line that ends its listing; at the end of the file one line behind the last)",
     act: "Compare the markers with the section on choices in `docs/input.md`. A `\\special` within a \
-          paragraph is no marker: write them between paragraphs.",
+          paragraph is not a marker: write them between paragraphs.",
 };
 
 const CHOICE_INSERTS: Row = Row {

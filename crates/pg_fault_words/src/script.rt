@@ -10,7 +10,7 @@ const UNKNOWN_WORD: Row = Row {
 
 const BAD_NUMBER: Row = Row {
     number: 2,
-    cause: "There are too few words or too many, or one is no number of the stated form.",
+    cause: "There are too few words or too many, or one is not a number of the stated form.",
     act: "Look for two blanks in a row, and for one at the end of the line.",
 };
 

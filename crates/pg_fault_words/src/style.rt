@@ -7,7 +7,7 @@ use pg_stylefile::StyleKind;
 
 const TOML: Row = Row {
     number: 1,
-    cause: "The text is no TOML, or no UTF-8. There is no key, and `-` is printed. A whole number beyond 64 \
+    cause: "The text is not TOML, or not UTF-8. There is no key, and `-` is printed. A whole number beyond 64 \
             bits and a key that stands twice are faults of this kind.",
     act: "Any reader of TOML names the line. Or the names stand the wrong way round: the style comes before the \
           galley.",
@@ -24,20 +24,21 @@ const UNKNOWN_KEY: Row = Row {
     number: 3,
     cause: "A key that the table does not know.",
     act: "Look for a slip in its name, for a key that stands below the wrong `[table]`, for `fitness` in a \
-          style of version 1, or for a key of notes in a class of floats.",
+          style of version 1, for `ragged` in one of version 1 or 2, or for a key of notes in a class of floats.",
 };
 
 const WRONG_KIND: Row = Row {
     number: 4,
-    cause: "A value of another kind: no whole number, no dimension, none of the words, no table, no array, or \
-            an array with an element that should be a table or a whole number and is none.",
+    cause: "A value of another kind: not a whole number, not a dimension, not one of the words, not a table, not an \
+            array, or an array with an element that should be a table or a whole number and is not.",
     act: "A dimension is a string with a point and no unit, `\"58.0\"`; a whole number stands without quotes; \
           `runs` and `classes` are `[[runs]]` and `[[classes]]`.",
 };
 
 const OUT_OF_RANGE: Row = Row {
     number: 5,
-    cause: "A value out of range: a number, a dimension (`\"16384.0\"` too), or how many elements an array has.",
+    cause: "A value out of range: a number, a dimension (`\"16384.0\"` too), a part of a gap, a gap that is shrunk \
+            by more than its size, or how many elements an array has.",
     act: "`docs/input.md` tells the range of each key. At `runs[N].extra` the sum with `height` counts, too.",
 };
 

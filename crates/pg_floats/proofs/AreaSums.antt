@@ -19,7 +19,7 @@ use Rattle.pg_rules.specs.Floats.{entry, dealt_from, dealt, has_all_from, has_al
 use Rattle.pg_rules.specs.Floats.{float_numbers, floats}
 use Rattle.pg_floats.specs.declared.area.Dealt.{Dealt}
 use Rattle.pg_floats.specs.declared.callouts.Callout.{Callout}
-use Rattle.pg_floats.specs.AreFloats.{AreFloats, height_of}
+use Rattle.pg_floats.specs.AreFloats.{AreFloats, count_of, height_of}
 use Rattle.pg_floats.specs.Areas.{sizes_together, next_of, has_next, has_dealt, dealt_count, dealt_sizes, area_size}
 use Rattle.pg_floats.specs.Areas.{IsDealt}
 use Rattle.pg_floats.specs.Callouts.{callouts_from, class_floats, no_barrier}
@@ -161,13 +161,13 @@ its_height_is : (rule : AreaRuleValue) → IsAreaRule rule → (callouts : List 
     area_height rule (map size_of callouts) ≡ pos (area_size rule (length callouts) (sizes_together callouts))
 its_height_is rule is [] = refl
 its_height_is rule is (c ∷ callouts) =
-    ap (λ n. (whole_sum_by (λ (z : ℤ). z) (map size_of (c ∷ callouts)) +ℤ (rule.sep *ℤ pos n)) +ℤ rule.gap)
+    ap (λ n. (whole_sum_by (λ (z : ℤ). z) (map size_of (c ∷ callouts)) +ℤ (rule.sep.size *ℤ pos n)) +ℤ rule.gap.size)
     (length-map callouts size_of)
-    ∙ (height_sum (whole_sum_by (λ (z : ℤ). z) (map size_of (c ∷ callouts))) rule.sep rule.gap (length callouts)
-    (sizes_together (c ∷ callouts)) (sum_is (c ∷ callouts)) is.sep_in.0 is.gap_in.0
+    ∙ (height_sum (whole_sum_by (λ (z : ℤ). z) (map size_of (c ∷ callouts))) rule.sep.size rule.gap.size (length callouts)
+    (sizes_together (c ∷ callouts)) (sum_is (c ∷ callouts)) is.sep_in.size_in.0 is.gap_in.size_in.0
     ∙ some (length callouts) (sizes_together (c ∷ callouts)))
   where
-    some : (n m : ℕ) → pos ((m + unsigned_abs rule.sep * n) + unsigned_abs rule.gap)
+    some : (n m : ℕ) → pos ((m + unsigned_abs rule.sep.size * n) + unsigned_abs rule.gap.size)
         ≡ pos (area_size rule (suc n) m)
     some n m =
         let t : (suc n == 0) ≡ false = grind (arith, nat_tests) in
@@ -207,6 +207,31 @@ area_some blocks style list rule placed counts it are range is =
     ∙ ap (λ m. pos (area_size rule it.count m)) (sym (is.sizes_is ∙ sizes_are 0 list placed counts))))) in
     ap Some (sym height) ∙ ap
     (λ b. if b then Some (area_height rule (dealt (floats blocks style) placed counts)) else None) (sym there)
+
+pub count_none : (blocks : List Block) (style : StyleValue) (list : List ClassFloatsValue) (placed counts : List ℕ) →
+    AreFloats blocks style list → has_dealt 0 list placed counts ≡ false →
+    None ≡ count_of (floats blocks style) placed counts
+count_none blocks style list placed counts are e =
+    let none : has_all (floats blocks style) placed counts ≡ false =
+    ap (λ (xs : List (List ℤ)). has_all xs placed counts) (all_there blocks style list are)
+    ∙ (sym (all_is 0 list placed counts) ∙ e) in
+    ap (λ b. if b then Some (length (dealt (floats blocks style) placed counts)) else None) (sym none)
+
+pub count_some : (blocks : List Block) (style : StyleValue) (list : List ClassFloatsValue) (placed counts : List ℕ)
+    (it : Dealt) → AreFloats blocks style list → IsDealt list placed counts it →
+    Some it.count ≡ count_of (floats blocks style) placed counts
+count_some blocks style list placed counts it are is =
+    let whole = all_there blocks style list are in
+    let there : has_all (floats blocks style) placed counts ≡ true =
+    ap (λ (xs : List (List ℤ)). has_all xs placed counts) whole
+    ∙ (sym (all_is 0 list placed counts) ∙ is.there) in
+    let long : length (dealt (floats blocks style) placed counts) ≡ it.count =
+    ap (λ (xs : List (List ℤ)). length (dealt xs placed counts)) whole
+    ∙ (ap length (dealt_is 0 list placed counts)
+    ∙ (length-map (dealt_callouts 0 list placed counts) size_of
+    ∙ sym (is.count_is ∙ the_count_is 0 list placed counts))) in
+    ap Some (sym long)
+    ∙ ap (λ b. if b then Some (length (dealt (floats blocks style) placed counts)) else None) (sym there)
 
 pub dealt_end : (all rest : List ClassFloatsValue) (slot : ℕ) (placed counts : List ℕ) (it : Dealt) →
     length rest < 1 → total_of all ≤ 2 ^ 12 →

@@ -7,8 +7,9 @@ use Rattle.std.proofs.lemmas.List.Sums.{sum_by-cons}
 use Rattle.pg_lemmas.proofs.Bools.{both_of, both_ways, or_cases}
 use Rattle.pg_list.specs.declared.blocks.Block.{Block}
 use Rattle.pg_style.specs.Values.{AreaRuleValue, StyleValue}
-use Rattle.pg_rules.specs.Floats.{area_height, dealt, dealt_from, entry, floats, has_all, has_all_from, plus_counts, slots}
-use Rattle.pg_rules.specs.Room.{checked_height}
+use Rattle.pg_style.specs.declared.style.Gap.{Gap}
+use Rattle.pg_rules.specs.Floats.{area_give, area_height, dealt, dealt_from, entry, floats, has_all, has_all_from, plus_counts, slots}
+use Rattle.pg_rules.specs.Room.{checked_give, checked_height}
 use Rattle.pg_floats.specs.AreFloats.{float_total}
 use Rattle.pg_floats.specs.Counts.{cap, capped, capped_sum}
 
@@ -103,3 +104,18 @@ height_capped lists allowed rule before counts few =
     by false b e = refl
     by true false e = refl
     by true true e = ap (area_height rule) (dealt_capped 0 lists before counts few e)
+
+pub give_capped : (part : Gap → ℤ) (lists : List (List ℤ)) (allowed : Bool) (rule : AreaRuleValue) (before counts : List ℕ) →
+    AreFew lists →
+    checked_give part lists allowed rule (capped before) counts ≡ checked_give part lists allowed rule before counts
+give_capped part lists allowed rule before counts few =
+    ap (λ (b : Bool). if allowed && b then area_give part rule (length (dealt lists (capped before) counts)) else pos 0)
+    (has_all_capped 0 lists before counts few)
+    ∙ by allowed (has_all lists before counts) refl
+  where
+    by : (a b : Bool) → has_all lists before counts ≡ b →
+        (if a && b then area_give part rule (length (dealt lists (capped before) counts)) else pos 0)
+        ≡ (if a && b then area_give part rule (length (dealt lists before counts)) else pos 0)
+    by false b e = refl
+    by true false e = refl
+    by true true e = ap (λ (sizes : List ℤ). area_give part rule (length sizes)) (dealt_capped 0 lists before counts few e)

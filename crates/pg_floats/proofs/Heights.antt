@@ -12,9 +12,11 @@ use Rattle.pg_list.specs.Flat.{flat}
 use Rattle.pg_style.specs.Ranges.{IsAreaRule}
 use Rattle.pg_style.specs.Values.{AreaRuleValue, StyleValue}
 use Rattle.pg_style.specs.declared.style.Area.{Area}
-use Rattle.pg_rules.specs.Floats.{area_height, dealt, entry, float_count, float_numbers, floats, has_all, is_area_allowed, sizes_of, total_count}
-use Rattle.pg_rules.specs.Room.{checked_height}
-use Rattle.law_columns.proofs.Areas.{area_range, dealt_long, dealt_range, floats_range}
+use Rattle.pg_style.specs.declared.style.Gap.{Gap}
+use Rattle.pg_rules.specs.Floats.{area_give, area_height, dealt, entry, float_count, float_numbers, floats, has_all, is_area_allowed, sizes_of, total_count}
+use Rattle.pg_rules.specs.Room.{checked_give, checked_height}
+use Rattle.law_columns.proofs.Areas.{IsUpTo, area_range, dealt_long, dealt_range, floats_range}
+use Rattle.law_columns.proofs.Gives.{IsPart, give_range}
 use Rattle.law_columns.proofs.BoundCounts.{float_total}
 use Rattle.pg_floats.specs.AreFloats.{height_of}
 use Rattle.pg_floats.specs.Given.{IsAreaHeight}
@@ -53,6 +55,20 @@ module _ (blocks : List Block) (all : AllByRecursion IsBlock blocks) (style : St
           let r = area_range rule range (dealt (floats blocks style) placed counts)
           (dealt_range 0 (floats blocks style) placed counts (floats_range blocks (float_numbers style) all)) (f refl) in
           record { from = r.0; to = r.1 }
+
+  -- what the gaps of such an area give
+  pub is_give : (part : Gap → ℤ) → IsPart part → limit ≤ 4 → IsAreaRule rule →
+      IsUpTo 4294967292
+      (checked_give part (floats blocks style) (is_area_allowed style takes limit counts) rule placed counts)
+  is_give part sized h range = by (is_area_allowed style takes limit counts) (has_all (floats blocks style) placed counts)
+      (few_dealt h)
+    where
+      by : (a b : Bool) → (a ≡ true → length (dealt (floats blocks style) placed counts) ≤ 4) →
+          IsUpTo 4294967292
+          (if a && b then area_give part rule (length (dealt (floats blocks style) placed counts)) else pos 0)
+      by false b f = (omega (arith, ints), omega arith)
+      by true false f = (omega (arith, ints), omega arith)
+      by true true f = give_range part sized rule range (length (dealt (floats blocks style) placed counts)) (f refl)
 
 -- what a list of floats answers, or 0
 pub height_is : (lists : List (List ℤ)) (rule : AreaRuleValue) (placed counts : List ℕ) →

@@ -1,4 +1,5 @@
 pub mod AreaSums
+pub mod Gives
 pub mod Called
 mod Flushed
 pub mod Lists

@@ -59,3 +59,7 @@ float_size blocks style slot number =
 abbrev pub height_of : List (List ℤ) → AreaRuleValue → List ℕ → List ℕ → Option ℤ
 height_of floats rule placed counts =
     if has_all floats placed counts then Some (area_height rule (dealt floats placed counts)) else None
+
+-- how many floats are dealt out, where there are so many
+abbrev pub count_of : List (List ℤ) → List ℕ → List ℕ → Option ℕ
+count_of floats placed counts = if has_all floats placed counts then Some (length (dealt floats placed counts)) else None

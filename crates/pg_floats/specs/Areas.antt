@@ -55,4 +55,4 @@ pub record IsDealt (list : List ClassFloatsValue) (before counts : List ℕ) (de
 -- so many floats of these sizes together, with a separator between two, and a gap
 abbrev pub area_size : AreaRuleValue → ℕ → ℕ → ℕ
 area_size rule count sizes =
-    if count == 0 then 0 else ((sizes + unsigned_abs rule.sep * (count - 1)) + unsigned_abs rule.gap)
+    if count == 0 then 0 else ((sizes + unsigned_abs rule.sep.size * (count - 1)) + unsigned_abs rule.gap.size)

@@ -97,8 +97,8 @@ pub fn area_size(rule: &AreaRule, dealt: &Dealt) -> u64
     ensures size { result < 2 ^ 44 }
     ensures range { IsAreaRule rule.now }
 {
-    let sep = rule.sep.unsigned_abs() as u64;
-    let gap = rule.gap.unsigned_abs() as u64;
+    let sep = rule.sep.size.unsigned_abs() as u64;
+    let gap = rule.gap.size.unsigned_abs() as u64;
     if dealt.count == 0 {
         0
     } else {

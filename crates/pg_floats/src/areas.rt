@@ -4,14 +4,15 @@ ghost use Rattle.std.specs.Option.{option_map_or};
 ghost use Rattle.pg_list.specs.declared.blocks.Block.{Block as ABlock};
 ghost use Rattle.pg_style.specs.Ranges.{IsStyle};
 ghost use Rattle.pg_style.specs.Values.{StyleValue};
-ghost use Rattle.pg_rules.specs.Floats.{floats};
-ghost use Rattle.pg_rules.specs.Room.{checked_height, extra};
+ghost use Rattle.pg_rules.specs.Floats.{floats, gap_shrink, gap_stretch};
+ghost use Rattle.pg_rules.specs.Room.{checked_give as the_checked_give, checked_height, extra};
 ghost use Rattle.pg_floats.specs.AreFloats.{AreFloats};
 
 use crate::FloatList;
+use pg_column::area_give;
 use pg_plan::Counts;
 use pg_scaled::{plus, wide};
-use pg_style::{AreaRule, Run, Style};
+use pg_style::{AreaRule, Give, Run, Style};
 
 /// The height of an area with the next floats of each class; 0 where its counts are not allowed, or a float is not there.
 pub fn checked_area(
@@ -28,6 +29,30 @@ pub fn checked_area(
         return 0;
     }
     list.area(rule, placed, counts).unwrap_or(0)
+}
+
+/// What the gaps of an area with the next floats of each class give to the text beside it; nothing where its counts are
+/// not allowed, or a float is not there.
+pub fn checked_give(
+    list: &FloatList,
+    is_allowed: bool,
+    rule: &AreaRule,
+    placed: &Counts,
+    counts: &Counts,
+) -> Give
+    ensures stretch { (blocks : List ABlock) (style : StyleValue) → AreFloats blocks style list.now →
+        result.stretch ≡ the_checked_give gap_stretch (floats blocks style) is_allowed rule.now placed.now counts.now }
+    ensures shrink { (blocks : List ABlock) (style : StyleValue) → AreFloats blocks style list.now →
+        result.shrink ≡ the_checked_give gap_shrink (floats blocks style) is_allowed rule.now placed.now counts.now }
+    ensures size { (nat_abs result.stretch < 2 ^ 43) × (nat_abs result.shrink < 2 ^ 43) }
+{
+    if !is_allowed {
+        return Give::none();
+    }
+    match list.count(placed, counts) {
+        None => Give::none(),
+        Some(count) => area_give(rule, count),
+    }
 }
 
 // What a run adds to the height; 0 where there is no such run.

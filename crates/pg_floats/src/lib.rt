@@ -26,7 +26,7 @@ mod queue;
 mod remains;
 mod spot;
 
-pub use areas::{checked_area, full_height};
+pub use areas::{checked_area, checked_give, full_height};
 pub use callouts::first_items_of;
 pub use counts::{count_floats, entry, is_allowed, plus, total};
 pub use fault::FloatFault;

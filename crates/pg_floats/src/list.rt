@@ -17,7 +17,7 @@ ghost use Rattle.pg_floats.specs.Areas.{has_dealt, IsDealt};
 ghost use Rattle.pg_floats.specs.FloatsValue.{callout_at, AreKept, IsInRange, total_of};
 ghost use Rattle.pg_floats.specs.Callouts.{class_floats, lists_from, unknown_among, unknown_blocks};
 ghost use Rattle.pg_floats.specs.AreFloats.{AreFloats, HasFloats, IsWithinLimit, MakesList, unknown_class};
-ghost use Rattle.pg_floats.specs.AreFloats.{float_size, float_total, height_of};
+ghost use Rattle.pg_floats.specs.AreFloats.{count_of as count_dealt, float_size, float_total, height_of};
 
 use crate::area::{Dealt, area_size, deal};
 use crate::callouts::{Callout, Callouts, callouts_of, first_items_of};
@@ -355,6 +355,18 @@ impl FloatList {
             (IsDealt self.now placed.now counts.now) }
     {
         deal(self.classes.as_slice(), placed, counts)
+    }
+
+    /// How many floats counts deal out behind those that are placed. None exactly where a class has not so many.
+    pub fn count(&self, placed: &Counts, counts: &Counts) -> Option<u32>
+        ensures value { (blocks : List ABlock) (style : StyleValue) → AreFloats blocks style self.now →
+            result ≡ count_dealt (floats blocks style) placed.now counts.now }
+        ensures few { IfSome result (λ count. count ≤ 2 ^ 12) }
+    {
+        match self.dealt(placed, counts) {
+            None => None,
+            Some(dealt) => Some(dealt.count as u32),
+        }
     }
 
     /// The height of an area that takes the next floats of each class by counts, behind those that are placed, in

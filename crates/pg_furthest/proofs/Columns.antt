@@ -1,6 +1,7 @@
 -- The columns of a label's run.
-use Rattle.std.proofs.Common.{◌≡◌, refl, sym, subst, ◌<◌, ◌≤◌, ◌^◌, ℕ, List, [], ◌∷◌, length, arith}
+use Rattle.std.proofs.Common.{◌≡◌, refl, sym, subst, true, ◌<◌, ◌≤◌, ◌^◌, ℕ, List, [], ◌∷◌, length, arith}
 use Rattle.std.proofs.lemmas.Option.{slice_get_within}
+use Rattle.pg_lemmas.proofs.Lists.{some_at}
 use Rattle.std.specs.Prelude.{Option, Some, None, IfSome, IfNone, slice_get, ℤ}
 use Rattle.pg_list.specs.GalleyValue.{GalleyValue}
 use Rattle.pg_plan.specs.declared.pages.PageMove.{PageMove}
@@ -20,11 +21,11 @@ use Rattle.law_space.specs.PageSpace.{page_meaning, wide_meaning}
 use Rattle.law_space.specs.SpaceLaws.{IsBeginningOf, TellsAll}
 use Rattle.law_space.proofs.Bounds.{moves}
 use Rattle.law_space.proofs.SpaceContracts.{runs_are_beginnings}
-use Rattle.pg_table.specs.Label.{IsBestOf, IsTable, NoneDone, RunOf}
+use Rattle.pg_table.specs.Label.{IsBestOf, IsLabel, IsTable, NoneDone, RunOf}
 use Rattle.pg_table.specs.Space.{Run}
 use Rattle.pg_table.specs.declared.table.Entry.{Entry}
 use Rattle.pg_table.proofs.Lists.{contains_at}
-use Rattle.pg_furthest.specs.Pages.{AreColumns, TellsBest}
+use Rattle.pg_furthest.specs.Pages.{AreColumns, IsBestLabel, TellsBest, TellsLegal}
 use Rattle.pg_furthest.proofs.Furthest.{label_wide}
 
 -- what a table says of its best label
@@ -36,6 +37,15 @@ told g s labels (Some at) all some none = record {
   within = slice_get_within labels at some.entry some.is;
   best = λ label ms is of. all.best at label ms some is of;
 }
+
+-- where a label is best, something is legal
+pub best_legal : (g : GalleyValue) (s : StyleValue) (labels : List (Entry State PageMove)) (at : ℕ) →
+    IsTable (page_meaning (document g s)) labels → IsBestLabel g s labels at → TellsLegal g s true
+best_legal g s labels at table best =
+    let label = some_at labels at best.within in
+    let own : IsLabel (page_meaning (document g s)) labels label.0 =
+    table.labels label.0 (contains_at labels at label.0 label.1) in
+    (plan_of s own.moves, (best.best label.0 own.moves label.1 own.run_of).0.legal)
 
 module _ (g : GalleyValue) (s : StyleValue) (range : AreInRange g s) where
   -- a run has fewer columns than its weight

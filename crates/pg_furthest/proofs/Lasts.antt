@@ -1,10 +1,10 @@
 -- The last of labels, one more at a time.
 use Rattle.std.proofs.Common.{◌≡◌, refl, sym, ap, subst, ◌∙◌, ◌⊎◌, inl, inr, ℕ, ◌+◌, ◌<◌, List, length, true, false, Bool, arith}
 use Rattle.std.specs.Prelude.{Some, slice_get}
-use Rattle.std.specs.Ordering.{is_lt, nat_cmp}
+use Rattle.std.specs.Ordering.{is_lt}
 use Rattle.std.specs.declared.cmp.Ordering.{Ordering}
 use Rattle.std.specs.declared.cmp.Ordering.TheVariants.{Less, Equal, Greater}
-use Rattle.std.proofs.lemmas.Cmp.{by_ranked, ranked, tied_itself}
+use Rattle.std.proofs.lemmas.Cmp.{tied_itself}
 use Rattle.std.proofs.lemmas.Option.{same_Some}
 use Rattle.pg_lemmas.proofs.Lists.{some_at}
 use Rattle.pg_lemmas.proofs.Orders.{lt_less}
@@ -14,6 +14,7 @@ use Rattle.pg_plan.specs.declared.pages.PageMove.{PageMove}
 use Rattle.pg_plan.specs.declared.states.State.{State}
 use Rattle.pg_table.specs.declared.table.Entry.{Entry}
 use Rattle.law_columns.proofs.Order.{place_total}
+use Rattle.pg_alone.proofs.Finding.{split}
 use Rattle.pg_furthest.specs.Furthest.{IsLastAmong, is_before}
 
 behind : (a b c : Place) → is_lt (place_cmp a b) ≡ true → is_lt (place_cmp a c) ≡ false →
@@ -37,10 +38,6 @@ first_last labels a b i first at within =
     let e : i ≡ 0 = omega arith in
     subst (λ (x : Entry State PageMove). is_before a x ≡ false)
     (same_Some a b (sym first ∙ subst (λ (k : ℕ). slice_get labels k ≡ Some b) e at)) (itself a.state.place)
-
-split : (i count : ℕ) → i < count + 1 → (i < count) ⊎ (i ≡ count)
-split i count h = by_ranked (i < count) (i ≡ count) (count < i) (nat_cmp i count)
-    (ranked i count (nat_cmp i count) refl) (λ _ p. inl p) (λ _ p. inr p) (λ _ p. absurd (omega arith))
 
 -- what a code said of two labels
 abbrev Said : List (Entry State PageMove) → ℕ → ℕ → Bool → Type 0

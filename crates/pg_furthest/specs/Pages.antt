@@ -1,5 +1,5 @@
 -- The best pagination that labels tell, with what its columns add to the cost.
-use Rattle.std.specs.Prelude.{◌≡◌, ◌<◌, ◌^◌, ℕ, List, length, reverse, slice_get, Option, Some, None}
+use Rattle.std.specs.Prelude.{◌≡◌, ◌<◌, ◌^◌, ℕ, Bool, true, false, List, length, reverse, slice_get, Option, Some, None}
 use Rattle.pg_list.specs.GalleyValue.{GalleyValue}
 use Rattle.pg_plan.specs.Order.{columns}
 use Rattle.pg_plan.specs.declared.pages.PageMove.{PageMove}
@@ -46,3 +46,8 @@ pub record IsBestPages (galley : GalleyValue) (style : StyleValue) (pages : Best
 abbrev pub TellsBestPages : GalleyValue → StyleValue → Option BestPages → Type 0
 TellsBestPages galley style None = (plan : Pagination) → Legal galley style plan → ⊥
 TellsBestPages galley style (Some pages) = IsBestPages galley style pages
+
+-- whether some pagination is legal
+abbrev pub TellsLegal : GalleyValue → StyleValue → Bool → Type 0
+TellsLegal galley style true = (plan : Pagination) × Legal galley style plan
+TellsLegal galley style false = (plan : Pagination) → Legal galley style plan → ⊥

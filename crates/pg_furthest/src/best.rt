@@ -47,8 +47,8 @@ fn best_of(space: &PageSpace<'_>, table: &Table<SmallState, SmallMove, PageKey>)
     table.best(space)
 }
 
-// The label of the best pagination. None where no pagination is legal.
-fn best_in(
+/// The label of the best pagination. None where no pagination is legal.
+pub fn best_in(
     alloc: Global,
     galley: &Galley,
     style: &Style,

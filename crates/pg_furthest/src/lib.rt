@@ -10,11 +10,13 @@
 mod best;
 mod last;
 mod laws;
+mod legal;
 mod search;
 mod standing;
 mod telling;
 
 pub use best::BestPages;
 pub use laws::{beginnings_of_labels, columns_of_labels, none_leads_on};
+pub use legal::has_pages;
 pub use search::Search;
 pub use standing::Standing;

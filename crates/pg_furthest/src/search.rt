@@ -1,6 +1,7 @@
 //! A galley under a style with the labels of all its pages.
 ghost use Rattle.std.specs.Prelude.{◌≡◌, ◌<◌, ◌+◌, IfOk, OnOk, length};
 ghost use Rattle.pg_alone.specs.Alone.{FindsAlone};
+ghost use Rattle.pg_alone.specs.Notes.{high_note as high_note_of};
 ghost use Rattle.pg_floats.specs.AreFloats.{AreFloats};
 ghost use Rattle.pg_hops.specs.Index.{AreHops};
 ghost use Rattle.pg_rules.specs.Legal.{document};
@@ -13,7 +14,7 @@ ghost use Rattle.pg_furthest.specs.Searches.{MakesSearch};
 
 use crate::best::{BestPages, pages_in};
 use crate::telling::{beginning_in, furthest_in};
-use pg_alone::{Alone, first_alone};
+use pg_alone::{Alone, HighNote, first_alone, high_note};
 use pg_floats::{FloatFault, FloatList};
 use pg_hops::BreakIndex;
 use pg_list::Galley;
@@ -46,16 +47,16 @@ impl Model for Search {
     ghost invariant = { λ a. IsSearch a.galley a.style a.floats a.table };
 }
 
-// What the types of a galley and of a style keep.
-fn stay_in_range(galley: &Galley, style: &Style)
+/// What the types of a galley and of a style keep.
+pub fn stay_in_range(galley: &Galley, style: &Style)
     ensures { AreInRange galley.now style.now }
 {
     style.stays_in_range();
     let _ = galley.blocks().as_slice();
 }
 
-// The labels of a galley's pages.
-fn labels_of<L: Ledger>(
+/// The labels of a galley's pages.
+pub fn labels_of<L: Ledger>(
     alloc: Global,
     galley: &Galley,
     style: &Style,
@@ -140,6 +141,14 @@ impl Search {
         ensures { FindsAlone self.now.galley self.now.style result }
     {
         first_alone(&self.galley, &self.style, &self.floats)
+    }
+
+    /// The first note that is above the limit of its class, if there is one: then nothing is legal while it stands there.
+    /// No memory is taken.
+    pub fn high_note(&self) -> Option<HighNote>
+        ensures { result ≡ high_note_of self.now.galley self.now.style }
+    {
+        high_note(&self.galley, &self.style)
     }
 
     /// The label that stands furthest: a beginning ends at its place, and none behind it. No memory is taken.

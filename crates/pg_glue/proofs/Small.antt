@@ -32,28 +32,28 @@ floor_small : (z : ℤ) (d : ℕ) → nat_abs (floor_by z d) ≤ nat_abs z + 1
 floor_small (pos n) d = let k = div-le_self n d in omega (arith, k)
 floor_small (negsuc n) d = let k = div-le_self n d in omega (arith, k)
 
-share_small : (excess sum part : ℤ) → nat_abs excess < 2 ^ 52 → nat_abs part ≤ 2 ^ 50 →
-    nat_abs (share excess sum part) ≤ 2 ^ 102 + 1
+share_small : (excess sum part : ℤ) → nat_abs excess < 2 ^ 52 → nat_abs part ≤ 2 ^ 51 →
+    nat_abs (share excess sum part) ≤ 2 ^ 103 + 1
 share_small excess (negsuc s) part h k = omega arith
 share_small excess (pos s) part h k = by (s == 0)
   where
-    product : nat_abs (excess *ℤ part) ≤ 2 ^ 102
+    product : nat_abs (excess *ℤ part) ≤ 2 ^ 103
     product =
         let small : nat_abs excess ≤ 2 ^ 52 = omega (arith, h) in
         let both = mul-le-mul small k in
         omega (arith, unsigned_abs-mul excess part, both)
 
-    by : (b : Bool) → nat_abs (if b then pos 0 else floor_by (excess *ℤ part) s) ≤ 2 ^ 102 + 1
+    by : (b : Bool) → nat_abs (if b then pos 0 else floor_by (excess *ℤ part) s) ≤ 2 ^ 103 + 1
     by true = omega arith
     by false = let f = floor_small (excess *ℤ part) s in omega (arith, f, product)
 
-width_small : (sense : Sense) (w a b : ℤ) → nat_abs w < 2 ^ 30 → nat_abs a ≤ 2 ^ 102 + 1 → nat_abs b ≤ 2 ^ 102 + 1 →
+width_small : (sense : Sense) (w a b : ℤ) → nat_abs w < 2 ^ 30 → nat_abs a ≤ 2 ^ 103 + 1 → nat_abs b ≤ 2 ^ 103 + 1 →
     IsPrintable (set_width sense w (a -ℤ b))
 width_small Stretch w a b h k l = (omega (arith, ints, h, k, l), omega (arith, ints, h, k, l))
 width_small Shrink w a b h k l = (omega (arith, ints, h, k, l), omega (arith, ints, h, k, l))
 
 pub widths_small : (sense : Sense) (excess : ℤ) (order : Order) (sum : ℤ) (front list : List Elastic) →
-    nat_abs excess < 2 ^ 52 → length front + length list ≤ 2 ^ 20 → AllByRecursion IsEntry front →
+    nat_abs excess < 2 ^ 52 → length front + length list ≤ 2 ^ 21 → AllByRecursion IsEntry front →
     AllByRecursion IsEntry list → AllByRecursion IsPrintable (widths_from sense excess order sum front list)
 widths_small sense excess order sum front [] h few all more = tt
 widths_small sense excess order sum front (entry ∷ list) h few all more =

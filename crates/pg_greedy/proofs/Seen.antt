@@ -1,17 +1,22 @@
 -- What a look at one break finds.
-use Rattle.std.proofs.Common.{◌≡◌, ◌∙◌, refl, sym, ap, ap₂, ℕ, ◌+◌, Bool, true, false, List, take, length, Option, Some, None, pos, negsuc}
-use Rattle.std.specs.Prelude.{◌==◌, ◌&&◌, ◌||◌, if◌then◌else◌, is_some, unwrap_or, ℤ, int_le}
+use Rattle.std.proofs.Common.{◌≡◌, ◌∙◌, refl, sym, ap, ap₂, ℕ, suc, ◌+◌, Bool, true, false, List, take, length, Option, Some, None, pos, negsuc}
+use Rattle.std.specs.Prelude.{◌==◌, ◌&&◌, ◌||◌, if◌then◌else◌, is_some, unwrap_or, ℤ, ◌+ℤ◌, int_le}
 use Rattle.std.specs.List.{list_any}
 use Rattle.pg_lemmas.proofs.Bools.{both, if_false, if_true}
 use Rattle.pg_lemmas.proofs.Numbers.{eq_yes}
 use Rattle.pg_list.specs.Shapes.{is_box}
 use Rattle.pg_list.specs.declared.item.Item.{Item}
-use Rattle.pg_list.specs.Badness.{is_over, page_badness}
+use Rattle.pg_list.specs.Badness.{fill_badness, has_infinite, is_over}
 use Rattle.pg_list.specs.Break.{break_penalty, is_spent}
-use Rattle.pg_list.specs.Totals.{shrink}
+use Rattle.pg_list.specs.Totals.{shrink, stretch}
+use Rattle.pg_list.specs.declared.item.Order.TheVariants.{Finite}
 use Rattle.pg_style.specs.Values.{StyleValue}
+use Rattle.pg_style.specs.declared.style.Give.{Give}
+use Rattle.pg_rules.specs.Floats.{gap_shrink, gap_stretch}
+use Rattle.pg_rules.specs.Room.{skips_give}
+use Rattle.pg_greedy.proofs.Costs.{badness_same, cost_same, over_same, stops_same}
 use Rattle.pg_greedy.specs.Ahead.{better, look}
-use Rattle.pg_greedy.specs.Breaks.{badness_at, break_cost, cost_by, front, front_goal, front_total, is_over_at, is_seen, penalty_at, stops_at}
+use Rattle.pg_greedy.specs.Breaks.{badness_at, break_cost, cost_by, front, front_goal, front_shrink, front_stretch, front_total, is_over_at, is_seen, penalty_at, stops_at}
 use Rattle.pg_greedy.specs.Looking.{IsLook, IsPriced, counted, judged_at, seen_penalty}
 use Rattle.pg_greedy.specs.declared.judged.Judged.{Judged}
 use Rattle.pg_greedy.specs.declared.look.Candidate.{Candidate}
@@ -76,22 +81,32 @@ module _ (style : StyleValue) (items : List Item) (k : ℕ) where
   pub judged_unseen : None ≡ seen_penalty items k → None ≡ judged_at style items k
   judged_unseen e = judged_none (ap (λ b. b && list_any is_box (take k items)) (unseen items k (sym e)))
 
-  pub judged_seen : (penalty goal : ℤ) (spent : Bool) (judged : Judged) → Some penalty ≡ seen_penalty items k →
-      list_any is_box (take k items) ≡ true → goal ≡ front_goal style items k → spent ≡ is_spent items k →
-      judged.cost ≡ cost_by (is_over (front_total style items k) (shrink (front items k)) goal) penalty
-      (page_badness spent goal (front_total style items k) (front items k)) →
-      judged.stops
-      ≡ (is_over (front_total style items k) (shrink (front items k)) goal || int_le penalty (negsuc 9999)) →
+  pub judged_seen : (penalty goal : ℤ) (spent : Bool) (give : Give) (judged : Judged) →
+      Some penalty ≡ seen_penalty items k → list_any is_box (take k items) ≡ true → goal ≡ front_goal style items k →
+      spent ≡ is_spent items k → give.stretch ≡ skips_give gap_stretch style (front items k) →
+      give.shrink ≡ skips_give gap_shrink style (front items k) →
+      judged.cost ≡ cost_by (is_over (front_total style items k) (shrink (front items k) +ℤ give.shrink) goal) penalty
+      (fill_badness spent goal (front_total style items k) (has_infinite (front items k))
+      (stretch Finite (front items k) +ℤ give.stretch) (shrink (front items k) +ℤ give.shrink)) →
+      judged.stops ≡ (is_over (front_total style items k) (shrink (front items k) +ℤ give.shrink) goal
+      || int_le penalty (negsuc 9999)) →
       Some judged ≡ judged_at style items k
-  judged_seen penalty goal spent judged e box g s cost stops =
+  judged_seen penalty goal spent give judged e box g s m l cost stops =
       let it = is_break items k penalty (sym e) in
-      let cost_is : judged.cost ≡ break_cost style items k = cost
-      ∙ (ap₂ (λ z t. cost_by (is_over (front_total style items k) (shrink (front items k)) z) penalty
-      (page_badness t z (front_total style items k) (front items k))) g s
-      ∙ ap (λ z. cost_by (is_over_at style items k) z (badness_at style items k)) it.penalty_is) in
-      let stops_is : judged.stops ≡ stops_at style items k = stops
-      ∙ ap₂ (λ z p. is_over (front_total style items k) (shrink (front items k)) z || int_le p
-      (negsuc 9999)) g it.penalty_is in
+      let whole = front_total style items k in
+      let more : (stretch Finite (front items k) +ℤ give.stretch) ≡ front_stretch style items k =
+      ap (λ (z : ℤ). stretch Finite (front items k) +ℤ z) m in
+      let less : (shrink (front items k) +ℤ give.shrink) ≡ front_shrink style items k =
+      ap (λ (z : ℤ). shrink (front items k) +ℤ z) l in
+      let over = over_same whole less g in
+      let bad : fill_badness spent goal whole (has_infinite (front items k))
+      (stretch Finite (front items k) +ℤ give.stretch) (shrink (front items k) +ℤ give.shrink)
+      ≡ badness_at style items k =
+      badness_same spent whole (has_infinite (front items k)) g more less
+      ∙ ap (λ (t : Bool). fill_badness t (front_goal style items k) whole (has_infinite (front items k))
+      (front_stretch style items k) (front_shrink style items k)) s in
+      let cost_is : judged.cost ≡ break_cost style items k = cost ∙ cost_same over it.penalty_is bad in
+      let stops_is : judged.stops ≡ stops_at style items k = stops ∙ stops_same over it.penalty_is in
       ap₂ (λ c t. made c t) cost_is stops_is
       ∙ sym (if_true (is_seen items k) _ _
       (both (is_some (break_penalty items k)) (list_any is_box (take k items)) it.is_there box))
@@ -104,4 +119,37 @@ module _ (style : StyleValue) (items : List Item) (k : ℕ) where
     pub seen : is_seen items k ≡ true
     pub cost : judged.cost ≡ break_cost style items k
     pub stops : judged.stops ≡ stops_at style items k
-    -- ---- one step of the look
+
+  judged_is : (judged : Judged) → Some judged ≡ judged_at style items k → IsJudged judged
+  judged_is judged e = by (is_seen items k) refl e
+    where
+      here : Judged
+      here = record { cost = break_cost style items k; stops = stops_at style items k }
+
+      by : (b : Bool) → is_seen items k ≡ b → Some judged ≡ (if b then Some here else None) → IsJudged judged
+      by true seen same =
+          let is : judged ≡ here = ap (λ (o : Option Judged). unwrap_or o judged) same in
+          record { seen = seen; cost = ap (λ (it : Judged). it.cost) is; stops = ap (λ (it : Judged). it.stops) is }
+      by false seen same = absurd cc
+
+  -- ---- one step of the look
+
+  pub cost_told : (judged : Judged) → Some judged ≡ judged_at style items k → judged.cost ≡ break_cost style items k
+  cost_told judged e = (judged_is judged e).cost
+
+  pub look_ends : (best : Option Candidate) (judged : Judged) (count : ℕ) → Some judged ≡ judged_at style items k →
+      judged.stops ≡ true → count ≡ better style items (counted best) k → (n : ℕ) →
+      look style items k (suc n) (counted best) ≡ Some count
+  look_ends best judged count e stops is n =
+      let it = judged_is judged e in
+      if_true (is_seen items k) _ _ it.seen
+      ∙ (if_true (stops_at style items k) _ _ (sym it.stops ∙ stops) ∙ ap Some (sym is))
+
+  pub look_goes_on : (best : Option Candidate) (judged : Judged) (count : ℕ) → Some judged ≡ judged_at style items k →
+      judged.stops ≡ false → count ≡ better style items (counted best) k → (n : ℕ) →
+      look style items k (suc n) (counted best) ≡ look style items (k + 1) n (Some count)
+  look_goes_on best judged count e stops is n =
+      let it = judged_is judged e in
+      if_true (is_seen items k) _ _ it.seen
+      ∙ (if_false (stops_at style items k) _ _ (sym it.stops ∙ stops)
+      ∙ ap (λ (m : ℕ). look style items (k + 1) n (Some m)) (sym is))

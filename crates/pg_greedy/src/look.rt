@@ -110,8 +110,9 @@ impl<'a> Builder<'a> {
         }
         let penalty = self.penalty(from, read.count)?;
         let goal = minus(self.room, read.notes.height(self.style));
+        let give = read.notes.give(self.style);
         let is_spent = is_spent(self.galley, place_at(from + read.count));
-        Some(judge_break(&read.sums, goal, penalty, is_spent))
+        Some(judge_break(&read.sums, goal, &give, penalty, is_spent))
     }
 
     // Looks at the break behind the items read so far.

@@ -13,7 +13,7 @@ use Rattle.pg_list.specs.Break.{is_forcing}
 use Rattle.pg_list.specs.Flat.{FlatItem}
 use Rattle.pg_lemmas.proofs.Bools.{both_of, by_bool, if_true, not_true}
 use Rattle.pg_rules.specs.Room.{Document}
-use Rattle.pg_column.specs.Passed.{Passed, crossed, fits, least_room, note_height, pass_item, pass_items, raised, with_next}
+use Rattle.pg_column.specs.Passed.{Passed, crossed, fits, least_notes, least_room, pass_item, pass_items, raised, with_next}
 use Rattle.law_walk.specs.Reached.{reach_along}
 use Rattle.law_walk.specs.Walk.{past_stretch}
 use Rattle.law_walk.proofs.Stretches.{items_fit}
@@ -143,7 +143,7 @@ module _ (doc : Document) (top : ℤ) (from : Cursor) (p : Passed) (all : AllByR
   cross_asked highest s there shrink =
       let q = moved (over highest) s in
       let least : least_room doc.style q ≡ asked_before doc.style p +ℤ asked s =
-      least_asked p.totals.total p.totals.depth s.height (note_height doc.style p) p.totals.shrink s.shrink
+      least_asked p.totals.total p.totals.depth s.height (least_notes doc.style p) p.totals.shrink s.shrink
       (unwrap_or s.depth p.totals.depth) positive shrink
       ∙ ap (λ (e : ℤ). asked_before doc.style p +ℤ ((s.height -ℤ e) -ℤ s.shrink)) (hanging s.depth p.totals.depth there)
       in

@@ -2,13 +2,16 @@
 use Rattle.std.proofs.Common.{◌≡◌, refl, sym, ap, subst, ℕ, zero, suc, ◌+◌, ◌≤◌, List, [], ◌∷◌, arith, Bool, true, false, Option, Some, None, ℤ, pos, ◌+ℤ◌, ◌-ℤ◌}
 use Rattle.std.specs.Prelude.{◌==◌, if◌then◌else◌, max, nat_abs, set, slice_index_or, unsigned_abs}
 use Rattle.std.specs.Int.{int_min}
-use Rattle.std.specs.List.{position}
+use Rattle.std.specs.List.{AllByRecursion, position}
 use Rattle.std.specs.Option.{option_map_or}
 use Rattle.std.proofs.lemmas.Bool.Decides.{Decides-int_eq}
+use Rattle.std.proofs.lemmas.Int.{ints}
 use Rattle.pg_list.specs.declared.item.Item.{Item}
 use Rattle.pg_list.specs.declared.item.Item.TheVariants.{BoxItem, Rule, Glue, Kern, Penalty, Insert, Carry}
 use Rattle.pg_list.specs.Flat.{FlatItem}
+use Rattle.pg_style.specs.Ranges.{IsClass, IsGap, IsKind}
 use Rattle.pg_style.specs.declared.style.Class.{Class}
+use Rattle.pg_style.specs.declared.style.Gap.{Gap}
 use Rattle.pg_style.specs.declared.style.Kind.{Kind}
 use Rattle.pg_style.specs.declared.style.Kind.TheVariants.{Note, Float}
 use Rattle.pg_breaks.specs.Near.{place_forced}
@@ -16,7 +19,8 @@ use Rattle.pg_rules.specs.Room.{Document}
 use Rattle.pg_sums.specs.declared.totals.Totals.{Totals}
 use Rattle.pg_sums.specs.Step.{counted}
 use Rattle.pg_notes.specs.declared.sums.NoteSum.{NoteSum}
-use Rattle.pg_notes.specs.NotesValue.{heights, note_height as class_height}
+use Rattle.pg_rules.specs.Floats.{gap_shrink}
+use Rattle.pg_notes.specs.NotesValue.{heights, note_give, note_height as class_height, skips_by, smallest_by}
 use Rattle.pg_notes.specs.Step.{grown, no_note, with_insert, with_note}
 use Rattle.pg_column.specs.Passed.{Passed, fits, is_end_here, least_room, pass_items, raised}
 use Rattle.law_walk.specs.Reached.{quiet, reach_along}
@@ -31,7 +35,7 @@ use Rattle.pg_hops.proofs.Along.{last, over_none}
 grown_more : (kind : Kind) (size : ℕ) (sum : NoteSum) → class_height kind sum ≤ class_height kind (grown size sum)
 grown_more (Note skip limit) size sum = by sum.is_there
   where
-    by : (b : Bool) → (if b then unsigned_abs skip + sum.size else 0) ≤ unsigned_abs skip + (sum.size + size)
+    by : (b : Bool) → (if b then unsigned_abs skip.size + sum.size else 0) ≤ unsigned_abs skip.size + (sum.size + size)
     by true = omega arith
     by false = omega arith
 grown_more (Float area distance) size sum = omega arith
@@ -68,6 +72,33 @@ item_more classes sums (Penalty value body) = omega arith
 item_more classes sums (Insert number size body) = insert_more classes sums number (unsigned_abs size)
 item_more classes sums (Carry body) = omega arith
 
+-- ---- notes of no height have skips that give nothing
+
+rigid_none : (skip : Gap) (size : ℕ) → IsGap skip → unsigned_abs skip.size + size ≡ 0 → skip.shrink ≡ pos 0
+rigid_none skip size range e =
+    let low = range.shrink_from in
+    let high = range.shrink_to in
+    let from = range.size_in.0 in
+    omega (arith, ints, low, high, from, e)
+
+none_given : (kind : Kind) (sum : NoteSum) → IsKind kind → class_height kind sum ≡ 0 →
+    note_give gap_shrink kind sum ≡ pos 0
+none_given (Note skip limit) sum range e = by sum.is_there e
+  where
+    by : (b : Bool) → (if b then unsigned_abs skip.size + sum.size else 0) ≡ 0 → (if b then skip.shrink else pos 0) ≡ pos 0
+    by true e = rigid_none skip sum.size range.0 e
+    by false e = refl
+none_given (Float area distance) sum range e = refl
+
+none_give : (classes : List Class) (sums : List NoteSum) → AllByRecursion IsClass classes → heights classes sums ≡ 0 →
+    skips_by gap_shrink classes sums ≡ pos 0
+none_give [] sums all e = refl
+none_give (class ∷ classes) [] all e = refl
+none_give (class ∷ classes) (sum ∷ sums) all e =
+    let one = none_given class.kind sum all.0.kind_in (omega (arith, e)) in
+    let rest = none_give classes sums all.1 (omega (arith, e)) in
+    omega (arith, ints, one, rest)
+
 -- what was passed, of its parts
 abbrev parts : Totals → List NoteSum → Option ℤ → Passed
 parts totals notes bound = record { totals = totals; notes = notes; bound = bound }
@@ -78,7 +109,7 @@ then_more a b c h i = omega (arith, h, i)
 none_of : (a b : ℕ) → a ≤ b → b ≡ 0 → a ≡ 0
 none_of a b h e = omega (arith, h, e)
 
-module _ (doc : Document) (top : ℤ) where
+module _ (doc : Document) (top : ℤ) (ranged : AllByRecursion IsClass doc.style.classes) where
   -- the height of notes under the style
   abbrev high : List NoteSum → ℕ
   high notes = heights doc.style.classes notes
@@ -130,9 +161,9 @@ module _ (doc : Document) (top : ℤ) where
       raised bound (least_room (quiet doc).style (parts totals other bound))
       ≡ raised bound (least_room doc.style (parts totals notes bound))
   same_bound totals notes other bound e =
-      ap (λ (h : ℕ). raised bound
-      (int_min ((totals.total +ℤ pos h) +ℤ pos 1) ((totals.total +ℤ pos h) -ℤ totals.shrink)))
-      (sym e)
+      let given = none_give doc.style.classes notes ranged e in
+      let none : pos 0 ≡ smallest_by doc.style.classes notes = omega (arith, ints, e, given) in
+      ap (λ (h : ℤ). raised bound (int_min ((totals.total +ℤ h) +ℤ pos 1) ((totals.total +ℤ h) -ℤ totals.shrink))) none
 
   module _ (front : ℕ) where
     -- the greatest block from behind an item on

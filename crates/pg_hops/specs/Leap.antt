@@ -6,7 +6,7 @@ use Rattle.pg_list.specs.declared.blocks.Block.{Block}
 use Rattle.pg_list.specs.Shapes.{is_insert}
 use Rattle.pg_list.specs.Break.{is_forcing}
 use Rattle.pg_breaks.specs.Near.{place_penalty}
-use Rattle.pg_column.specs.Passed.{Passed, least_room, note_height, raised}
+use Rattle.pg_column.specs.Passed.{Passed, least_notes, least_room, raised}
 use Rattle.pg_rules.specs.Room.{Document}
 use Rattle.pg_hops.specs.declared.shift.Shift.{Shift}
 use Rattle.pg_hops.specs.Shift.{shifted}
@@ -87,7 +87,7 @@ IsLeap blocks maxdepth from leap = IsLeapAt blocks maxdepth from leap (item_ahea
 
 -- what the items passed ask of a room before a leap, with the depth that hangs, less their shrink
 abbrev pub asked_before : StyleValue → Passed → ℤ
-asked_before style p = ((p.totals.total +ℤ p.totals.depth) +ℤ note_height style p) -ℤ p.totals.shrink
+asked_before style p = ((p.totals.total +ℤ p.totals.depth) +ℤ least_notes style p) -ℤ p.totals.shrink
 
 -- past a break, and past the items and breaks of a leap from it
 abbrev pub leapt : StyleValue → Passed → LeapValue → Passed

@@ -5,11 +5,12 @@ use Rattle.std.specs.Ordering.{int_eq}
 use Rattle.pg_list.specs.Flat.{FlatItem}
 use Rattle.pg_rules.specs.Room.{Document}
 use Rattle.pg_style.specs.Values.{StyleValue}
-use Rattle.pg_column.specs.Passed.{Passed, fits, note_height, pass_item}
+use Rattle.pg_notes.specs.NotesValue.{heights}
+use Rattle.pg_column.specs.Passed.{Passed, fits, pass_item}
 
 -- the notes passed take no room
 abbrev pub is_quiet : StyleValue → Passed → Bool
-is_quiet style p = int_eq (note_height style p) (pos 0)
+is_quiet style p = int_eq (pos (heights style.classes p.notes)) (pos 0)
 
 -- what is passed of these items, up to a break that is forced or that no room up to the greatest one lets pass
 abbrev pub passed_along : Document → ℤ → Passed → List FlatItem → Passed

@@ -49,12 +49,12 @@ impl Passed {
         }
     }
 
-    /// The least room in which the items passed are not over.
+    /// The least room in which the items passed are not over, the skips of their notes shrunk.
     pub fn least_room(&self, style: &Style) -> i64
         ensures value { result ≡ least_room_of style.now (view self.now) }
         ensures small { nat_abs result < 2 ^ 57 }
     {
-        let full = plus(self.sums.total(), self.notes.height(style));
+        let full = plus(self.sums.total(), self.notes.smallest(style));
         let shrunk = minus(full, self.sums.shrink());
         let over = plus(full, 1);
         if over < shrunk { over } else { shrunk }

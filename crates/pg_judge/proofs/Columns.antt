@@ -1,5 +1,5 @@
 -- What is judged of one column, with text or without.
-use Rattle.std.proofs.Common.{◌≡◌, refl, sym, ap, ◌∙◌, ℕ, ◌≤◌, arith, List, [], length, Bool, true, false, pos, ◌+ℤ◌, ◌-ℤ◌, Option, Some, None}
+use Rattle.std.proofs.Common.{◌≡◌, refl, sym, ap, ◌∙◌, ℕ, ◌≤◌, arith, List, [], length, Bool, true, false, ℤ, pos, ◌+ℤ◌, ◌-ℤ◌, Option, Some, None}
 use Rattle.std.specs.Prelude.{◌==◌, ◌&&◌, ◌||◌, not, nat_le, nat_lt, unsigned_abs, if◌then◌else◌, int_le, is_some, Ok}
 use Rattle.std.specs.List.{list_all}
 use Rattle.std.specs.Option.{option_map_or, option_or}
@@ -13,6 +13,7 @@ use Rattle.pg_list.specs.Flat.{blocks_at, fronts, is_same_place, picked_variants
 use Rattle.pg_list.proofs.Places.{picked_few}
 use Rattle.pg_plan.specs.declared.pages.Column.{Column}
 use Rattle.pg_style.specs.Values.{StyleValue}
+use Rattle.pg_style.specs.declared.style.Give.{Give}
 use Rattle.pg_rules.specs.ColumnRules.{column_variants, does_fit, has_room, is_tolerable, is_well_formed, keeps_looseness, keeps_note_limits, passes_breaks, text_fitness}
 use Rattle.pg_rules.specs.Cost.{text_demerits}
 use Rattle.pg_rules.specs.Floats.{float_count, float_numbers}
@@ -21,7 +22,9 @@ use Rattle.pg_rules.specs.Legal.{document, unless}
 use Rattle.pg_rules.specs.Room.{ColumnContext, Document, flat_items_of, is_text, room, size_of}
 use Rattle.pg_column.specs.Fits.{does_fit_from}
 use Rattle.pg_column.specs.Judged.{Judges, text_fault}
+use Rattle.pg_column.specs.Numbers.{text_room}
 use Rattle.pg_column.specs.declared.cost.TextCost.{TextCost}
+use Rattle.pg_column.specs.declared.cost.TextRoom.{TextRoom}
 use Rattle.pg_floats.specs.Counts.{count_in}
 use Rattle.pg_judge.specs.Judged.{JudgesColumn}
 use Rattle.pg_judge.specs.Seats.{IsSeat}
@@ -42,7 +45,20 @@ pub room_is : (it : ColumnContext) (seat : Seat) → IsSeat it seat →
     room it ≡ ((seat.full -ℤ seat.wide) -ℤ seat.top) -ℤ seat.bottom
 room_is it seat is = sym (rw (is.full, is.wide, is.top, is.bottom) refl)
 
-some_size : (test : ℕ → Bool) (o : Option ℕ) → option_map_or test o false ≡ true → (n : ℕ) × (o ≡ Some n)
+-- the room of its text
+pub whole_room_is : (it : ColumnContext) (seat : Seat) (held : TextRoom) → IsSeat it seat →
+    held.size ≡ ((seat.full -ℤ seat.wide) -ℤ seat.top) -ℤ seat.bottom → held.give ≡ seat.give →
+    text_room it ≡ held
+whole_room_is it seat held is s g =
+    same _ _ _ _ _ _ (room_is it seat is ∙ sym s) (sym is.stretch ∙ ap (λ (give : Give). give.stretch) (sym g))
+    (sym is.shrink ∙ ap (λ (give : Give). give.shrink) (sym g))
+  where
+    same : (s s' x x' y y' : ℤ) → s ≡ s' → x ≡ x' → y ≡ y' →
+        ◌≡◌ {A = TextRoom} (record { size = s; give = record { stretch = x; shrink = y } })
+        (record { size = s'; give = record { stretch = x'; shrink = y' } })
+    same s s' x x' y y' p q r = cc
+
+pub some_size : (test : ℕ → Bool) (o : Option ℕ) → option_map_or test o false ≡ true → (n : ℕ) × (o ≡ Some n)
 some_size test None e = absurd cc
 some_size test (Some n) e = (n, refl)
 
@@ -78,7 +94,7 @@ formed_is it top bottom wide f t b w = rw (t, b, w) (sym (if_false (is_text it) 
 
 pub column_is : (it : ColumnContext) (seat : Seat) (top : ℕ) → IsSeat it seat → is_text it ≡ false →
     top ≡ float_count it.document.style it.column.top →
-    int_le ((seat.wide +ℤ seat.top) -ℤ (if top == 0 then it.document.style.wide.gap else it.document.style.top.gap))
+    int_le ((seat.wide +ℤ seat.top) -ℤ (if top == 0 then it.document.style.wide.gap.size else it.document.style.top.gap.size))
     seat.full ≡ has_room it
 column_is it seat top is f t = rw (t, is.wide, is.top, is.full) (sym (if_false (is_text it) _ _ f))
 
@@ -145,10 +161,10 @@ module _ (style : StyleValue) (column : Column) (seat : Seat) (slots top : ℕ) 
       (ap (λ (x : Column). x.bottom) own ∙ sym b)) is.has_wide)
 
   pub is_column_is : (fits : Bool) → fits ≡ int_le ((seat.wide +ℤ seat.top)
-      -ℤ (if top == 0 then style.wide.gap else style.top.gap)) seat.full → fits ≡ has_room it
+      -ℤ (if top == 0 then style.wide.gap.size else style.top.gap.size)) seat.full → fits ≡ has_room it
   is_column_is fits e =
       e ∙ (ap (λ (s : StyleValue). int_le ((seat.wide +ℤ seat.top)
-      -ℤ (if top == 0 then s.wide.gap else s.top.gap)) seat.full) (sym same)
+      -ℤ (if top == 0 then s.wide.gap.size else s.top.gap.size)) seat.full) (sym same)
       ∙ column_is it seat top is no_text top_count)
 
   pub breaks_shape : is_well_formed it ≡ false → text_fault it ≡ Some 3

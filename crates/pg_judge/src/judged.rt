@@ -42,7 +42,7 @@ pub fn judge_text(
         column.from,
         column.picks.as_slice(),
         column.to,
-        seat.room(),
+        &seat.room(),
     ) {
         Ok(numbers) => Ok(ColumnCost {
             demerits: numbers.demerits,
@@ -62,13 +62,13 @@ fn is_formed(picks: &[u32], top: u32, bottom: u32, has_wide: bool) -> bool
 
 // The gap below floats without text, which is not counted; where a column has none, that below the wide floats.
 fn gap_below(style: &Style, top: u32) -> i64
-    ensures value { result ≡ (if top == 0 then style.now.wide.gap else style.now.top.gap) }
+    ensures value { result ≡ (if top == 0 then style.now.wide.gap.size else style.now.top.gap.size) }
     ensures size { nat_abs result ≤ 2 ^ 31 }
 {
     if top == 0 {
-        wide(style.wide.gap)
+        wide(style.wide.gap.size)
     } else {
-        wide(style.top.gap)
+        wide(style.top.gap.size)
     }
 }
 
@@ -76,7 +76,7 @@ fn gap_below(style: &Style, top: u32) -> i64
 fn has_column(style: &Style, top: u32, seat: &Seat) -> bool
     requires heights { AreHeights seat.now }
     ensures { result ≡ int_le ((seat.now.wide +ℤ seat.now.top)
-        -ℤ (if top == 0 then style.now.wide.gap else style.now.top.gap)) seat.now.full }
+        -ℤ (if top == 0 then style.now.wide.gap.size else style.now.top.gap.size)) seat.now.full }
 {
     minus(plus(seat.wide, seat.top), gap_below(style, top)) <= seat.full
 }

@@ -2,8 +2,9 @@
 ghost use Rattle.std.specs.Prelude.{◌≡◌, ◌≤◌, ◌<◌, ◌^◌, ◌-ℤ◌, if◌then◌else◌, List, ℕ, length, nat_abs, not, is_some};
 ghost use Rattle.pg_list.specs.Flat.{is_same_place as is_same_place_of};
 ghost use Rattle.pg_rules.specs.Floats.{float_numbers, is_area_allowed, plus_counts, takes_bottom, takes_in_column, takes_top};
-ghost use Rattle.pg_rules.specs.Floats.{floats};
-ghost use Rattle.pg_rules.specs.Room.{checked_height};
+ghost use Rattle.pg_rules.specs.Floats.{floats, gap_shrink, gap_stretch};
+ghost use Rattle.pg_rules.specs.Room.{checked_give as the_checked_give, checked_height};
+ghost use Rattle.pg_column.specs.Numbers.{IsRoom};
 ghost use Rattle.pg_floats.specs.AreFloats.{AreFloats};
 ghost use Rattle.pg_list.specs.declared.blocks.Block.{Block as ABlock};
 ghost use Rattle.pg_style.specs.Ranges.{IsStyle};
@@ -11,13 +12,14 @@ ghost use Rattle.pg_floats.specs.Counts.{capped};
 ghost use Rattle.pg_floats.specs.Given.{IsListOf, IsWideHeight};
 ghost use Rattle.pg_judge.specs.Seats.{AreHeights, IsSeat, seated};
 
-use pg_floats::{FloatList, Spot, checked_area, full_height, is_allowed};
+use pg_column::TextRoom;
+use pg_floats::{FloatList, Spot, checked_area, checked_give, full_height, is_allowed};
 use pg_list::{Galley, Place};
 use pg_plan::{Column, Counts};
 use pg_scaled::minus;
-use pg_style::Style;
+use pg_style::{Give, Style};
 
-/// What a page leaves to a column. Heights are in scaled points.
+/// What a page leaves to a column, and what the gaps of its areas give to a text. Heights are in scaled points.
 #[derive(Clone, Copy)]
 pub struct Seat {
     pub is_text: bool,
@@ -28,16 +30,21 @@ pub struct Seat {
     pub wide: i64,
     pub top: i64,
     pub bottom: i64,
+    pub give: Give,
 }
 
 impl Seat {
-    /// What the areas leave of the column's height.
-    pub fn room(&self) -> i64
+    /// The room of a text: what the areas leave of the column's height, and what their gaps give.
+    pub fn room(&self) -> TextRoom
         requires { AreHeights self.now }
-        ensures value { result ≡ ((self.now.full -ℤ self.now.wide) -ℤ self.now.top) -ℤ self.now.bottom }
-        ensures size { nat_abs result < 2 ^ 40 }
+        ensures size { result.size ≡ ((self.now.full -ℤ self.now.wide) -ℤ self.now.top) -ℤ self.now.bottom }
+        ensures give { result.give ≡ self.now.give }
+        ensures small { IsRoom result }
     {
-        minus(minus(minus(self.full, self.wide), self.top), self.bottom)
+        TextRoom {
+            size: minus(minus(minus(self.full, self.wide), self.top), self.bottom),
+            give: self.give,
+        }
     }
 }
 
@@ -120,6 +127,44 @@ fn bottom_area(
     checked_area(list, is_allowed, &style.bottom, placed, counts)
 }
 
+// What the gaps of the top area give.
+fn top_give(
+    style: &Style,
+    list: &FloatList,
+    is_allowed: bool,
+    placed: &Counts,
+    counts: &Counts,
+) -> Give
+    ensures stretch { (blocks : List ABlock) → AreFloats blocks style.now list.now →
+        result.stretch ≡ the_checked_give gap_stretch (floats blocks style.now) is_allowed style.now.top placed.now
+        counts.now }
+    ensures shrink { (blocks : List ABlock) → AreFloats blocks style.now list.now →
+        result.shrink ≡ the_checked_give gap_shrink (floats blocks style.now) is_allowed style.now.top placed.now
+        counts.now }
+    ensures size { (nat_abs result.stretch < 2 ^ 43) × (nat_abs result.shrink < 2 ^ 43) }
+{
+    checked_give(list, is_allowed, &style.top, placed, counts)
+}
+
+// What the gaps of the bottom area give.
+fn bottom_give(
+    style: &Style,
+    list: &FloatList,
+    is_allowed: bool,
+    placed: &Counts,
+    counts: &Counts,
+) -> Give
+    ensures stretch { (blocks : List ABlock) → AreFloats blocks style.now list.now →
+        result.stretch ≡ the_checked_give gap_stretch (floats blocks style.now) is_allowed style.now.bottom placed.now
+        counts.now }
+    ensures shrink { (blocks : List ABlock) → AreFloats blocks style.now list.now →
+        result.shrink ≡ the_checked_give gap_shrink (floats blocks style.now) is_allowed style.now.bottom placed.now
+        counts.now }
+    ensures size { (nat_abs result.stretch < 2 ^ 43) × (nat_abs result.shrink < 2 ^ 43) }
+{
+    checked_give(list, is_allowed, &style.bottom, placed, counts)
+}
+
 /// The seat of a column on a page of a run, with a wide area of this height. `before` counts the floats placed before
 /// its top area, and `below` those placed before its bottom area.
 pub fn seat_of(
@@ -147,6 +192,8 @@ pub fn seat_of(
     let is_text = !is_same_place(column.from, column.to);
     let is_top_allowed = is_top_allowed(style, slots, is_text, &column.top);
     let is_bottom_allowed = is_bottom_allowed(style, slots, is_text, &column.bottom);
+    let top_give = top_give(style, list, is_top_allowed, before, &column.top);
+    let bottom_give = bottom_give(style, list, is_bottom_allowed, below, &column.bottom);
     Seat {
         is_text,
         is_top_allowed,
@@ -156,5 +203,6 @@ pub fn seat_of(
         wide: wide.unwrap_or(0),
         top: top_area(style, list, is_top_allowed, before, &column.top),
         bottom: bottom_area(style, list, is_bottom_allowed, below, &column.bottom),
+        give: top_give.plus(bottom_give),
     }
 }

@@ -1,4 +1,4 @@
--- The text of labels, without fitness for version 1 of a style and with it for version 2.
+-- The text of labels, without fitness for version 1 of a style and with it for later ones.
 use Rattle.std.specs.Prelude.{ℕ, ◌+◌, Bool, if◌then◌else◌, List, [], ◌∷◌, ◌++◌, length, decimal, codes}
 use Rattle.pg_plan.specs.declared.states.Label.{Label}
 use Rattle.pg_plan.specs.declared.states.State.{State}

@@ -29,10 +29,15 @@ has_infinite items =
     && (unsigned_abs (stretch Fill items) == 0)
     && (unsigned_abs (stretch Filll items) == 0))
 
+-- the badness of what is not over, by how much it may be longer and shorter
+abbrev pub fill_badness : Bool → ℤ → ℤ → Bool → ℤ → ℤ → ℕ
+fill_badness is_spent goal total is_infinite stretch shrink =
+    if is_spent && int_le total goal then 0
+    else (if int_lt total goal
+    then (if is_infinite then 0 else badness (goal -ℤ total) stretch)
+    else badness (total -ℤ goal) shrink)
+
 -- the badness of a segment that is not over
 abbrev pub page_badness : Bool → ℤ → ℤ → List Item → ℕ
 page_badness is_spent goal total items =
-    if is_spent && int_le total goal then 0
-    else (if int_lt total goal
-    then (if has_infinite items then 0 else badness (goal -ℤ total) (stretch Finite items))
-    else badness (total -ℤ goal) (shrink items))
+    fill_badness is_spent goal total (has_infinite items) (stretch Finite items) (shrink items)

@@ -1,11 +1,11 @@
 -- The style of the generator's galleys.
-use Rattle.std.specs.Prelude.{ℕ, ◌*◌, ℤ, pos, neg_ℤ, List, [], ◌∷◌}
+use Rattle.std.specs.Prelude.{ℕ, ◌*◌, ℤ, pos, neg_ℤ, List, [], ◌∷◌, None}
 use Rattle.pg_style.specs.declared.style.First.TheVariants.{Left}
 use Rattle.pg_style.specs.declared.style.Area.TheVariants as area
 use Rattle.pg_style.specs.declared.style.Run.{Run}
 use Rattle.pg_style.specs.declared.style.Class.{Class}
 use Rattle.pg_style.specs.declared.style.Kind.TheVariants.{Note, Float}
-use Rattle.pg_style.specs.Plain.{no_area}
+use Rattle.pg_style.specs.Plain.{no_area, rigid}
 use Rattle.pg_style.specs.Values.{StyleValue}
 
 -- whole points, 65536 scaled points each
@@ -19,7 +19,7 @@ abbrev pub made_floats : Class
 made_floats = record { number = 100; kind = Float area.Top (0 ∷ 500 ∷ 2000 ∷ []) }
 
 abbrev pub made_notes : Class
-made_notes = record { number = 200; kind = Note (points 12) (points 200) }
+made_notes = record { number = 200; kind = Note (rigid (points 12)) (points 200) }
 
 abbrev pub made_classes : List Class
 made_classes = made_floats ∷ made_notes ∷ []
@@ -38,10 +38,11 @@ made_style = record {
   line = 10;
   max_looseness = 1;
   runs = made_runs;
-  top = record { count = 2; sep = points 12; gap = points 20 };
+  top = record { count = 2; sep = rigid (points 12); gap = rigid (points 20) };
   bottom = no_area;
   wide = no_area;
   float_column = record { count = 2; demerits = 5000 };
   classes = made_classes;
   fitness = 0;
+  ragged = None;
 }

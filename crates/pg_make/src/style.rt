@@ -1,10 +1,11 @@
 //! The style of the generated galleys.
 ghost use Rattle.std.specs.Prelude.{◌≡◌, ◌∷◌, [], pos, negsuc};
+ghost use Rattle.pg_style.specs.Plain.{no_area};
 ghost use Rattle.pg_style.specs.Ranges.{IsClass};
 ghost use Rattle.pg_make.specs.Made.{made_style, made_runs, made_classes, made_floats, made_notes};
 
 use pg_style::{
-    Area, AreaRule, Class, Classes, ColumnRule, Distance, First, Kind, Run, Runs, Style,
+    Area, AreaRule, Class, Classes, ColumnRule, Distance, First, Gap, Kind, Run, Runs, Style,
 };
 use std::alloc::Global;
 
@@ -56,7 +57,7 @@ fn make_notes() -> Class
     Class {
         number: 200,
         kind: Kind::Note {
-            skip: 12 * POINT,
+            skip: Gap::rigid(12 * POINT),
             limit: 200 * POINT,
         },
     }
@@ -73,12 +74,12 @@ fn make_classes(alloc: Global) -> Classes
 }
 
 fn no_area() -> AreaRule
-    ensures { result ≡ record { count = 0; sep = pos 0; gap = pos 0 } }
+    ensures { result ≡ no_area }
 {
     AreaRule {
         count: 0,
-        sep: 0,
-        gap: 0,
+        sep: Gap::rigid(0),
+        gap: Gap::rigid(0),
     }
 }
 
@@ -101,8 +102,8 @@ pub fn make_style(alloc: Global) -> Style
         runs: make_runs(alloc),
         top: AreaRule {
             count: 2,
-            sep: 12 * POINT,
-            gap: 20 * POINT,
+            sep: Gap::rigid(12 * POINT),
+            gap: Gap::rigid(20 * POINT),
         },
         bottom: no_area(),
         wide: no_area(),
@@ -112,5 +113,6 @@ pub fn make_style(alloc: Global) -> Style
         },
         classes: make_classes(alloc),
         fitness: 0,
+        ragged: None,
     }
 }

@@ -63,24 +63,24 @@ fits_by full w t b g room e z = both_ways (int_le (pos 0) (room +ℤ g)) (int_le
 
 -- the areas leave the page some room, but for the gap below the last
 pub stands_is : (doc : Document) (u : State) (it : Laid) (room : ℤ) (filled : Bool) → IsFloatLaid doc u it →
-    room ≡ it.room → filled ≡ nat_lt 0 (total_count it.layout.top) →
+    room ≡ it.room.size → filled ≡ nat_lt 0 (total_count it.layout.top) →
     ((filled || is_some it.wide)
-    && int_le (pos 0) (room +ℤ (if filled then doc.style.top.gap else doc.style.wide.gap)))
+    && int_le (pos 0) (room +ℤ (if filled then doc.style.top.gap.size else doc.style.wide.gap.size)))
     ≡ can_stand doc u it.layout
 stands_is doc u it room filled is r f = same filled (nat_lt 0 (total_count it.layout.top)) it.wide
     (wide_of doc u it.layout.wide)
-    (int_le (pos 0) (room +ℤ (if filled then doc.style.top.gap else doc.style.wide.gap)))
+    (int_le (pos 0) (room +ℤ (if filled then doc.style.top.gap.size else doc.style.wide.gap.size)))
     (column_fits doc u it.layout) f (ap (λ (x : Laid). x.wide) is.is)
-    (ap (λ (z : ℤ). int_le (pos 0) (z +ℤ (if filled then doc.style.top.gap else doc.style.wide.gap))) r
-    ∙ (ap (λ (b : Bool). int_le (pos 0) (it.room +ℤ (if b then doc.style.top.gap else doc.style.wide.gap))) f
-    ∙ (ap (λ (gap : ℤ). int_le (pos 0) (it.room +ℤ gap))
-    (gap_is (total_count it.layout.top) doc.style.top.gap doc.style.wide.gap)
+    (ap (λ (z : ℤ). int_le (pos 0) (z +ℤ (if filled then doc.style.top.gap.size else doc.style.wide.gap.size))) r
+    ∙ (ap (λ (b : Bool). int_le (pos 0) (it.room.size +ℤ (if b then doc.style.top.gap.size else doc.style.wide.gap.size))) f
+    ∙ (ap (λ (gap : ℤ). int_le (pos 0) (it.room.size +ℤ gap))
+    (gap_is (total_count it.layout.top) doc.style.top.gap.size doc.style.wide.gap.size)
     ∙ fits_by (doc.style.height +ℤ extra doc.style it.layout.run) (unwrap_or (wide_of doc u it.layout.wide) (pos 0))
     (area_of doc doc.style.top (plus_counts doc.style u.placed it.layout.wide) it.layout.top)
     (area_of doc doc.style.bottom
     (plus_counts doc.style (plus_counts doc.style u.placed it.layout.wide) it.layout.top) it.layout.bottom)
-    (if total_count it.layout.top == 0 then doc.style.wide.gap else doc.style.top.gap) it.room
-    (ap (λ (x : Laid). x.room) is.is)
+    (if total_count it.layout.top == 0 then doc.style.wide.gap.size else doc.style.top.gap.size) it.room.size
+    (ap (λ (x : Laid). x.room.size) is.is)
     (no_area doc doc.style.bottom
     (plus_counts doc.style (plus_counts doc.style u.placed it.layout.wide) it.layout.top) it.layout.bottom is.bottom))))
   where

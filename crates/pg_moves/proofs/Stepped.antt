@@ -280,17 +280,17 @@ groups_done doc u spared cs layout groups (group ∷ left) ends rest old new les
     absurd (omega (arith, less))
 
 -- the steps to the ends that are kept of the room of a layout
-pub in_room : (doc : Document) (u : State) (spared : State → ℤ → Bool) (it : Laid) (kept : PlaceEnds) (room : ℤ)
-    (groups : List Group) (ends : List RoomEnd) (old new : List (Step State PageMove)) → room ≡ it.room →
-    groups ≡ groups_in kept.rooms.items room → ends ≡ ends_in kept.rooms.items room →
+pub in_room : (doc : Document) (u : State) (spared : State → ℤ → Bool) (it : Laid) (kept : PlaceEnds)
+    (groups : List Group) (ends : List RoomEnd) (old new : List (Step State PageMove)) →
+    groups ≡ groups_in kept.rooms.items it.room → ends ≡ ends_in kept.rooms.items it.room →
     (AreGroups doc groups ends → Adds spared old (listed_of doc u kept.walk.near.candidates it.layout ends) new) →
     ArePlaceEnds doc u.place kept →
     Adds spared old (steps_in doc u kept.walk.near.candidates kept.rooms.items it) new
-in_room doc u spared it kept room groups ends old new r g e step right =
-    subst (λ (z : ℤ). Adds spared old (of_these (ends_in kept.rooms.items z)) new) r
-    (subst (λ (xs : List RoomEnd). Adds spared old (of_these xs) new) e
+in_room doc u spared it kept groups ends old new g e step right =
+    subst (λ (xs : List RoomEnd). Adds spared old (of_these xs) new) e
     (step (subst (λ (gs : List Group). AreGroups doc gs ends) (sym g)
-    (subst (AreGroups doc (groups_in kept.rooms.items room)) (sym e) (groups_right doc u.place kept room right)))))
+    (subst (AreGroups doc (groups_in kept.rooms.items it.room)) (sym e)
+    (groups_right doc u.place kept it.room right))))
   where
     of_these : List RoomEnd → List (Step State PageMove)
     of_these = listed_of doc u kept.walk.near.candidates it.layout

@@ -6,8 +6,7 @@ ghost use Rattle.pg_rules.specs.IsState.{IsPlace, IsState};
 ghost use Rattle.law_space.specs.ReachAt.{reach_at};
 ghost use Rattle.law_space.specs.PageSpace.{page_meaning};
 ghost use Rattle.pg_table.specs.Space.{AreMoves, AreWanted};
-ghost use Rattle.pg_candidates.specs.Nears.{AreNearFrom};
-ghost use Rattle.law_walk.specs.Reached.{tallest};
+ghost use Rattle.pg_candidates.specs.Nears.{AreNearOnPages};
 ghost use Rattle.law_moves.specs.Listed.{beyond, listed_floats};
 ghost use Rattle.pg_sources.specs.Document.{doc_of};
 ghost use Rattle.pg_rooms.specs.PlaceEnds.{ArePlaceEnds};
@@ -45,8 +44,7 @@ pub fn walk_place(
 ) -> Result<PlaceWalk, AllocError>
     requires hops { AreHops sources.now.galley.now.blocks sources.now.style.now.maxdepth index.now }
     requires place { IsPlace sources.now.galley.now.blocks from }
-    ensures near { IfOk result (λ walk.
-        AreNearFrom (doc_of sources.now) from (tallest sources.now.style.now) walk.near) }
+    ensures near { IfOk result (λ walk. AreNearOnPages (doc_of sources.now) from walk.near) }
     ensures reach { IfOk result (λ walk. walk.reach ≡ reach_at (doc_of sources.now) from) }
 {
     reach_is_the_greatest(sources.galley, sources.style);

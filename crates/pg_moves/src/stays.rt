@@ -6,6 +6,7 @@ ghost use Rattle.pg_rules.specs.IsState.{IsState};
 ghost use Rattle.pg_layouts.specs.Layouts.{move_of};
 ghost use Rattle.law_moves.specs.Listed.{listed_stay};
 ghost use Rattle.pg_sources.specs.Document.{doc_of};
+ghost use Rattle.pg_column.specs.Numbers.{IsRoom};
 ghost use Rattle.pg_rooms.specs.Laid.{IsFloatLaid, laid_of};
 ghost use Rattle.pg_states.specs.Settling.{Settles, known_of};
 ghost use Rattle.pg_moves.specs.Stepping.{can_stand, fitness_behind as fitness_behind_of, stay_in, stay_price as stay_price_of};
@@ -71,13 +72,13 @@ fn stay_price(style: &Style, state: &State, laid: &Laid, price: u128) -> i128
 
 // The gap below the last area of a column without text.
 fn last_gap(style: &Style, has_floats: bool) -> i64
-    ensures value { result ≡ (if has_floats then style.now.top.gap else style.now.wide.gap) }
+    ensures value { result ≡ (if has_floats then style.now.top.gap.size else style.now.wide.gap.size) }
     ensures size { nat_abs result ≤ 2 ^ 31 }
 {
     if has_floats {
-        i64::from(style.top.gap)
+        i64::from(style.top.gap.size)
     } else {
-        i64::from(style.wide.gap)
+        i64::from(style.wide.gap.size)
     }
 }
 
@@ -86,20 +87,20 @@ fn last_gap(style: &Style, has_floats: bool) -> i64
 fn stands(style: &Style, room: i64, wide: Option<i64>, has_floats: bool) -> bool
     requires { nat_abs room < 2 ^ 40 }
     ensures { result ≡ ((has_floats || is_some wide)
-        && int_le (pos 0) (room +ℤ (if has_floats then style.now.top.gap else style.now.wide.gap))) }
+        && int_le (pos 0) (room +ℤ (if has_floats then style.now.top.gap.size else style.now.wide.gap.size))) }
 {
     (has_floats || wide.is_some()) && 0 <= plus(room, last_gap(style, has_floats))
 }
 
 // Whether a column without text has a float or a wide area, and is no higher than its page.
 fn can_stand(sources: &Sources<'_>, laid: &Laid) -> bool
-    requires size { nat_abs laid.now.room < 2 ^ 40 }
+    requires size { IsRoom laid.now.room }
     requires long { length laid.now.layout.top ≡ length (float_numbers sources.now.style.now) }
     ensures { (u : AState) → IsFloatLaid (doc_of sources.now) u laid.now →
         result ≡ can_stand (doc_of sources.now) u laid.now.layout }
 {
     let has_floats = has_floats(sources, &laid.layout.top);
-    stands(sources.style, laid.room, laid.wide, has_floats)
+    stands(sources.style, laid.room.size, laid.wide, has_floats)
 }
 
 // The step of a column without text.

@@ -38,8 +38,8 @@ fn add_laid<W: Wants<State = SmallState>>(
         steps.new) }
 {
     let near = &kept.walk.near;
-    let groups = kept.groups_in(laid.room);
-    let ends = kept.ends_in(laid.room);
+    let groups = kept.groups_in(&laid.room);
+    let ends = kept.ends_in(&laid.room);
     add_groups(
         sources, near, state, known, laid, groups, ends, wants, steps,
     )

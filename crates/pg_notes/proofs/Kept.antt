@@ -1,5 +1,5 @@
 -- Sums kept for each class.
-use Rattle.std.proofs.Common.{◌≡◌, ◌≢◌, refl, sym, ap, ◌∙◌, subst, ℕ, zero, suc, ◌+◌, ◌*◌, ◌^◌, ◌<◌, ◌≤◌, List, [], ◌∷◌, ◌++◌, length, length-append, arith, Bool, true, false, Option, Some, None, ℤ, pos, ◌+ℤ◌, set, get_or}
+use Rattle.std.proofs.Common.{◌≡◌, ◌≢◌, refl, sym, ap, ◌∙◌, subst, ℕ, zero, suc, ◌+◌, ◌*◌, ◌^◌, ◌<◌, ◌≤◌, List, [], ◌∷◌, ◌++◌, length, length-append, arith, Bool, true, false, Option, Some, None, ℤ, pos, ◌+ℤ◌, ◌≤ℤ◌, set, get_or}
 use Rattle.std.specs.Prelude.{◌==◌, ◌&&◌, not, nat_lt, if◌then◌else◌, option_map, slice_get, unsigned_abs, int_le, is_none, replicate}
 use Rattle.std.specs.List.{find, list_all, sum_by, AllByRecursion, position, position_from}
 use Rattle.std.proofs.lemmas.Int.{ints}
@@ -15,13 +15,15 @@ use Rattle.pg_list.specs.Whole.{whole_sum, whole_sum_by}
 use Rattle.pg_style.specs.Ranges.{AreInOrder, IsClass, IsKind}
 use Rattle.pg_style.specs.Values.{StyleValue}
 use Rattle.pg_style.specs.declared.style.Class.{Class}
+use Rattle.pg_style.specs.declared.style.Gap.{Gap}
+use Rattle.pg_style.specs.Plain.{rigid}
 use Rattle.pg_style.specs.declared.style.Kind.{Kind}
 use Rattle.pg_style.specs.declared.style.Kind.TheVariants.{Note, Float}
-use Rattle.pg_rules.specs.Floats.{sizes_of}
-use Rattle.pg_rules.specs.Room.{class_notes, is_within_limit}
+use Rattle.pg_rules.specs.Floats.{gap_shrink, sizes_of}
+use Rattle.pg_rules.specs.Room.{class_notes, class_give, is_within_limit}
 use Rattle.pg_notes.specs.declared.sums.NoteSum.{NoteSum}
 use Rattle.pg_notes.specs.AreNotes.{IsNoteSum, AreNoteSums, AreNotes}
-use Rattle.pg_notes.specs.NotesValue.{NotesValue, note_height, is_over_limit, heights, first_over_limit}
+use Rattle.pg_notes.specs.NotesValue.{NotesValue, note_height, is_over_limit, heights, note_give, skips_by, first_over_limit}
 use Rattle.pg_notes.proofs.Sizes.{sizes_own, sizes_other, sizes_plain, sum_push}
 use Rattle.pg_lemmas.proofs.Numbers.{length_is}
 
@@ -126,10 +128,10 @@ its_height_is items number (Note skip limit) sum range is =
     by sum.is_there (length (sizes_of number items) == 0) is.there_is
   where
     by : (there none : Bool) → there ≡ not none →
-        pos (if there then unsigned_abs skip + sum.size else 0)
-        ≡ (if none then pos 0 else (skip +ℤ whole_sum (sizes_of number items)))
+        pos (if there then unsigned_abs skip.size + sum.size else 0)
+        ≡ (if none then pos 0 else (skip.size +ℤ whole_sum (sizes_of number items)))
     by true true e = absurd (cc)
-    by true false e = let s = length_is skip range.0.0 in let size = is.size_is in omega (arith, ints, s, size)
+    by true false e = let s = length_is skip.size range.0.size_in.0 in let size = is.size_is in omega (arith, ints, s, size)
     by false true e = refl
     by false false e = absurd (cc)
 its_height_is items number (Float area distance) sum range is = refl
@@ -151,8 +153,8 @@ heights_are items (class ∷ classes) (sum ∷ sums) all are =
 height_few : (kind : Kind) (sum : NoteSum) → IsKind kind → note_height kind sum ≤ 2 ^ 30 + sum.size
 height_few (Note skip limit) sum range = by sum.is_there
   where
-    by : (there : Bool) → (if there then unsigned_abs skip + sum.size else 0) ≤ 2 ^ 30 + sum.size
-    by true = let r = range.0.1 in omega (arith, ints, r)
+    by : (there : Bool) → (if there then unsigned_abs skip.size + sum.size else 0) ≤ 2 ^ 30 + sum.size
+    by true = let r = range.0.size_in.1 in omega (arith, ints, r)
     by false = omega arith
 height_few (Float area distance) sum range = omega arith
 
@@ -169,6 +171,44 @@ heights_few (class ∷ classes) (sum ∷ sums) all =
   where
     few : (a b s t u n : ℕ) → a ≤ 2 ^ 30 + s → b ≤ 2 ^ 30 * n + t → u ≡ s + t → a + b ≤ 2 ^ 30 * suc n + u
     few a b s t u n x y e = omega (arith, x, y, e)
+
+there_or : (b : Bool) (z : ℤ) → (if not b then z else pos 0) ≡ (if b then pos 0 else z)
+there_or true z = refl
+there_or false z = refl
+
+its_give_is : (part : Gap → ℤ) (items : List Item) (number : ℕ) (kind : Kind) (sum : NoteSum) →
+    IsNoteSum items number sum → note_give part kind sum ≡ class_give part items number kind
+its_give_is part items number (Note skip limit) sum is =
+    ap (λ (b : Bool). if b then part skip else pos 0) is.there_is
+    ∙ there_or (length (sizes_of number items) == 0) (part skip)
+its_give_is part items number (Float area distance) sum is = refl
+
+pub skips_are : (part : Gap → ℤ) (items : List Item) (classes : List Class) (sums : List NoteSum) →
+    AreNoteSums items classes sums →
+    skips_by part classes sums ≡ whole_sum_by (λ (class : Class). class_give part items class.number class.kind) classes
+skips_are part items [] sums are = refl
+skips_are part items (class ∷ classes) [] are = absurd are
+skips_are part items (class ∷ classes) (sum ∷ sums) are =
+    ap (λ (z : ℤ). z +ℤ skips_by part classes sums) (its_give_is part items class.number class.kind sum are.0)
+    ∙ ap (λ (z : ℤ). class_give part items class.number class.kind +ℤ z) (skips_are part items classes sums are.1)
+
+give_up : (kind : Kind) (sum : NoteSum) → IsKind kind → pos 0 ≤ℤ note_give gap_shrink kind sum
+give_up (Note skip limit) sum range = by sum.is_there
+  where
+    by : (b : Bool) → pos 0 ≤ℤ (if b then skip.shrink else pos 0)
+    by true = range.0.shrink_from
+    by false = omega (arith, ints)
+give_up (Float area distance) sum range = omega (arith, ints)
+
+-- skips are shrunk by no less than 0
+pub skips_up : (classes : List Class) (sums : List NoteSum) → AllByRecursion IsClass classes →
+    pos 0 ≤ℤ skips_by gap_shrink classes sums
+skips_up [] sums all = omega (arith, ints)
+skips_up (class ∷ classes) [] all = omega (arith, ints)
+skips_up (class ∷ classes) (sum ∷ sums) all =
+    let one = give_up class.kind sum all.0.kind_in in
+    let rest = skips_up classes sums all.1 in
+    omega (arith, ints, one, rest)
 
 over_is : (items : List Item) (number : ℕ) (kind : Kind) (sum : NoteSum) → IsKind kind →
     IsNoteSum items number sum →
@@ -264,7 +304,7 @@ pub found_sums : (items : List Item) (number z : ℕ) (body : List ℕ) (classes
     AreNoteSums (items ++ Insert number (pos z) body ∷ []) classes
     (set sums k (record { size = (get_or sums k d).size + z; is_there = true }))
 found_sums items number z body classes sums k d order e long are =
-    let none : Class = record { number = 0; kind = Note (pos 0) (pos 0) } in
+    let none : Class = record { number = 0; kind = Note (rigid (pos 0)) (pos 0) } in
     let is = position-Some (λ (class : Class). class.number == number) classes k none e in
     let less : k < length sums = omega (arith, is.0, long) in
     grown_sums items number z body classes sums k (get_or classes k none) (get_or sums k d) order

@@ -13,10 +13,11 @@ use Rattle.pg_list.specs.Totals.{trimmed}
 use Rattle.pg_list.specs.Whole.{whole_sum, whole_sum_by}
 use Rattle.pg_style.specs.Values.{StyleValue}
 use Rattle.pg_style.specs.declared.style.Class.{Class}
+use Rattle.pg_style.specs.declared.style.Gap.{Gap}
 use Rattle.pg_style.specs.declared.style.Kind.{Kind}
 use Rattle.pg_style.specs.declared.style.Kind.TheVariants.{Note, Float}
 use Rattle.pg_rules.specs.Floats.{sizes_of, insert_size}
-use Rattle.pg_rules.specs.Room.{notes, class_notes, is_within_limit, are_notes_within_limits}
+use Rattle.pg_rules.specs.Room.{notes, class_notes, class_give, skips_give, is_within_limit, are_notes_within_limits}
 use Rattle.pg_notes.specs.AreNotes.{first_over}
 use Rattle.pg_lemmas.proofs.Numbers.{eq_refl}
 
@@ -36,9 +37,15 @@ sizes_trimmed number (Carry body ∷ items) = sizes_trimmed number items
 class_notes_trimmed : (items : List Item) (number : ℕ) (kind : Kind) →
     class_notes (trimmed items) number kind ≡ class_notes items number kind
 class_notes_trimmed items number (Note skip limit) =
-    ap (λ (sizes : List ℤ). if length sizes == 0 then pos 0 else (skip +ℤ whole_sum sizes))
+    ap (λ (sizes : List ℤ). if length sizes == 0 then pos 0 else (skip.size +ℤ whole_sum sizes))
     (sizes_trimmed number items)
 class_notes_trimmed items number (Float area distance) = refl
+
+class_give_trimmed : (part : Gap → ℤ) (items : List Item) (number : ℕ) (kind : Kind) →
+    class_give part (trimmed items) number kind ≡ class_give part items number kind
+class_give_trimmed part items number (Note skip limit) =
+    ap (λ (sizes : List ℤ). if length sizes == 0 then pos 0 else part skip) (sizes_trimmed number items)
+class_give_trimmed part items number (Float area distance) = refl
 
 within_trimmed : (items : List Item) (number : ℕ) (kind : Kind) →
     is_within_limit (trimmed items) number kind ≡ is_within_limit items number kind
@@ -70,6 +77,13 @@ notes_trimmed style items =
     sums_alike (λ (class : Class). class_notes (trimmed items) class.number class.kind)
     (λ (class : Class). class_notes items class.number class.kind)
     (λ class. class_notes_trimmed items class.number class.kind) style.classes
+
+pub skips_trimmed : (part : Gap → ℤ) (style : StyleValue) (items : List Item) →
+    skips_give part style (trimmed items) ≡ skips_give part style items
+skips_trimmed part style items =
+    sums_alike (λ (class : Class). class_give part (trimmed items) class.number class.kind)
+    (λ (class : Class). class_give part items class.number class.kind)
+    (λ class. class_give_trimmed part items class.number class.kind) style.classes
 
 pub limits_trimmed : (style : StyleValue) (items : List Item) →
     are_notes_within_limits style (trimmed items) ≡ are_notes_within_limits style items

@@ -8,13 +8,15 @@ ghost use Rattle.pg_style.specs.Values.{StyleValue};
 ghost use Rattle.pg_style.specs.Ranges.{AreClasses, AreInOrder, IsStyle};
 ghost use Rattle.pg_list.specs.declared.item.Item.TheVariants.{Insert};
 ghost use Rattle.pg_notes.specs.declared.sums.NoteSum.{NoteSum as ANoteSum};
-ghost use Rattle.pg_rules.specs.Room.{notes, are_notes_within_limits};
-ghost use Rattle.pg_notes.specs.NotesValue.{note_height as note_height_of, heights as heights_of, is_over_limit as is_over_limit_of, first_over_limit};
+ghost use Rattle.pg_rules.specs.Floats.{gap_stretch, gap_shrink};
+ghost use Rattle.pg_rules.specs.Room.{notes, skips_give, are_notes_within_limits};
+ghost use Rattle.pg_notes.specs.NotesValue.{note_height as note_height_of, heights as heights_of, note_give as note_give_of, skips as skips_of, smallest_by, is_over_limit as is_over_limit_of, first_over_limit};
 ghost use Rattle.pg_notes.specs.AreNotes.{AreNotes, AreNoteSums, first_over};
 ghost use Rattle.pg_notes.specs.Step.{no_note, with_insert, with_note};
 
 use pg_list::Item;
-use pg_style::{Class, Kind, Style};
+use pg_scaled::minus;
+use pg_style::{Class, Give, Kind, Style};
 use std::marker::Model;
 
 /// The sum of the sizes of a class's inserts in scaled points, and whether there is one.
@@ -113,7 +115,7 @@ fn note_height(class: &Class, sum: &NoteSum) -> u64
     match &class.kind {
         Kind::Note { skip, .. } => {
             if sum.is_there {
-                skip.unsigned_abs() as u64 + sum.size
+                skip.size.unsigned_abs() as u64 + sum.size
             } else {
                 0
             }
@@ -138,6 +140,43 @@ fn heights(classes: &[Class], sums: &[NoteSum]) -> u64
         left = behind;
     }
     height
+}
+
+// What the skip of a class gives: nothing where it has no note.
+fn note_give(class: &Class, sum: &NoteSum) -> Give
+    ensures stretch { result.stretch ≡ note_give_of gap_stretch class.now.kind sum.now }
+    ensures shrink { result.shrink ≡ note_give_of gap_shrink class.now.kind sum.now }
+    ensures size { (nat_abs result.stretch ≤ 2 ^ 31) × (nat_abs result.shrink ≤ 2 ^ 31) }
+{
+    match &class.kind {
+        Kind::Note { skip, .. } => {
+            if !sum.is_there {
+                Give::none()
+            } else {
+                skip.give()
+            }
+        }
+        Kind::Float { .. } => Give::none(),
+    }
+}
+
+fn gives(classes: &[Class], sums: &[NoteSum]) -> Give
+    requires { length classes.now ≤ 8 }
+    ensures value { result ≡ skips_of classes.now sums.now }
+    ensures size { (nat_abs result.stretch ≤ 2 ^ 34) × (nat_abs result.shrink ≤ 2 ^ 34) }
+{
+    let mut give = Give::none();
+    let mut rest = classes;
+    let mut left = sums;
+    'classes: while let [class, after @ ..] = rest {
+        let [sum, behind @ ..] = left else {
+            return give;
+        };
+        give = give.plus(note_give(class, sum));
+        rest = after;
+        left = behind;
+    }
+    give
 }
 
 fn is_over_limit(class: &Class, sum: &NoteSum) -> bool
@@ -220,6 +259,14 @@ impl NoteSums {
         heights(classes_of(style), &self.sums)
     }
 
+    // What the skips of all classes give.
+    fn given(&self, style: &Style) -> Give
+        ensures value { result ≡ skips_of style.now.classes self.now.sums }
+        ensures size { (nat_abs result.stretch ≤ 2 ^ 34) × (nat_abs result.shrink ≤ 2 ^ 34) }
+    {
+        gives(classes_of(style), &self.sums)
+    }
+
     // The number of the first class above its limit.
     fn first_above(&self, style: &Style) -> Option<u8>
         ensures value { result ≡ first_over_limit style.now.classes self.now.sums }
@@ -236,6 +283,26 @@ impl NoteSums {
         ensures value { result ≡ pos (heights_of style.now.classes self.now.sums) }
     {
         self.taken(style) as i64
+    }
+
+    /// By how much the skips of the notes may be stretched and shrunk: those of each note class with a note.
+    pub fn give(&self, style: &Style) -> Give
+        ensures value { result ≡ skips_of style.now.classes self.now.sums }
+        ensures stretch { (items : List AnItem) → AreNotes style.now items self.now →
+            result.stretch ≡ skips_give gap_stretch style.now items }
+        ensures shrink { (items : List AnItem) → AreNotes style.now items self.now →
+            result.shrink ≡ skips_give gap_shrink style.now items }
+        ensures size { (nat_abs result.stretch ≤ 2 ^ 34) × (nat_abs result.shrink ≤ 2 ^ 34) }
+    {
+        self.given(style)
+    }
+
+    /// What the notes take of a column's room where their skips are shrunk.
+    pub fn smallest(&self, style: &Style) -> i64
+        ensures value { result ≡ smallest_by style.now.classes self.now.sums }
+        ensures size { nat_abs result < 2 ^ 52 }
+    {
+        minus(self.height(style), self.given(style).shrink)
     }
 
     /// The least number of a note class whose notes together are above its limit. None exactly where no class is.

@@ -19,6 +19,7 @@ use Rattle.pg_rules.specs.Legal.{Legal, breach, document}
 use Rattle.pg_rules.specs.Room.{Document, is_bottom_allowed, is_top_allowed}
 use Rattle.law_places.proofs.Callouts.{entry_zero}
 use Rattle.law_columns.specs.Stands.{Stand, StandsAfter}
+use Rattle.law_columns.proofs.Beginnings.{stand_behind}
 use Rattle.law_columns.proofs.Faults.{Sound, sound_of}
 use Rattle.law_columns.proofs.PagesLaws.{later, wide_long}
 use Rattle.law_columns.proofs.Areas.{IsUpTo, wide_range}
@@ -36,10 +37,6 @@ use Rattle.pg_pages.proofs.Whole.{first_apart, first_of, moves_more, sheet_by, t
 high_is : (o : Option ℤ) → ((z : ℤ) → o ≡ Some z → IsUpTo 8589934584 z) → IsWide o
 high_is None h = tt
 high_is (Some z) h = h z refl
-
-pub stand_behind : (doc : Document) (more ms : List PageMove) → Stand doc (more ++ ms) → Stand doc ms
-stand_behind doc [] ms stand = stand
-stand_behind doc (m ∷ more) ms stand = stand_behind doc more ms stand.1
 
 module _ (doc : Document) (all : AllByRecursion IsBlock doc.blocks) (rule : IsAreaRule doc.style.wide)
     (few : float_total doc.blocks doc.style ≤ 2 ^ 12) where

@@ -15,29 +15,9 @@ use Rattle.pg_rules.specs.Room.{Document}
 use Rattle.pg_floats.proofs.Lists.{flat_first}
 use Rattle.pg_floats.proofs.Numbers.{Within, above, all_within, at_or_above, more_than, numbers_are}
 use Rattle.pg_floats.specs.Callouts.{first_items}
-use Rattle.pg_glue.specs.Widths.{set_widths}
-use Rattle.pg_glue.specs.declared.Sense.TheVariants.{Stretch, Shrink}
 use Rattle.pg_pages.specs.Bodies.{body_text}
 use Rattle.pg_pages.specs.PageText.{float_bodies, inserted, is_note_kind, notes_text}
-use Rattle.pg_pages.specs.SetGlue.{own_width, shrinking, stretching}
-use Rattle.pg_pages.specs.Printed.{bodies_of, class_notes_text, elastic, is_note_class, notes_by, widths_by}
-
--- ---- glue
-
-stretch_same : (items : List Item) → flat_map (elastic Stretch) items ≡ flat_map stretching items
-stretch_same [] = refl
-stretch_same (item ∷ items) = ap (λ more. stretching item ++ more) (stretch_same items)
-
-shrink_same : (items : List Item) → flat_map (elastic Shrink) items ≡ flat_map shrinking items
-shrink_same [] = refl
-shrink_same (item ∷ items) = ap (λ more. shrinking item ++ more) (shrink_same items)
-
-pub widths_are : (items : List Item) (goal total : ℤ) (is_spent : Bool) →
-    widths_by items goal total is_spent
-    ≡ (if int_lt total goal && not is_spent then set_widths (flat_map stretching items) (goal -ℤ total) Stretch
-    else (if int_lt goal total then set_widths (flat_map shrinking items) (total -ℤ goal) Shrink
-    else flat_map own_width items))
-widths_are items goal total is_spent = rw (stretch_same items, shrink_same items) refl
+use Rattle.pg_pages.specs.Printed.{bodies_of, class_notes_text, is_note_class, notes_by}
 
 -- ---- notes
 

@@ -95,18 +95,18 @@ within total shrink goal e = by (int_le goal total) (int_lt shrink (total -ℤ g
     by false b p q e = inl (let h : total <ℤ goal = grind (arith, ints, p) in omega (arith, ints, h))
 
 -- what is to be shared
-pub excess_small : (topskip maxdepth goal : ℤ) (items : List Item) → AllByRecursion IsItemInRange items →
+pub excess_small : (topskip maxdepth goal give : ℤ) (items : List Item) → AllByRecursion IsItemInRange items →
     length items ≤ 2 ^ 20 → pos 0 ≤ℤ maxdepth → nat_abs maxdepth < 2 ^ 30 → goal ≤ℤ pos (2 ^ 40) →
-    is_over (total topskip maxdepth items) (shrink items) goal ≡ false →
+    nat_abs give < 2 ^ 42 → is_over (total topskip maxdepth items) (shrink items) (goal +ℤ give) ≡ false →
     nat_abs (goal -ℤ total topskip maxdepth items) < 2 ^ 52
-excess_small topskip maxdepth goal items all few some small high fits =
+excess_small topskip maxdepth goal give items all few some small high gives fits =
     by (top_glue topskip items) (whole_sum_by full_size items) (depth maxdepth items) (shrink items)
     (top_low topskip items) (sum_low items all) (depth_high maxdepth items some small) (shrink_high items all)
-    (within (total topskip maxdepth items) (shrink items) goal fits)
+    (within (total topskip maxdepth items) (shrink items) (goal +ℤ give) fits)
   where
     by : (t s d k : ℤ) → pos 0 ≤ℤ t → IsAbove (2 ^ 31 * length items) s → d <ℤ pos (2 ^ 30) →
         k ≤ℤ pos (2 ^ 30 * length items) →
-        ((((t +ℤ s) -ℤ d) -ℤ goal) ≤ℤ pos 0 ⊎ (((t +ℤ s) -ℤ d) -ℤ goal) ≤ℤ k) →
+        ((((t +ℤ s) -ℤ d) -ℤ (goal +ℤ give)) ≤ℤ pos 0 ⊎ (((t +ℤ s) -ℤ d) -ℤ (goal +ℤ give)) ≤ℤ k) →
         nat_abs (goal -ℤ ((t +ℤ s) -ℤ d)) < 2 ^ 52
-    by t s d k h i j l (inl m) = omega (arith, ints, h, i, j, l, m, few, high)
-    by t s d k h i j l (inr m) = omega (arith, ints, h, i, j, l, m, few, high)
+    by t s d k h i j l (inl m) = omega (arith, ints, h, i, j, l, m, few, high, gives)
+    by t s d k h i j l (inr m) = omega (arith, ints, h, i, j, l, m, few, high, gives)

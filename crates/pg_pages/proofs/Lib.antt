@@ -2,12 +2,14 @@ pub mod WorkedTexts
 pub mod Grown
 pub mod Numbers
 pub mod Printed
+pub mod GapLists
 pub mod Between
 pub mod Widths
 pub mod Excess
 pub mod Rooms
 pub mod ColumnText
 pub mod TextColumn
+pub mod SetColumn
 pub mod SheetText
 pub mod Later
 pub mod Whole

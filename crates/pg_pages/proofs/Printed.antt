@@ -15,8 +15,9 @@ use Rattle.pg_list.specs.Totals.{trimmed}
 use Rattle.pg_column.proofs.Leads.{is_at, position_here, position_later}
 use Rattle.std.proofs.lemmas.List.Elements.{filter_map-append}
 use Rattle.pg_pages.specs.Bodies.{plain_text}
+use Rattle.pg_pages.specs.SetGlue.{elastic}
 use Rattle.pg_pages.specs.PageText.{inserted, inserted_body, set_items}
-use Rattle.pg_pages.specs.Printed.{box_on, elastic, front_of, kept_from, set_item, widths_behind}
+use Rattle.pg_pages.specs.Printed.{box_on, front_of, kept_from, set_item, widths_behind}
 use Rattle.pg_lemmas.proofs.Bools.{by_bool, if_false, if_true}
 use Rattle.std.specs.Prelude.{ℤ, pos}
 use Rattle.std.proofs.lemmas.List.{map-append, take_all}

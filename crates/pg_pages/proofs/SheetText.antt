@@ -1,5 +1,5 @@
 -- Pages in reading order.
-use Rattle.std.proofs.Common.{◌≡◌, refl, sym, ap, ◌∙◌, ℕ, ◌+◌, zero, suc, arith, append_assoc, List, [], ◌∷◌, ◌++◌, map, length, Bool, true, Option, Some, None}
+use Rattle.std.proofs.Common.{◌≡◌, refl, sym, ap, ◌∙◌, ℕ, ◌+◌, zero, suc, arith, append_assoc, List, [], ◌∷◌, ◌++◌, map, length, Bool, true, false, Option, Some, None}
 use Rattle.std.specs.Prelude.{◌==◌, ◌&&◌, ◌||◌, if◌then◌else◌, nat_le, nat_lt, ℤ, pos, codes}
 use Rattle.std.specs.List.{range_with_len}
 use Rattle.pg_plan.specs.declared.pages.Column.{Column}
@@ -14,8 +14,12 @@ use Rattle.pg_rules.specs.Room.{Document, checked_height}
 use Rattle.pg_lemmas.proofs.Bools.{both_of}
 use Rattle.pg_lemmas.proofs.Numbers.{less_of}
 use Rattle.pg_pages.specs.Sheets.{columns_from, is_any, placed_from, sheet_behind, sheet_text}
-use Rattle.pg_pages.specs.PageText.{area, float_bodies, floats_text, page_line}
-use Rattle.pg_pages.specs.Printed.{dealt_text, wide_by}
+use Rattle.pg_pages.specs.PageText.{area, float_bodies, floats_text, hanging_text, hung_sizes, page_line}
+use Rattle.pg_pages.specs.Gaps.{hung_gaps, hung_text, shows_gaps}
+use Rattle.pg_pages.specs.SetGlue.{own_sizes}
+use Rattle.pg_pages.proofs.GapLists.{many}
+use Rattle.pg_style.specs.declared.style.Gap.{Gap}
+use Rattle.pg_pages.specs.Printed.{hanging_by, wide_by, wide_set}
 use Rattle.pg_pages.proofs.Grown.{two_parts}
 
 any_step : (n m : ℕ) (b : Bool) → b ≡ nat_lt 0 m → (nat_lt 0 n || b) ≡ nat_lt 0 (n + m)
@@ -55,6 +59,25 @@ made_is doc placed counts any allowed e =
     (has_all (floats doc.blocks doc.style) placed counts)
     (area_height doc.style.wide (dealt (floats doc.blocks doc.style) placed counts)) (e ∙ any_is doc counts allowed) allowed
 
+-- ---- the wide area
+
+-- where no gaps are shown their widths do not matter
+sizes_free : (b : Bool) (gaps : List Gap) (f : List ℤ → List ℕ) (plain : List ℕ) →
+    (if b then f (own_sizes (if b then gaps else [])) else plain) ≡ (if b then f (own_sizes gaps) else plain)
+sizes_free true gaps f plain = refl
+sizes_free false gaps f plain = refl
+
+wide_text : (doc : Document) (placed counts : List ℕ) → wide_by doc.style (float_bodies doc) placed counts
+    ≡ area (codes "wide") (hanging_text doc doc.style.wide placed counts (hung_sizes doc doc.style.wide placed counts))
+unfolding wide_by wide_set hanging_by hanging_text floats_text
+wide_text doc placed counts =
+    ap (area (codes "wide")) (sizes_free (shows_gaps doc.style)
+    (hung_gaps doc.style.wide (length (dealt (float_bodies doc) placed counts)))
+    (hung_text doc.style.wide (dealt (float_bodies doc) placed counts)) (floats_text doc placed counts)
+    ∙ ap (λ (n : ℕ). if shows_gaps doc.style
+    then hung_text doc.style.wide (dealt (float_bodies doc) placed counts) (own_sizes (hung_gaps doc.style.wide n))
+    else floats_text doc placed counts) (sym (many doc placed counts)))
+
 -- ---- a page from its parts
 
 pub sheet_is : (doc : Document) (number : ℕ) (placed : List ℕ) (page : Page) (bodies : List (List (List ℕ))) →
@@ -62,12 +85,12 @@ pub sheet_is : (doc : Document) (number : ℕ) (placed : List ℕ) (page : Page)
     wide ≡ made_wide doc placed page.wide → (before : List ℕ) → before ≡ plus_counts doc.style placed page.wide →
     (columns : List Column) → columns ≡ page.columns → (old mid new : List ℕ) →
     mid ≡ old ++ (page_line number (side_of doc.style.first number) page.run page.wide
-    ++ wide_by bodies placed page.wide) → new ≡ mid ++ columns_from doc run wide 1 before columns →
+    ++ wide_by doc.style bodies placed page.wide) → new ≡ mid ++ columns_from doc run wide 1 before columns →
     new ≡ old ++ sheet_text doc number placed page
-unfolding floats_text wide_by
 sheet_is doc number placed page bodies b run r wide w before p columns c old mid new m n =
     let front = page_line number (side_of doc.style.first number) page.run page.wide in
-    let floats = area (codes "wide") (dealt_text (float_bodies doc) placed page.wide) in
+    let floats = area (codes "wide") (hanging_text doc doc.style.wide placed page.wide
+    (hung_sizes doc doc.style.wide placed page.wide)) in
     let rest = columns_from doc page.run (made_wide doc placed page.wide) 1 (plus_counts doc.style placed page.wide)
     page.columns in
     let same : columns_from doc run wide 1 before columns ≡ rest =
@@ -77,7 +100,8 @@ sheet_is doc number placed page bodies b run r wide w before p columns c old mid
     ∙ ap (λ (x : List Column). columns_from doc page.run (made_wide doc placed page.wide) 1
     (plus_counts doc.style placed page.wide) x) c in
     two_parts old mid new (front ++ floats) rest
-    (m ∙ ap (λ (x : List (List (List ℕ))). old ++ (front ++ area (codes "wide") (dealt_text x placed page.wide))) b)
+    (m ∙ (ap (λ (x : List (List (List ℕ))). old ++ (front ++ wide_by doc.style x placed page.wide)) b
+    ∙ ap (λ (x : List ℕ). old ++ (front ++ x)) (wide_text doc placed page.wide)))
     (n ∙ ap (λ (text : List ℕ). mid ++ text) same)
     ∙ ap (λ (text : List ℕ). old ++ text) (append_assoc front floats rest)
 

@@ -1,7 +1,7 @@
 -- A column of text that may be printed: its numbers, its items and its text.
-use Rattle.std.proofs.Common.{◌≡◌, refl, sym, ap, ◌∙◌, subst, ℕ, suc, ◌+◌, ◌≤◌, ◌<◌, ◌^◌, arith, List, [], ◌∷◌, ◌++◌, map, take, length, Bool, true, false, Option, Some, None, append_assoc}
+use Rattle.std.proofs.Common.{◌≡◌, refl, sym, ap, ◌∙◌, subst, ℕ, suc, ◌+◌, ◌*◌, ◌≤◌, ◌<◌, ◌^◌, arith, List, [], ◌∷◌, ◌++◌, map, take, length, Bool, true, false, Option, Some, None, append_assoc}
 use Rattle.std.specs.Prelude.{◌==◌, ◌&&◌, ◌||◌, not, if◌then◌else◌, int_lt, int_le, is_none, nat_abs, ℤ, pos, ◌+ℤ◌, ◌-ℤ◌, ◌≤ℤ◌, ◌<ℤ◌, Result, Ok, Err, codes, decimal}
-use Rattle.std.specs.List.{AllByRecursion, range_with_len}
+use Rattle.std.specs.List.{AllByRecursion, flat_map, range_with_len}
 use Rattle.std.specs.Option.{option_map_or}
 use Rattle.std.proofs.lemmas.Bool.{eqb-true}
 use Rattle.std.proofs.lemmas.Int.{ints}
@@ -12,7 +12,7 @@ use Rattle.pg_list.specs.Shapes.{IsBlock, is_box, is_discardable}
 use Rattle.pg_list.specs.declared.item.Item.{Item}
 use Rattle.pg_list.specs.Break.{break_penalty, is_spent}
 use Rattle.pg_list.specs.Flat.{FlatItem, blocks_at, end_of, flat, fronts, is_same_place, picked_variants}
-use Rattle.pg_list.specs.Totals.{trimmed}
+use Rattle.pg_list.specs.Totals.{shrink, trimmed}
 use Rattle.pg_list.specs.Whole.{whole_sum, whole_sum_by}
 use Rattle.pg_style.specs.Ranges.{IsClass, IsKind, IsStyle}
 use Rattle.pg_style.specs.Values.{StyleValue}
@@ -20,26 +20,32 @@ use Rattle.pg_plan.specs.declared.pages.Column.{Column}
 use Rattle.pg_style.specs.declared.style.Class.{Class}
 use Rattle.pg_style.specs.declared.style.Kind.{Kind}
 use Rattle.pg_style.specs.declared.style.Kind.TheVariants.{Note, Float}
-use Rattle.pg_rules.specs.ColumnRules.{column_variants, does_fit, segment, text_goal, text_is_over, text_total}
-use Rattle.pg_rules.specs.Floats.{entry, float_numbers, plus_counts, sizes_of}
+use Rattle.pg_rules.specs.ColumnRules.{column_variants, does_fit, segment, tallest_goal, text_goal, text_is_over, text_total}
+use Rattle.pg_rules.specs.Floats.{entry, float_numbers, gap_shrink, plus_counts, sizes_of}
 use Rattle.pg_rules.specs.Follow.{KeepsColumnRules}
-use Rattle.pg_rules.specs.Room.{ColumnContext, Document, before_bottom, class_notes, flat_items_of, is_text, items_of, notes, room, size_of}
+use Rattle.pg_rules.specs.Room.{ColumnContext, Document, areas_give, before_bottom, class_give, class_notes, flat_items_of, is_text, items_of, give, notes, room, size_of, skips_give}
 use Rattle.law_columns.proofs.Faults.{none_or, none_unless}
 use Rattle.law_columns.proofs.Areas.{IsSize, sizes_range}
 use Rattle.pg_column.specs.Judged.{Judges, text_fault}
-use Rattle.pg_column.specs.Numbers.{AreNumbers}
+use Rattle.law_columns.proofs.Gives.{shrink_part}
+use Rattle.pg_list.specs.Badness.{is_over}
+use Rattle.pg_column.specs.Numbers.{AreNumbers, IsRoom, text_room}
+use Rattle.pg_style.specs.declared.style.Gap.{Gap}
 use Rattle.pg_column.specs.declared.cost.TextCost.{TextCost}
 use Rattle.pg_column.proofs.Passing.{InRange, at_ranges}
 use Rattle.pg_column.proofs.Spans.{ahead_few}
 use Rattle.pg_lemmas.proofs.Bools.{both_of, if_false}
 use Rattle.pg_lemmas.proofs.Lists.{all_take}
-use Rattle.pg_pages.specs.PageText.{area, bottom_area, column_body, column_line, float_column, float_bodies, floats_text, inserted, items_text, notes_text, set_line, text_area, text_column, top_area}
+use Rattle.pg_pages.specs.Gaps.{gaps_above, note_gaps, shows_gaps}
+use Rattle.pg_pages.specs.PageText.{area, bottom_area, column_body, column_line, float_column, float_bodies, floats_text, hanging_text, inserted, set_line, set_notes, skipped_notes, standing_floats, text_area, text_column, top_area}
+use Rattle.pg_pages.specs.SetGlue.{bottom_widths, glue_widths, note_widths, own_sizes, own_width, text_widths, widths_by}
 use Rattle.pg_words.specs.Written.{line}
 use Rattle.pg_pages.specs.Seated.{seated}
 use Rattle.pg_pages.specs.Sheets.{seat_text}
 use Rattle.pg_pages.specs.declared.seats.Seat.{Seat}
-use Rattle.pg_pages.specs.Printed.{bare_text, bottom_by, dealt_text, numbers_text, read_above, read_below, read_text, text_by, top_by}
-use Rattle.pg_pages.proofs.ColumnText.{notes_are, widths_are}
+use Rattle.pg_pages.specs.Printed.{bare_text, bottom_by, hanging_by, hung_by, notes_area, notes_set, numbers_text, read_text, set_column, standing_by, stood_by, text_by, top_by}
+use Rattle.pg_pages.proofs.GapLists as gaps
+use Rattle.pg_pages.proofs.ColumnText.{notes_are}
 use Rattle.pg_pages.proofs.Excess.{excess_small}
 use Rattle.pg_pages.proofs.Numbers.{printed}
 use Rattle.pg_column.specs.Between.{items_to}
@@ -85,7 +91,7 @@ sizes_sum (size ∷ sizes) all = add size (whole_sum sizes) all.0.0 (sizes_sum s
 kind_low : (items : List Item) (number : ℕ) (kind : Kind) → IsKind kind → AllByRecursion IsItemInRange items →
     pos 0 ≤ℤ class_notes items number kind
 kind_low items number (Float area distance) is all = omega (arith, ints)
-kind_low items number (Note skip limit) is all = by (length (sizes_of number items) == 0) skip is.0.0
+kind_low items number (Note skip limit) is all = by (length (sizes_of number items) == 0) skip.size is.0.size_in.0
     (sizes_sum (sizes_of number items) (sizes_range number items all))
   where
     by : (b : Bool) (z : ℤ) → pos 0 ≤ℤ z → pos 0 ≤ℤ whole_sum (sizes_of number items) →
@@ -104,6 +110,27 @@ notes_low items (class ∷ classes) is all =
   where
     add : (a b : ℤ) → pos 0 ≤ℤ a → pos 0 ≤ℤ b → pos 0 ≤ℤ (a +ℤ b)
     add a b h k = omega (arith, ints, h, k)
+
+-- what the skips of all notes give
+gives_few : (items : List Item) (classes : List Class) → AllByRecursion IsClass classes →
+    nat_abs (whole_sum_by (λ (class : Class). class_give gap_shrink items class.number class.kind) classes)
+    ≤ 2 ^ 30 * length classes
+gives_few items [] is = omega arith
+gives_few items (class ∷ classes) is =
+    add (class_give gap_shrink items class.number class.kind)
+    (whole_sum_by (λ (class : Class). class_give gap_shrink items class.number class.kind) classes) (length classes)
+    (one class.number class.kind is.0.kind_in) (gives_few items classes is.1)
+  where
+    add : (a b : ℤ) (n : ℕ) → nat_abs a ≤ 2 ^ 30 → nat_abs b ≤ 2 ^ 30 * n → nat_abs (a +ℤ b) ≤ 2 ^ 30 * suc n
+    add a b n h k = omega (arith, ints, h, k)
+
+    one : (number : ℕ) (kind : Kind) → IsKind kind → nat_abs (class_give gap_shrink items number kind) ≤ 2 ^ 30
+    one number (Float area distance) range = omega arith
+    one number (Note skip limit) range = by (length (sizes_of number items) == 0) (shrink_part skip range.0).1
+      where
+        by : (b : Bool) → nat_abs skip.shrink < 2 ^ 30 → nat_abs (if b then pos 0 else skip.shrink) ≤ 2 ^ 30
+        by true h = omega arith
+        by false h = omega (arith, h)
 
 -- ---- the same text
 
@@ -191,11 +218,27 @@ module _ (it : ColumnContext) (all : AllByRecursion IsBlock it.document.blocks) 
         less : (a b : ℤ) → nat_abs a < 2 ^ 40 → pos 0 ≤ℤ b → (a -ℤ b) ≤ℤ pos (2 ^ 40)
         less a b h k = omega (arith, ints, h, k)
 
-    pub excess_is_small : item_count it.document.blocks ≤ 2 ^ 20 → nat_abs (room it) < 2 ^ 40 → is_text it ≡ true →
+    tallest_is : tallest_goal it n ≡ text_goal it n +ℤ give gap_shrink it (segment it n)
+    tallest_is = sums (room it) (areas_give gap_shrink it) (notes it.document.style (segment it n))
+        (skips_give gap_shrink it.document.style (segment it n))
+      where
+        sums : (r a h k : ℤ) → ((r +ℤ a) -ℤ (h -ℤ k)) ≡ ((r -ℤ h) +ℤ (a +ℤ k))
+        sums r a h k = omega (arith, ints)
+
+    give_small : nat_abs (areas_give gap_shrink it) < 2 ^ 40 → nat_abs (give gap_shrink it (segment it n)) < 2 ^ 42
+    give_small small = add (areas_give gap_shrink it) (skips_give gap_shrink it.document.style (segment it n)) small
+        (gives_few (segment it n) it.document.style.classes style.classes_in.each) style.classes_in.few
+      where
+        add : (a b : ℤ) → nat_abs a < 2 ^ 40 → nat_abs b ≤ 2 ^ 30 * length it.document.style.classes →
+            length it.document.style.classes ≤ 8 → nat_abs (a +ℤ b) < 2 ^ 42
+        add a b h k l = omega (arith, ints, h, k, l)
+
+    pub excess_is_small : item_count it.document.blocks ≤ 2 ^ 20 → IsRoom (text_room it) → is_text it ≡ true →
         nat_abs (text_goal it n -ℤ text_total it n) < 2 ^ 52
     excess_is_small few small text = excess_small it.document.style.topskip it.document.style.maxdepth (text_goal it n)
-        (segment it n) segment_range (segment_few few) style.maxdepth_in.0 style.maxdepth_in.1 (goal_high small)
-        (text_fits text)
+        (give gap_shrink it (segment it n)) (segment it n) segment_range (segment_few few) style.maxdepth_in.0
+        style.maxdepth_in.1 (goal_high small.size) (give_small small.shrink)
+        (ap (is_over (text_total it n) (shrink (segment it n))) (sym tallest_is) ∙ text_fits text)
 
     -- ---- its text
 
@@ -205,29 +248,61 @@ module _ (it : ColumnContext) (all : AllByRecursion IsBlock it.document.blocks) 
       line_is = printed it n numbers are.goal are.total are.badness
           (ap (λ (o : Option ℤ). option_map_or (λ (penalty : ℤ). penalty) o (pos 0)) are.penalty) are.demerits
 
-      text_is : text_by it.document.style (segment it n) numbers.goal numbers.total spent ≡ text_area it n
+      text_is : text_by it.document.style (segment it n) (text_widths it n) ≡ text_area it n
       unfolding text_area text_by
-      text_is = rw (are.goal, are.total, spent_is)
-          (ap (λ (widths : List ℤ). line (codes "area text")
-          ++ items_text it.document.style.topskip (segment it n) widths)
-          (widths_are (segment it n) (text_goal it n) (text_total it n) (is_spent (items_of it) n)))
+      text_is = refl
 
-      dealt_is : (before counts : List ℕ) →
-          dealt_text (float_bodies it.document) before counts ≡ floats_text it.document before counts
-      unfolding floats_text
-      dealt_is before counts = refl
+      top_is : (widths : List ℤ) →
+          top_by it.document.style (float_bodies it.document) it.before it.column widths ≡ top_area it widths
+      unfolding top_by hanging_by hanging_text floats_text
+      top_is widths = refl
+
+      bottom_is : (widths : List ℤ) → bottom_by it.document.style (float_bodies it.document) (before_bottom it) it.column
+          widths ≡ bottom_area it widths
+      unfolding bottom_by standing_by standing_floats floats_text
+      bottom_is widths = refl
+
+      notes_is : (widths : List ℤ) → notes_area it.document.style (segment it n) widths
+          ≡ area (codes "notes") (set_notes it.document.style (segment it n) widths)
+      unfolding notes_area notes_set set_notes
+      notes_is widths = ap (λ (text : List ℕ). area (codes "notes") (if shows_gaps it.document.style
+          then skipped_notes it.document.style.classes (segment it n) widths else text))
+          (notes_are it.document.style (segment it n) style.classes_in)
+
+      set_is : set_column it.document.style (float_bodies it.document) it.before (before_bottom it) it.column (segment it n)
+          numbers (glue_widths it n) (length (gaps_above it)) (length (flat_map own_width (segment it n)))
+          (length (note_gaps it.document.style (segment it n))) ≡ text_column it n
+      unfolding set_column
+      set_is = rw (
+        line_is,
+        top_is (glue_widths it n),
+        text_is,
+        bottom_is (bottom_widths it n),
+        notes_is (note_widths it n),
+      ) refl
+
+      widths_is : widths_by it.document.style
+          (hung_by it.document.style it.document.style.top (float_bodies it.document) it.before it.column.top)
+          (segment it n) (note_gaps it.document.style (segment it n)
+          ++ stood_by it.document.style it.document.style.bottom (float_bodies it.document) (before_bottom it)
+          it.column.bottom) numbers.goal numbers.total spent ≡ glue_widths it n
+      widths_is = same _ _ _ _ _ _ _ _ _ _ (gaps.above_is it) (gaps.bottom_is it) are.goal are.total spent_is
+        where
+          same : (a a' b b' : List Gap) (g g' t t' : ℤ) (s s' : Bool) → a ≡ a' → b ≡ b' → g ≡ g' → t ≡ t' → s ≡ s' →
+              widths_by it.document.style a (segment it n) (note_gaps it.document.style (segment it n) ++ b) g t s
+              ≡ widths_by it.document.style a' (segment it n) (note_gaps it.document.style (segment it n) ++ b') g' t' s'
+          same a a' b b' g g' t t' s s' p q r u v = rw (p, q, r, u, v) refl
 
       column_is : read_text it.document.style (float_bodies it.document) it.before (before_bottom it) it.column
           (segment it n) numbers spent ≡ text_column it n
-      unfolding bottom_by read_above read_below read_text top_by
-      column_is = rw (
-        line_is,
-        text_is,
-        dealt_is it.before it.column.top,
-        dealt_is (before_bottom it) it.column.bottom,
-        notes_are it.document.style (segment it n) style.classes_in,
-      ) (ap (λ (text : List ℕ). text ++ area (codes "notes") (notes_text it.document.style (segment it n)))
-          (sym (append_assoc (set_line it n ++ top_area it) (text_area it n) (bottom_area it))))
+      unfolding read_text
+      column_is = ap (λ (widths : List ℤ). set_column it.document.style (float_bodies it.document) it.before
+          (before_bottom it) it.column (segment it n) numbers widths
+          (length (hung_by it.document.style it.document.style.top (float_bodies it.document) it.before it.column.top))
+          (length (flat_map own_width (segment it n))) (length (note_gaps it.document.style (segment it n)))) widths_is
+          ∙ (ap (λ (gaps : List Gap). set_column it.document.style (float_bodies it.document) it.before (before_bottom it)
+          it.column (segment it n) numbers (glue_widths it n) (length gaps) (length (flat_map own_width (segment it n)))
+          (length (note_gaps it.document.style (segment it n)))) (gaps.above_is it) ∙ set_is)
 
       pub column_text_is : (bodies : List (List (List ℕ))) (before below : List ℕ) (items : List Item) →
           bodies ≡ float_bodies it.document → before ≡ it.before → below ≡ before_bottom it → items ≡ segment it n →
@@ -269,25 +344,27 @@ numbered it (Err rule) numbers is e n size = absurd cc
 
 -- ---- with text or without
 
+bare_is : (it : ColumnContext) →
+    bare_text it.document.style (float_bodies it.document) it.before (before_bottom it) it.column ≡ float_column it
+unfolding bare_text top_by bottom_by hanging_by standing_by hanging_text standing_floats floats_text
+bare_is it =
+    ap (λ (top : List Gap). line (codes "without text demerits " ++ decimal it.document.style.float_column.demerits)
+    ++ top_area it (own_sizes top) ++ bottom_area it (own_sizes
+    (stood_by it.document.style it.document.style.bottom (float_bodies it.document) (before_bottom it) it.column.bottom)))
+    (gaps.above_is it)
+    ∙ ap (λ (bottom : List Gap). line (codes "without text demerits "
+    ++ decimal it.document.style.float_column.demerits)
+    ++ top_area it (own_sizes (gaps_above it)) ++ bottom_area it (own_sizes bottom)) (gaps.bottom_is it)
+
 pub body_of_floats : (it : ColumnContext) → is_same_place it.column.from it.column.to ≡ true →
     (bodies : List (List (List ℕ))) (before below : List ℕ) → bodies ≡ float_bodies it.document → before ≡ it.before →
-    below ≡ before_bottom it →
-    bare_text it.document.style.float_column.demerits (dealt_text bodies before it.column.top)
-    (dealt_text bodies below it.column.bottom) ≡ column_body it
-unfolding bare_text floats_text
+    below ≡ before_bottom it → bare_text it.document.style bodies before below it.column ≡ column_body it
 body_of_floats it same bodies before below p q r =
-    ap (λ (xs : List (List (List ℕ))). bare (dealt_text xs before it.column.top) (dealt_text xs below it.column.bottom)) p
-    ∙ ap (λ (xs : List ℕ). bare (dealt_text (float_bodies it.document) xs it.column.top)
-    (dealt_text (float_bodies it.document) below it.column.bottom)) q
-    ∙ ap (λ (xs : List ℕ). bare (dealt_text (float_bodies it.document) it.before it.column.top)
-    (dealt_text (float_bodies it.document) xs it.column.bottom)) r
-    ∙ sym (append_assoc (line (codes "without text demerits " ++ decimal it.document.style.float_column.demerits))
-    (top_area it) (bottom_area it))
+    ap (λ (xs : List (List (List ℕ))). bare_text it.document.style xs before below it.column) p
+    ∙ ap (λ (xs : List ℕ). bare_text it.document.style (float_bodies it.document) xs below it.column) q
+    ∙ ap (λ (xs : List ℕ). bare_text it.document.style (float_bodies it.document) it.before xs it.column) r
+    ∙ bare_is it
     ∙ sym (if_false (is_text it) (option_map_or (text_column it) (size_of it) []) (float_column it) (ap not same))
-  where
-    bare : List ℕ → List ℕ → List ℕ
-    bare top bottom = line (codes "without text demerits " ++ decimal it.document.style.float_column.demerits)
-        ++ (area (codes "top") top ++ area (codes "bottom") bottom)
 
 -- ---- columns in their seats
 

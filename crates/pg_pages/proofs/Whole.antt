@@ -16,7 +16,7 @@ use Rattle.pg_rules.specs.Room.{Document}
 use Rattle.law_columns.proofs.PagesLaws.{later}
 use Rattle.pg_lemmas.proofs.Bools.{if_false, if_true}
 use Rattle.pg_lemmas.proofs.Numbers.{eq_no, eq_yes}
-use Rattle.pg_pages.specs.PageText.{area, head_line, page_text, column_body, column_line, column_text, columns_text, floats_text, page_head, page_line}
+use Rattle.pg_pages.specs.PageText.{area, head_line, page_text, column_body, column_line, column_text, columns_text, hanging_text, hung_sizes, page_head, page_line}
 use Rattle.pg_pages.specs.Sheets.{AreFilled, columns_from, context_at, placed_behind, sheet_behind, sheet_text, sheets_text}
 use Rattle.pg_pages.proofs.Later.{HasTurned, are_later, turned_later}
 
@@ -79,7 +79,8 @@ is_sheet doc page column columns ms first few =
           ∙ ap (λ (text : List ℕ). (columns_text doc ms ++ text) ++ others) here
           ∙ regroup (columns_text doc ms)
           (page_line (next_page doc.style ms) (next_side doc.style ms) page.run page.wide)
-          (area (codes "wide") (floats_text doc placed page.wide)) (column_line 1 column) body others;
+          (area (codes "wide") (hanging_text doc doc.style.wide placed page.wide
+          (hung_sizes doc doc.style.wide placed page.wide))) (column_line 1 column) body others;
       placed = ap (placed_of doc.style) lists ∙ rest.placed;
     }
 

@@ -1,4 +1,5 @@
 pub mod Bodies
+pub mod Gaps
 pub mod SetGlue
 pub mod PageText
 pub mod Printed

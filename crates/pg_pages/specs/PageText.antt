@@ -14,12 +14,12 @@ use Rattle.pg_plan.specs.declared.states.Side.{Side}
 use Rattle.pg_plan.specs.declared.pages.Column.{Column}
 use Rattle.pg_plan.specs.declared.pages.PageMove.{PageMove}
 use Rattle.pg_plan.specs.declared.pages.Pagination.{Pagination}
-use Rattle.pg_style.specs.Values.{StyleValue}
+use Rattle.pg_style.specs.Values.{AreaRuleValue, StyleValue}
 use Rattle.pg_style.specs.declared.style.Class.{Class}
 use Rattle.pg_style.specs.declared.style.Kind.{Kind}
 use Rattle.pg_style.specs.declared.style.Kind.TheVariants.{Note, Float}
 use Rattle.pg_rules.specs.Room.{Document, ColumnContext, is_text, items_of, size_of, before_bottom}
-use Rattle.pg_rules.specs.Floats.{class_of, float_numbers, dealt}
+use Rattle.pg_rules.specs.Floats.{class_of, float_numbers, floats, dealt}
 use Rattle.pg_rules.specs.ColumnRules.{segment, text_total, text_goal, text_badness}
 use Rattle.pg_rules.specs.Cost.{text_demerits}
 use Rattle.pg_rules.specs.History.{next_column, next_page, next_side, placed_of, context}
@@ -27,7 +27,8 @@ use Rattle.pg_rules.specs.Legal.{document}
 use Rattle.pg_scaled.specs.Scaled.{scaled_text}
 use Rattle.pg_words.specs.Written.{line, whole_text, counts_text, place_text, side_text}
 use Rattle.pg_pages.specs.Bodies.{body_text, set_text, plain_text}
-use Rattle.pg_pages.specs.SetGlue.{glue_widths}
+use Rattle.pg_pages.specs.Gaps.{bottom_gaps, gaps_above, hung_gaps, hung_text, kind_skips, shows_gaps, skipped_text, standing_text}
+use Rattle.pg_pages.specs.SetGlue.{bottom_widths, glue_widths, note_widths, own_sizes, text_widths}
 
 -- ---- areas
 
@@ -59,11 +60,45 @@ is_note_kind (Float area distance) = false
 abbrev pub is_note : StyleValue → ℕ → Bool
 is_note style number = option_map_or (λ (class : Class). is_note_kind class.kind) (class_of style number) false
 
+-- floats that hang at the top of a column or of a page, with the gaps below them in version 3
+unfoldable pub hanging_text : Document → AreaRuleValue → List ℕ → List ℕ → List ℤ → List ℕ
+hanging_text doc rule before counts widths =
+    if shows_gaps doc.style then hung_text rule (dealt (float_bodies doc) before counts) widths
+    else floats_text doc before counts
+
+-- floats that stand at its bottom, with the gaps above them in version 3
+unfoldable pub standing_floats : Document → AreaRuleValue → List ℕ → List ℕ → List ℤ → List ℕ
+standing_floats doc rule before counts widths =
+    if shows_gaps doc.style then standing_text rule (dealt (float_bodies doc) before counts) widths
+    else floats_text doc before counts
+
+-- the gaps of so many floats that counts deal out, as they are
+abbrev pub hung_sizes : Document → AreaRuleValue → List ℕ → List ℕ → List ℤ
+hung_sizes doc rule before counts =
+    own_sizes (hung_gaps rule (length (dealt (floats doc.blocks doc.style) before counts)))
+
 -- the notes of a segment, by class in increasing number and then in order
 unfoldable pub notes_text : StyleValue → List Item → List ℕ
 notes_text style items =
     flat_map (λ (number : ℕ). if is_note style number then flat_map body_text (inserted number items) else [])
     (range_with_len 0 255)
+
+-- the notes of a class, below its skip
+abbrev pub kind_notes : List Item → ℕ → Kind → List ℤ → List ℕ
+kind_notes items number (Note skip limit) widths = skipped_text skip (inserted number items) widths
+kind_notes items number (Float area distance) widths = []
+
+-- the notes of these classes, below their skips
+abbrev pub skipped_notes : List Class → List Item → List ℤ → List ℕ
+skipped_notes [] items widths = []
+skipped_notes (class ∷ classes) items widths =
+    kind_notes items class.number class.kind widths
+    ++ skipped_notes classes items (drop (length (kind_skips items class.number class.kind)) widths)
+
+-- the notes of a segment, with their skips in version 3
+unfoldable pub set_notes : StyleValue → List Item → List ℤ → List ℕ
+set_notes style items widths =
+    if shows_gaps style then skipped_notes style.classes items widths else notes_text style items
 
 -- ---- the text of a column
 
@@ -97,22 +132,27 @@ set_line it n =
 
 unfoldable pub text_area : ColumnContext → ℕ → List ℕ
 text_area it n = line (codes "area text")
-    ++ items_text it.document.style.topskip (segment it n) (glue_widths it n)
+    ++ items_text it.document.style.topskip (segment it n) (text_widths it n)
 
-abbrev pub top_area : ColumnContext → List ℕ
-top_area it = area (codes "top") (floats_text it.document it.before it.column.top)
+-- the areas of a column, their gaps set to these widths
+abbrev pub top_area : ColumnContext → List ℤ → List ℕ
+top_area it widths =
+    area (codes "top") (hanging_text it.document it.document.style.top it.before it.column.top widths)
 
-abbrev pub bottom_area : ColumnContext → List ℕ
-bottom_area it = area (codes "bottom") (floats_text it.document (before_bottom it) it.column.bottom)
+abbrev pub bottom_area : ColumnContext → List ℤ → List ℕ
+bottom_area it widths =
+    area (codes "bottom")
+    (standing_floats it.document it.document.style.bottom (before_bottom it) it.column.bottom widths)
 
 -- a column with n items of text
 abbrev pub text_column : ColumnContext → ℕ → List ℕ
-text_column it n = set_line it n ++ top_area it ++ text_area it n ++ bottom_area it
-    ++ area (codes "notes") (notes_text it.document.style (segment it n))
+text_column it n = set_line it n ++ top_area it (glue_widths it n) ++ text_area it n
+    ++ bottom_area it (bottom_widths it n)
+    ++ area (codes "notes") (set_notes it.document.style (segment it n) (note_widths it n))
 
 abbrev pub float_column : ColumnContext → List ℕ
 float_column it = line (codes "without text demerits " ++ decimal it.document.style.float_column.demerits)
-    ++ top_area it ++ bottom_area it
+    ++ top_area it (own_sizes (gaps_above it)) ++ bottom_area it (own_sizes (bottom_gaps it))
 
 unfoldable pub column_ends : ℕ → Column → List ℕ
 column_ends number column = codes "column " ++ decimal number ++ codes " from " ++ place_text column.from
@@ -142,7 +182,8 @@ page_line number side run wide = page_side number side ++ line (page_run run wid
 -- the first line of the page that a column begins, and its wide area
 abbrev pub page_head : Document → PageMove → List PageMove → List ℕ
 page_head doc m ms = page_line (next_page doc.style ms) (next_side doc.style ms) m.run m.wide
-    ++ area (codes "wide") (floats_text doc (placed_of doc.style ms) m.wide)
+    ++ area (codes "wide") (hanging_text doc doc.style.wide (placed_of doc.style ms) m.wide
+    (hung_sizes doc doc.style.wide (placed_of doc.style ms) m.wide))
 
 abbrev pub column_text : Document → PageMove → List PageMove → List ℕ
 column_text doc m ms =

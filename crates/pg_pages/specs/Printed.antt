@@ -13,19 +13,17 @@ use Rattle.pg_list.specs.Flat.{FlatItem, is_same_place}
 use Rattle.pg_style.specs.Classes.{is_float_class}
 use Rattle.pg_style.specs.declared.style.Class.{Class}
 use Rattle.pg_floats.specs.Callouts.{first_items}
-use Rattle.pg_style.specs.Values.{StyleValue}
+use Rattle.pg_style.specs.Values.{AreaRuleValue, StyleValue}
+use Rattle.pg_style.specs.declared.style.Gap.{Gap}
 use Rattle.pg_plan.specs.declared.pages.Column.{Column}
 use Rattle.pg_rules.specs.Floats.{dealt_from, entry}
 use Rattle.pg_column.specs.declared.cost.TextCost.{TextCost}
-use Rattle.pg_glue.specs.declared.Elastic.{Elastic}
-use Rattle.pg_glue.specs.declared.Sense.{Sense}
-use Rattle.pg_glue.specs.declared.Sense.TheVariants.{Stretch, Shrink}
-use Rattle.pg_glue.specs.Widths.{set_widths}
 use Rattle.pg_pages.specs.Bodies.{body_text, plain_text, set_text}
-use Rattle.pg_pages.specs.PageText.{area, inserted, is_note_kind, items_text}
+use Rattle.pg_pages.specs.PageText.{area, inserted, is_note_kind, items_text, skipped_notes}
+use Rattle.pg_pages.specs.Gaps.{hung_gaps, hung_text, note_gaps, shows_gaps, standing_gaps, standing_text}
 use Rattle.pg_words.specs.Written.{line, whole_text}
 use Rattle.pg_scaled.specs.Scaled.{scaled_text}
-use Rattle.pg_pages.specs.SetGlue.{own_width, shrinking, stretching}
+use Rattle.pg_pages.specs.SetGlue.{own_sizes, own_width, widths_by}
 use Rattle.pg_column.specs.Between.{behind}
 
 -- ---- items
@@ -35,20 +33,6 @@ abbrev pub kept_from : Bool → List Item → List Item
 kept_from met [] = []
 kept_from met (item ∷ items) =
     (if (met || is_box item) || not (is_discardable item) then item ∷ [] else []) ++ kept_from (met || is_box item) items
-
--- ---- glue
-
--- the glue of an item, as it grows or gives way
-abbrev pub elastic : Sense → Item → List Elastic
-elastic Stretch item = stretching item
-elastic Shrink item = shrinking item
-
--- the set widths of the glue of a text with this goal and total
-abbrev pub widths_by : List Item → ℤ → ℤ → Bool → List ℤ
-widths_by items goal total is_spent =
-    if int_lt total goal && not is_spent then set_widths (flat_map (elastic Stretch) items) (goal -ℤ total) Stretch
-    else (if int_lt goal total then set_widths (flat_map (elastic Shrink) items) (total -ℤ goal) Shrink
-    else flat_map own_width items)
 
 -- ---- the text area
 
@@ -102,9 +86,35 @@ lent bodies = map (λ own. behind own.items) bodies
 abbrev pub dealt_text : List (List (List ℕ)) → List ℕ → List ℕ → List ℕ
 dealt_text bodies before counts = flat_map body_text (dealt_from 0 bodies before counts)
 
--- the wide area of a page
-unfoldable pub wide_by : List (List (List ℕ)) → List ℕ → List ℕ → List ℕ
-wide_by bodies before counts = area (codes "wide") (dealt_text bodies before counts)
+-- floats that hang, their gaps set to these widths
+unfoldable pub hanging_by : StyleValue → AreaRuleValue → List (List (List ℕ)) → List ℕ → List ℕ → List ℤ → List ℕ
+hanging_by style rule bodies before counts widths =
+    if shows_gaps style then hung_text rule (dealt_from 0 bodies before counts) widths else dealt_text bodies before counts
+
+-- floats that stand
+unfoldable pub standing_by : StyleValue → AreaRuleValue → List (List (List ℕ)) → List ℕ → List ℕ → List ℤ → List ℕ
+standing_by style rule bodies before counts widths =
+    if shows_gaps style then standing_text rule (dealt_from 0 bodies before counts) widths
+    else dealt_text bodies before counts
+
+-- the gaps of an area whose floats hang, and of one whose floats stand
+abbrev pub hung_by : StyleValue → AreaRuleValue → List (List (List ℕ)) → List ℕ → List ℕ → List Gap
+hung_by style rule bodies before counts =
+    if shows_gaps style then hung_gaps rule (length (dealt_from 0 bodies before counts)) else []
+
+abbrev pub stood_by : StyleValue → AreaRuleValue → List (List (List ℕ)) → List ℕ → List ℕ → List Gap
+stood_by style rule bodies before counts =
+    if shows_gaps style then standing_gaps rule (length (dealt_from 0 bodies before counts)) else []
+
+-- the wide area of a page, its gaps set to these widths
+unfoldable pub wide_set : StyleValue → List (List (List ℕ)) → List ℕ → List ℕ → List ℤ → List ℕ
+wide_set style bodies before counts widths =
+    area (codes "wide") (hanging_by style style.wide bodies before counts widths)
+
+-- the wide area of a page, its gaps as they are
+unfoldable pub wide_by : StyleValue → List (List (List ℕ)) → List ℕ → List ℕ → List ℕ
+wide_by style bodies before counts =
+    wide_set style bodies before counts (own_sizes (hung_by style style.wide bodies before counts))
 
 -- ---- numbers
 
@@ -131,35 +141,50 @@ abbrev pub FitTogether : List ℕ → List ℕ → Type 0
 FitTogether a b = (slot : ℕ) → entry a slot + entry b slot < 2 ^ 16
 
 -- the text area of these items
-unfoldable pub text_by : StyleValue → List Item → ℤ → ℤ → Bool → List ℕ
-text_by style items goal total is_spent =
-    line (codes "area text") ++ items_text style.topskip items (widths_by items goal total is_spent)
+unfoldable pub text_by : StyleValue → List Item → List ℤ → List ℕ
+text_by style items widths = line (codes "area text") ++ items_text style.topskip items widths
 
 -- the area at the top of a column, behind so many placed floats
-unfoldable pub top_by : List (List (List ℕ)) → List ℕ → Column → List ℕ
-top_by bodies before column = area (codes "top") (dealt_text bodies before column.top)
+unfoldable pub top_by : StyleValue → List (List (List ℕ)) → List ℕ → Column → List ℤ → List ℕ
+top_by style bodies before column widths =
+    area (codes "top") (hanging_by style style.top bodies before column.top widths)
 
 -- the area at its bottom
-unfoldable pub bottom_by : List (List (List ℕ)) → List ℕ → Column → List ℕ
-bottom_by bodies below column = area (codes "bottom") (dealt_text bodies below column.bottom)
+unfoldable pub bottom_by : StyleValue → List (List (List ℕ)) → List ℕ → Column → List ℤ → List ℕ
+bottom_by style bodies below column widths =
+    area (codes "bottom") (standing_by style style.bottom bodies below column.bottom widths)
 
--- the numbers of a column of text, and its top area
-unfoldable pub read_above : List (List (List ℕ)) → List ℕ → Column → TextCost → List ℕ
-read_above bodies before column numbers = numbers_text numbers ++ top_by bodies before column
+-- the notes, their skips set to these widths
+unfoldable pub notes_set : StyleValue → List Item → List ℤ → List ℕ
+notes_set style items widths =
+    if shows_gaps style then skipped_notes style.classes items widths else notes_by style.classes items
 
--- the text area of these items, and the bottom area below it
-unfoldable pub read_below : StyleValue → List (List (List ℕ)) → List ℕ → Column → List Item → TextCost → Bool → List ℕ
-read_below style bodies below column items numbers is_spent =
-    text_by style items numbers.goal numbers.total is_spent ++ bottom_by bodies below column
+-- the area of notes
+unfoldable pub notes_area : StyleValue → List Item → List ℤ → List ℕ
+notes_area style items widths = area (codes "notes") (notes_set style items widths)
+
+-- a column whose text has these items and numbers, its glue and gaps set to these widths, of which so many are those of
+-- the top area, of the text and of the notes
+unfoldable pub set_column : StyleValue → List (List (List ℕ)) → List ℕ → List ℕ → Column → List Item → TextCost →
+    List ℤ → ℕ → ℕ → ℕ → List ℕ
+set_column style bodies before below column items numbers widths above inside noted =
+    numbers_text numbers ++ top_by style bodies before column widths ++ text_by style items (drop above widths)
+    ++ bottom_by style bodies below column (drop noted (drop inside (drop above widths)))
+    ++ notes_area style items (drop inside (drop above widths))
 
 -- the text of a column whose text has these items and numbers
 unfoldable pub read_text : StyleValue → List (List (List ℕ)) → List ℕ → List ℕ → Column → List Item → TextCost → Bool →
     List ℕ
 read_text style bodies before below column items numbers is_spent =
-    read_above bodies before column numbers ++ read_below style bodies below column items numbers is_spent
-    ++ area (codes "notes") (notes_by style.classes items)
+    set_column style bodies before below column items numbers
+    (widths_by style (hung_by style style.top bodies before column.top) items
+    (note_gaps style items ++ stood_by style style.bottom bodies below column.bottom) numbers.goal numbers.total is_spent)
+    (length (hung_by style style.top bodies before column.top)) (length (flat_map own_width items))
+    (length (note_gaps style items))
 
--- a column without text, with these floats at the top and at the bottom
-unfoldable pub bare_text : ℕ → List ℕ → List ℕ → List ℕ
-bare_text demerits top bottom =
-    line (codes "without text demerits " ++ decimal demerits) ++ (area (codes "top") top ++ area (codes "bottom") bottom)
+-- a column without text
+unfoldable pub bare_text : StyleValue → List (List (List ℕ)) → List ℕ → List ℕ → Column → List ℕ
+bare_text style bodies before below column =
+    line (codes "without text demerits " ++ decimal style.float_column.demerits)
+    ++ top_by style bodies before column (own_sizes (hung_by style style.top bodies before column.top))
+    ++ bottom_by style bodies below column (own_sizes (stood_by style style.bottom bodies below column.bottom))

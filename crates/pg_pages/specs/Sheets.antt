@@ -6,7 +6,7 @@ use Rattle.pg_style.specs.Values.{StyleValue}
 use Rattle.pg_rules.specs.Floats.{is_area_allowed, plus_counts, takes_wide}
 use Rattle.pg_rules.specs.History.{made_wide, side_of}
 use Rattle.pg_rules.specs.Room.{ColumnContext, Document}
-use Rattle.pg_pages.specs.PageText.{area, column_body, column_line, floats_text, page_line}
+use Rattle.pg_pages.specs.PageText.{area, column_body, column_line, hanging_text, hung_sizes, page_line}
 use Rattle.pg_pages.specs.Printed.{FitTogether}
 use Rattle.pg_pages.specs.Seated.{IsWide, MayPrint}
 
@@ -49,7 +49,7 @@ MayFrom doc run wide before (column ∷ columns) = MayPrint (context_at doc run 
 -- a page of this number, behind so many placed floats
 abbrev pub sheet_text : Document → ℕ → List ℕ → Page → List ℕ
 sheet_text doc number placed page = page_line number (side_of doc.style.first number) page.run page.wide
-    ++ (area (codes "wide") (floats_text doc placed page.wide)
+    ++ (area (codes "wide") (hanging_text doc doc.style.wide placed page.wide (hung_sizes doc doc.style.wide placed page.wide))
     ++ columns_from doc page.run (made_wide doc placed page.wide) 1 (plus_counts doc.style placed page.wide) page.columns)
 
 -- the floats placed behind a page

@@ -1,8 +1,8 @@
 //! Areas of floats and of notes.
-ghost use Rattle.std.specs.Prelude.{◌≡◌, ◌≤◌, ◌+◌, ◌++◌, ◌∷◌, [], ℕ, List, OnOk, OnErr, IfOk, codes, length, take, drop, map, slice_index, option_copied, if◌then◌else◌};
+ghost use Rattle.std.specs.Prelude.{◌≡◌, ◌≤◌, ◌+◌, ◌++◌, ◌∷◌, [], ℕ, List, OnOk, OnErr, IfOk, codes, length, not, take, drop, map, slice_index, option_copied, if◌then◌else◌, ◌==◌};
 ghost use Rattle.std.specs.List.{flat_map, AllByRecursion};
 ghost use Rattle.pg_list.specs.Shapes.{IsBlock};
-ghost use Rattle.pg_rules.specs.Floats.{dealt_from, entry as entry_of};
+ghost use Rattle.pg_rules.specs.Floats.{dealt_from, entry as entry_of, sizes_of};
 ghost use Rattle.pg_scaled.specs.Scaled.{Grows};
 ghost use Rattle.pg_floats.specs.Callouts.{first_items};
 ghost use Rattle.pg_style.specs.Ranges.{AreClasses};
@@ -205,8 +205,43 @@ pub fn print_dealt(
     Ok(())
 }
 
+// The floats that counts deal out after others, by class.
+pub fn dealt_bodies<'a>(
+    alloc: Global,
+    bodies: &[Vec<&'a [u8]>],
+    before: &[u16],
+    counts: &[u16],
+) -> Result<Vec<&'a [u8]>, AllocError>
+    ensures { IfOk result (λ dealt. behind dealt.items ≡ dealt_from 0 (lent bodies.now) before.now counts.now) }
+{
+    let mut dealt = Vec::new(alloc);
+    let mut rest = bodies;
+    let mut slot = 0;
+    'each: while let [own, after @ ..] = rest {
+        let next = next_of(own.as_slice(), entry(before, slot), entry(counts, slot));
+        dealt.extend_from_slice(next)?;
+        rest = after;
+        slot += 1;
+    }
+    Ok(dealt)
+}
+
+// Whether an insert of a class is among items.
+pub fn has_insert(number: u8, items: &[&Item]) -> bool
+    ensures { result ≡ not (length (sizes_of number (behind items.now)) == 0) }
+{
+    let mut rest = items;
+    'items: while let [item, after @ ..] = rest {
+        if body_in(number, item).is_some() {
+            return true;
+        }
+        rest = after;
+    }
+    false
+}
+
 // The inserts of a class among items.
-fn print_inserts(number: u8, items: &[&Item], out: &mut Vec<u8>) -> Result<(), AllocError>
+pub fn print_inserts(number: u8, items: &[&Item], out: &mut Vec<u8>) -> Result<(), AllocError>
     ensures ok { OnOk result (out.new.items
         ≡ out.old.items ++ flat_map body_text (inserted number (behind items.now))) }
     ensures grows { Grows out.old.items out.new.items }

@@ -1,5 +1,5 @@
 //! A column: its numbers and its areas.
-ghost use Rattle.std.specs.Prelude.{◌≡◌, ◌<◌, ◌≤◌, ◌+◌, ◌^◌, ◌++◌, ◌∷◌, [], ℕ, List, OnOk, IfOk, codes, length, nat_abs, ◌-ℤ◌, true, Some, decimal};
+ghost use Rattle.std.specs.Prelude.{◌≡◌, ◌<◌, ◌≤◌, ◌+◌, ◌^◌, ◌++◌, ◌∷◌, [], ℕ, List, OnOk, IfOk, codes, drop, length, nat_abs, ◌-ℤ◌, true, Some, decimal};
 ghost use Rattle.std.specs.List.{flat_map, AllByRecursion};
 ghost use Rattle.pg_list.specs.Counts.{item_limit};
 ghost use Rattle.pg_list.specs.Ranges.{IsItemInRange};
@@ -7,9 +7,10 @@ ghost use Rattle.pg_list.specs.Flat.{end_of, flat_items_at, is_same_place};
 ghost use Rattle.pg_list.specs.Totals.{trimmed as trimmed_of};
 ghost use Rattle.std.specs.Option.{option_map_or};
 ghost use Rattle.pg_rules.specs.Legal.{document};
-ghost use Rattle.pg_rules.specs.Room.{before_bottom, is_text, room as room_in, size_of};
+ghost use Rattle.pg_rules.specs.Room.{before_bottom, is_text, size_of};
+ghost use Rattle.pg_rules.specs.Floats.{dealt_from};
 ghost use Rattle.pg_rules.specs.Follow.{KeepsColumnRules};
-ghost use Rattle.pg_column.specs.Numbers.{AreNumbers};
+ghost use Rattle.pg_column.specs.Numbers.{AreNumbers, IsRoom, text_room};
 ghost use Rattle.pg_list.specs.Shapes.{IsBlock};
 ghost use Rattle.pg_floats.specs.AreFloats.{AreFloats};
 ghost use Rattle.pg_column.specs.Fits.{are_named};
@@ -17,91 +18,177 @@ ghost use Rattle.pg_scaled.specs.Scaled.{Grows};
 ghost use Rattle.pg_pages.specs.PageText.{area, column_body, column_line, float_bodies, float_column, items_text, text_column};
 ghost use Rattle.pg_pages.specs.Seated.{MayPrint, seated};
 ghost use Rattle.pg_words.specs.Written.{line};
-ghost use Rattle.pg_pages.specs.Printed.{dealt_text, bare_text, bottom_by, lent, notes_by, read_above, read_below, read_text, text_by, top_by};
+ghost use Rattle.pg_pages.specs.Printed.{bare_text, bottom_by, hanging_by, hung_by, lent, notes_area, notes_set, read_text, set_column, standing_by, stood_by, text_by, top_by};
+ghost use Rattle.pg_pages.specs.SetGlue.{own_width};
 ghost use Rattle.pg_glue.specs.Widths.{IsPrintable};
 ghost use Rattle.pg_column.specs.Between.{behind, items_to};
 
-use crate::areas::{close_area, open_area, print_dealt, print_notes};
-use crate::glue::widths_of;
+use crate::areas::{close_area, dealt_bodies, open_area, print_dealt, print_notes};
+use crate::gaps::{
+    hung_gaps, note_gaps, print_hung, print_skipped_notes, print_standing, shows_gaps,
+    standing_gaps,
+};
+use crate::glue::{Glues, own_sizes, widths_of};
 use crate::lines::{print_column_line, print_numbered};
 use crate::number_line::print_numbers;
 use crate::seats::{Seat, added, room_of};
 use crate::segment::{items_between, trimmed};
 use crate::text::print_items_set;
 use pg_breaks::is_spent;
-use pg_column::{TextCost, blocks_of, is_same_place, judge_from};
+use pg_column::{TextCost, TextRoom, blocks_of, is_same_place, judge_from};
 use pg_floats::FloatList;
 use pg_list::{Galley, Item};
 use pg_plan::Column;
-use pg_style::{Class, Style};
+use pg_style::{AreaRule, Gap, Style};
 use std::alloc::{AllocError, Global};
 
-// An area of floats.
-pub fn print_floats(
-    name: &[u8],
+// Floats that hang, behind so many placed floats, their gaps set to these widths.
+#[tactic(auto, unfolding(crate::specs::Printed::hanging_by))]
+fn print_hanging_floats(
+    style: &Style,
+    rule: &AreaRule,
     bodies: &[Vec<&[u8]>],
     before: &[u16],
     counts: &[u16],
+    widths: &[i128],
     out: &mut Vec<u8>,
 ) -> Result<(), AllocError>
-    ensures ok { OnOk result (out.new.items
-        ≡ out.old.items ++ area name.now (dealt_text (lent bodies.now) before.now counts.now)) }
+    requires { AllByRecursion IsPrintable widths.now }
+    ensures ok { OnOk result (out.new.items ≡ out.old.items
+        ++ hanging_by style.now rule.now (lent bodies.now) before.now counts.now widths.now) }
+    ensures grows { Grows out.old.items out.new.items }
+{
+    if !shows_gaps(style) {
+        return print_dealt(bodies, before, counts, out);
+    }
+    let alloc = *out.allocator();
+    let dealt = dealt_bodies(alloc, bodies, before, counts)?;
+    print_hung(rule, dealt.as_slice(), widths, out)
+}
+
+/// An area whose floats hang.
+pub fn print_hanging(
+    name: &[u8],
+    style: &Style,
+    rule: &AreaRule,
+    bodies: &[Vec<&[u8]>],
+    before: &[u16],
+    counts: &[u16],
+    widths: &[i128],
+    out: &mut Vec<u8>,
+) -> Result<(), AllocError>
+    requires { AllByRecursion IsPrintable widths.now }
+    ensures ok { OnOk result (out.new.items ≡ out.old.items
+        ++ area name.now (hanging_by style.now rule.now (lent bodies.now) before.now counts.now widths.now)) }
     ensures grows { Grows out.old.items out.new.items }
 {
     let start = open_area(name, out)?;
     let filled = out.len();
-    print_dealt(bodies, before, counts, out)?;
+    print_hanging_floats(style, rule, bodies, before, counts, widths, out)?;
     close_area(start, filled, out);
     Ok(())
 }
 
-// The area of notes.
-fn print_note_area(classes: &[Class], items: &[&Item], out: &mut Vec<u8>) -> Result<(), AllocError>
-    ensures ok { OnOk result (out.new.items
-        ≡ out.old.items ++ area (codes "notes") (notes_by classes.now (behind items.now))) }
+// Floats that stand.
+#[tactic(auto, unfolding(crate::specs::Printed::standing_by))]
+fn print_standing_floats(
+    style: &Style,
+    rule: &AreaRule,
+    bodies: &[Vec<&[u8]>],
+    before: &[u16],
+    counts: &[u16],
+    widths: &[i128],
+    out: &mut Vec<u8>,
+) -> Result<(), AllocError>
+    requires { AllByRecursion IsPrintable widths.now }
+    ensures ok { OnOk result (out.new.items ≡ out.old.items
+        ++ standing_by style.now rule.now (lent bodies.now) before.now counts.now widths.now) }
     ensures grows { Grows out.old.items out.new.items }
 {
-    let start = open_area(b"notes", out)?;
+    if !shows_gaps(style) {
+        return print_dealt(bodies, before, counts, out);
+    }
+    let alloc = *out.allocator();
+    let dealt = dealt_bodies(alloc, bodies, before, counts)?;
+    print_standing(rule, dealt.as_slice(), widths, out)
+}
+
+// An area whose floats stand.
+fn print_standing_area(
+    name: &[u8],
+    style: &Style,
+    rule: &AreaRule,
+    bodies: &[Vec<&[u8]>],
+    before: &[u16],
+    counts: &[u16],
+    widths: &[i128],
+    out: &mut Vec<u8>,
+) -> Result<(), AllocError>
+    requires { AllByRecursion IsPrintable widths.now }
+    ensures ok { OnOk result (out.new.items ≡ out.old.items
+        ++ area name.now (standing_by style.now rule.now (lent bodies.now) before.now counts.now widths.now)) }
+    ensures grows { Grows out.old.items out.new.items }
+{
+    let start = open_area(name, out)?;
     let filled = out.len();
-    print_notes(classes, items, out)?;
+    print_standing_floats(style, rule, bodies, before, counts, widths, out)?;
     close_area(start, filled, out);
     Ok(())
 }
 
-// The text area with these set widths.
-fn print_set_text(
+// The notes, their skips set to these widths.
+#[tactic(auto, unfolding(crate::specs::Printed::notes_set))]
+fn print_set_notes(
     style: &Style,
     items: &[&Item],
     widths: &[i128],
     out: &mut Vec<u8>,
 ) -> Result<(), AllocError>
     requires { AllByRecursion IsPrintable widths.now }
-    ensures ok { OnOk result (out.new.items ≡ out.old.items ++ (line (codes "area text")
-        ++ items_text style.now.topskip (behind items.now) widths.now)) }
+    ensures ok { OnOk result (out.new.items ≡ out.old.items ++ notes_set style.now (behind items.now) widths.now) }
+    ensures grows { Grows out.old.items out.new.items }
+{
+    let classes = style.classes.as_slice();
+    if shows_gaps(style) {
+        print_skipped_notes(classes, items, widths, out)
+    } else {
+        print_notes(classes, items, out)
+    }
+}
+
+// The area of notes.
+#[tactic(auto, unfolding(crate::specs::Printed::notes_area))]
+fn print_note_area(
+    style: &Style,
+    items: &[&Item],
+    widths: &[i128],
+    out: &mut Vec<u8>,
+) -> Result<(), AllocError>
+    requires { AllByRecursion IsPrintable widths.now }
+    ensures ok { OnOk result (out.new.items ≡ out.old.items ++ notes_area style.now (behind items.now) widths.now) }
+    ensures grows { Grows out.old.items out.new.items }
+{
+    let start = open_area(b"notes", out)?;
+    let filled = out.len();
+    print_set_notes(style, items, widths, out)?;
+    close_area(start, filled, out);
+    Ok(())
+}
+
+// The text area with these set widths.
+#[tactic(auto, unfolding(crate::specs::Printed::text_by))]
+fn print_text_area(
+    style: &Style,
+    items: &[&Item],
+    widths: &[i128],
+    out: &mut Vec<u8>,
+) -> Result<(), AllocError>
+    requires { AllByRecursion IsPrintable widths.now }
+    ensures ok { OnOk result (out.new.items ≡ out.old.items ++ text_by style.now (behind items.now) widths.now) }
     ensures grows { Grows out.old.items out.new.items }
 {
     out.extend_from_slice(b"area text\n")?;
     print_items_set(style.topskip, items, widths, out)
-}
-
-// The text area.
-fn print_text_area(
-    style: &Style,
-    items: &[&Item],
-    numbers: &TextCost,
-    is_spent: bool,
-    out: &mut Vec<u8>,
-) -> Result<(), AllocError>
-    requires few { length items.now ≤ item_limit }
-    requires ranges { AllByRecursion IsItemInRange (behind items.now) }
-    requires excess { nat_abs (numbers.now.goal -ℤ numbers.now.total) < 2 ^ 52 }
-    ensures ok { OnOk result (out.new.items ≡ out.old.items
-        ++ text_by style.now (behind items.now) numbers.now.goal numbers.now.total is_spent) }
-    ensures grows { Grows out.old.items out.new.items }
-{
-    let alloc = *out.allocator();
-    let widths = widths_of(alloc, items, numbers.goal, numbers.total, is_spent)?;
-    print_set_text(style, items, widths.as_slice(), out)
 }
 
 // The items of a column's text.
@@ -132,82 +219,152 @@ struct Placed<'a> {
     below: &'a [u16],
 }
 
-// The top area of a column.
+// The top area of a column, its gaps set to these widths.
 #[tactic(auto, unfolding(crate::specs::Printed::top_by))]
 fn print_top_area(
+    style: &Style,
     bodies: &[Vec<&[u8]>],
     placed: &Placed<'_>,
     column: &Column,
+    widths: &[i128],
     out: &mut Vec<u8>,
 ) -> Result<(), AllocError>
+    requires { AllByRecursion IsPrintable widths.now }
     ensures ok { OnOk result (out.new.items ≡ out.old.items
-        ++ top_by (lent bodies.now) placed.now.before.now column.now) }
+        ++ top_by style.now (lent bodies.now) placed.now.before.now column.now widths.now) }
     ensures grows { Grows out.old.items out.new.items }
 {
-    print_floats(b"top", bodies, placed.before, column.top.as_slice(), out)
-}
-
-// The bottom area of a column.
-#[tactic(auto, unfolding(crate::specs::Printed::bottom_by))]
-fn print_bottom_area(
-    bodies: &[Vec<&[u8]>],
-    placed: &Placed<'_>,
-    column: &Column,
-    out: &mut Vec<u8>,
-) -> Result<(), AllocError>
-    ensures ok { OnOk result (out.new.items ≡ out.old.items
-        ++ bottom_by (lent bodies.now) placed.now.below.now column.now) }
-    ensures grows { Grows out.old.items out.new.items }
-{
-    print_floats(
-        b"bottom",
+    print_hanging(
+        b"top",
+        style,
+        &style.top,
         bodies,
-        placed.below,
-        column.bottom.as_slice(),
+        placed.before,
+        column.top.as_slice(),
+        widths,
         out,
     )
 }
 
-// The numbers of a column of text, and its top area.
-#[tactic(auto, unfolding(crate::specs::Printed::read_above))]
-fn print_above(
+// The bottom area of a column, its gaps set to these widths.
+#[tactic(auto, unfolding(crate::specs::Printed::bottom_by))]
+fn print_bottom_area(
+    style: &Style,
     bodies: &[Vec<&[u8]>],
     placed: &Placed<'_>,
     column: &Column,
-    numbers: &TextCost,
+    widths: &[i128],
     out: &mut Vec<u8>,
 ) -> Result<(), AllocError>
+    requires { AllByRecursion IsPrintable widths.now }
     ensures ok { OnOk result (out.new.items ≡ out.old.items
-        ++ read_above (lent bodies.now) placed.now.before.now column.now numbers.now) }
+        ++ bottom_by style.now (lent bodies.now) placed.now.below.now column.now widths.now) }
     ensures grows { Grows out.old.items out.new.items }
 {
-    print_numbers(numbers, out)?;
-    print_top_area(bodies, placed, column, out)
+    print_standing_area(
+        b"bottom",
+        style,
+        &style.bottom,
+        bodies,
+        placed.below,
+        column.bottom.as_slice(),
+        widths,
+        out,
+    )
 }
 
-// The text area of a column with these items and numbers, and the bottom area below it.
-#[tactic(auto, unfolding(crate::specs::Printed::read_below))]
-fn print_below(
+// The gaps of the top area of a column.
+fn top_gaps(
+    alloc: Global,
+    style: &Style,
+    bodies: &[Vec<&[u8]>],
+    placed: &Placed<'_>,
+    column: &Column,
+) -> Result<Vec<Gap>, AllocError>
+    ensures { IfOk result (λ gaps. gaps.items
+        ≡ hung_by style.now style.now.top (lent bodies.now) placed.now.before.now column.now.top) }
+{
+    let dealt = dealt_bodies(alloc, bodies, placed.before, column.top.as_slice())?;
+    hung_gaps(alloc, style, &style.top, dealt.len())
+}
+
+// The gaps of its bottom area.
+fn bottom_gaps(
+    alloc: Global,
+    style: &Style,
+    bodies: &[Vec<&[u8]>],
+    placed: &Placed<'_>,
+    column: &Column,
+) -> Result<Vec<Gap>, AllocError>
+    ensures { IfOk result (λ gaps. gaps.items
+        ≡ stood_by style.now style.now.bottom (lent bodies.now) placed.now.below.now column.now.bottom) }
+{
+    let dealt = dealt_bodies(alloc, bodies, placed.below, column.bottom.as_slice())?;
+    standing_gaps(alloc, style, &style.bottom, dealt.len())
+}
+
+// How many glues are among items.
+fn count_glue(items: &[&Item]) -> usize
+    ensures { result ≡ length (flat_map own_width (behind items.now)) }
+{
+    let mut count = 0;
+    let mut rest = items;
+    'items: while let [item, after @ ..] = rest {
+        if let Item::Glue { .. } = item {
+            count += 1;
+        }
+        rest = after;
+    }
+    count
+}
+
+// The widths from one on.
+fn widths_from(widths: &[i128], first: usize) -> &[i128]
+    requires { AllByRecursion IsPrintable widths.now }
+    ensures value { result.now ≡ drop first widths.now }
+    ensures printable { AllByRecursion IsPrintable result.now }
+{
+    match widths.get(first..) {
+        Some(rest) => rest,
+        None => &[],
+    }
+}
+
+// How many set widths are those of the gaps above a text, of the text, and of the skips of its notes.
+#[derive(Clone, Copy)]
+struct Spans {
+    above: usize,
+    inside: usize,
+    noted: usize,
+}
+
+// A column whose text has these items and numbers, its glue and gaps set to these widths.
+#[tactic(auto, unfolding(crate::specs::Printed::set_column))]
+fn print_set_column(
     style: &Style,
     bodies: &[Vec<&[u8]>],
     placed: &Placed<'_>,
     column: &Column,
     items: &[&Item],
     numbers: &TextCost,
-    is_spent: bool,
+    widths: &[i128],
+    spans: &Spans,
     out: &mut Vec<u8>,
 ) -> Result<(), AllocError>
-    requires few { length items.now ≤ item_limit }
-    requires ranges { AllByRecursion IsItemInRange (behind items.now) }
-    requires excess { nat_abs (numbers.now.goal -ℤ numbers.now.total) < 2 ^ 52 }
+    requires { AllByRecursion IsPrintable widths.now }
     ensures ok { OnOk result (out.new.items ≡ out.old.items
-        ++ read_below style.now (lent bodies.now) placed.now.below.now column.now
-        (behind items.now) numbers.now is_spent) }
+        ++ set_column style.now (lent bodies.now) placed.now.before.now placed.now.below.now column.now
+        (behind items.now) numbers.now widths.now spans.now.above spans.now.inside spans.now.noted) }
     ensures grows { Grows out.old.items out.new.items }
 {
-    print_text_area(style, items, numbers, is_spent, out)?;
-    print_bottom_area(bodies, placed, column, out)?;
-    Ok(())
+    let inner = widths_from(widths, spans.above);
+    let noted = widths_from(inner, spans.inside);
+    let below = widths_from(noted, spans.noted);
+    print_numbers(numbers, out)?;
+    print_top_area(style, bodies, placed, column, widths, out)?;
+    print_text_area(style, items, inner, out)?;
+    print_bottom_area(style, bodies, placed, column, below, out)?;
+    print_note_area(style, items, noted, out)
 }
 
 // A column whose text has these items and numbers.
@@ -223,6 +380,8 @@ fn print_read(
     out: &mut Vec<u8>,
 ) -> Result<(), AllocError>
     requires few { length items.now ≤ item_limit }
+    requires top { length (dealt_from 0 (lent bodies.now) placed.now.before.now column.now.top) ≤ 4 }
+    requires bottom { length (dealt_from 0 (lent bodies.now) placed.now.below.now column.now.bottom) ≤ 4 }
     requires ranges { AllByRecursion IsItemInRange (behind items.now) }
     requires excess { nat_abs (numbers.now.goal -ℤ numbers.now.total) < 2 ^ 52 }
     ensures ok { OnOk result (out.new.items ≡ out.old.items
@@ -230,18 +389,49 @@ fn print_read(
         (behind items.now) numbers.now is_spent) }
     ensures grows { Grows out.old.items out.new.items }
 {
-    print_above(bodies, placed, column, numbers, out)?;
-    print_below(style, bodies, placed, column, items, numbers, is_spent, out)?;
-    print_note_area(style.classes.as_slice(), items, out)
+    style.stays_in_range();
+    let alloc = *out.allocator();
+    let above = top_gaps(alloc, style, bodies, placed, column)?;
+    let mut below = note_gaps(alloc, style, items)?;
+    let noted = below.len();
+    below.extend_from_slice(bottom_gaps(alloc, style, bodies, placed, column)?.as_slice())?;
+    let glues = Glues {
+        above: above.as_slice(),
+        items,
+        below: below.as_slice(),
+    };
+    let widths = widths_of(alloc, style, &glues, numbers.goal, numbers.total, is_spent)?;
+    let spans = Spans {
+        above: above.len(),
+        inside: count_glue(items),
+        noted,
+    };
+    print_set_column(
+        style,
+        bodies,
+        placed,
+        column,
+        items,
+        numbers,
+        widths.as_slice(),
+        &spans,
+        out,
+    )
 }
 
 // The numbers of a column of text that keeps the rules.
-fn numbers_of(galley: &Galley, style: &Style, seat: &Seat, column: &Column, room: i64) -> TextCost
+fn numbers_of(
+    galley: &Galley,
+    style: &Style,
+    seat: &Seat,
+    column: &Column,
+    room: &TextRoom,
+) -> TextCost
     requires shape { AllByRecursion IsBlock galley.now.blocks }
     requires rules { KeepsColumnRules (seated (document galley.now style.now) seat.now column.now) }
     requires text { is_text (seated (document galley.now style.now) seat.now column.now) ≡ true }
-    requires room { room ≡ room_in (seated (document galley.now style.now) seat.now column.now) }
-    requires size { nat_abs room < 2 ^ 40 }
+    requires room { room.now ≡ text_room (seated (document galley.now style.now) seat.now column.now) }
+    requires size { IsRoom room.now }
     ensures { (n : ℕ) → size_of (seated (document galley.now style.now) seat.now column.now) ≡ Some n →
         AreNumbers (seated (document galley.now style.now) seat.now column.now) n result }
 {
@@ -282,7 +472,7 @@ fn print_text_column(
         column.top.as_slice(),
     )?;
     let room = room_of(galley, style, floats, seat, &below, column);
-    let numbers = numbers_of(galley, style, seat, column, room);
+    let numbers = numbers_of(galley, style, seat, column, &room);
     let items = text_items(alloc, galley, column)?;
     let placed = Placed {
         before: seat.before.as_slice(),
@@ -311,23 +501,6 @@ fn print_number_line(name: &[u8], number: u128, out: &mut Vec<u8>) -> Result<(),
     Ok(())
 }
 
-// The floats of a column without text.
-#[tactic(auto, unfolding(crate::specs::Printed::top_by, crate::specs::Printed::bottom_by))]
-fn print_areas(
-    bodies: &[Vec<&[u8]>],
-    placed: &Placed<'_>,
-    column: &Column,
-    out: &mut Vec<u8>,
-) -> Result<(), AllocError>
-    ensures ok { OnOk result (out.new.items ≡ out.old.items
-        ++ (area (codes "top") (dealt_text (lent bodies.now) placed.now.before.now column.now.top)
-        ++ area (codes "bottom") (dealt_text (lent bodies.now) placed.now.below.now column.now.bottom))) }
-    ensures grows { Grows out.old.items out.new.items }
-{
-    print_top_area(bodies, placed, column, out)?;
-    print_bottom_area(bodies, placed, column, out)
-}
-
 // What a column without text costs.
 fn float_demerits(style: &Style) -> u128
     ensures { result ≡ style.now.float_column.demerits }
@@ -335,7 +508,8 @@ fn float_demerits(style: &Style) -> u128
     u128::from(style.float_column.demerits)
 }
 
-// A column without text.
+// A column without text; its gaps are as they are.
+#[tactic(auto, unfolding(crate::specs::Printed::bare_text))]
 fn print_float_column(
     style: &Style,
     bodies: &[Vec<&[u8]>],
@@ -344,13 +518,18 @@ fn print_float_column(
     out: &mut Vec<u8>,
 ) -> Result<(), AllocError>
     ensures ok { OnOk result (out.new.items ≡ out.old.items
-        ++ bare_text style.now.float_column.demerits
-        (dealt_text (lent bodies.now) placed.now.before.now column.now.top)
-        (dealt_text (lent bodies.now) placed.now.below.now column.now.bottom)) }
+        ++ bare_text style.now (lent bodies.now) placed.now.before.now placed.now.below.now column.now) }
     ensures grows { Grows out.old.items out.new.items }
 {
+    style.stays_in_range();
+    let alloc = *out.allocator();
+    let above = top_gaps(alloc, style, bodies, placed, column)?;
+    let below = bottom_gaps(alloc, style, bodies, placed, column)?;
+    let top = own_sizes(alloc, above.as_slice())?;
+    let bottom = own_sizes(alloc, below.as_slice())?;
     print_number_line(b"without text demerits ", float_demerits(style), out)?;
-    print_areas(bodies, placed, column, out)
+    print_top_area(style, bodies, placed, column, top.as_slice(), out)?;
+    print_bottom_area(style, bodies, placed, column, bottom.as_slice(), out)
 }
 
 // The numbers and the areas of a column.

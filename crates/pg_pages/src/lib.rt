@@ -9,6 +9,7 @@
 mod areas;
 mod bodies;
 mod column;
+mod gaps;
 mod glue;
 mod lines;
 mod number_line;

@@ -1,24 +1,24 @@
 //! Where a column stands: the floats placed before it, and the room of its text.
-ghost use Rattle.std.specs.Prelude.{◌≡◌, ◌<◌, ◌≤◌, ◌+◌, ◌^◌, ◌∷◌, [], ℕ, List, IfOk, length, map, nat_abs, true, pos, slice_get, unwrap_or, ◌+ℤ◌, ◌-ℤ◌};
+ghost use Rattle.std.specs.Prelude.{◌≡◌, ◌<◌, ◌≤◌, ◌+◌, ◌^◌, ◌∷◌, [], ℕ, List, IfOk, length, map, nat_abs, true, pos, unwrap_or, ◌-ℤ◌};
 ghost use Rattle.std.specs.List.{range_with_len, AllByRecursion};
 ghost use Rattle.pg_list.specs.Shapes.{IsBlock};
 ghost use Rattle.pg_list.specs.declared.blocks.Block.{Block as ABlock};
 ghost use Rattle.pg_style.specs.Values.{StyleValue};
 ghost use Rattle.pg_style.specs.Ranges.{IsStyle};
-ghost use Rattle.pg_rules.specs.Floats.{entry as entry_of, floats as floats_of};
-ghost use Rattle.pg_rules.specs.Room.{before_bottom, checked_height, extra, room};
+ghost use Rattle.pg_rules.specs.Floats.{entry as entry_of, floats as floats_of, gap_shrink, gap_stretch};
+ghost use Rattle.pg_rules.specs.Room.{before_bottom, checked_give as the_checked_give, checked_height, room};
+ghost use Rattle.pg_column.specs.Numbers.{IsRoom, text_room};
 ghost use Rattle.pg_floats.specs.AreFloats.{AreFloats};
-ghost use Rattle.std.specs.Option.{option_map_or};
-ghost use Rattle.pg_style.specs.declared.style.Run.{Run as ARun};
 ghost use Rattle.pg_rules.specs.Legal.{document};
 ghost use Rattle.pg_pages.specs.Printed.{FitTogether};
 ghost use Rattle.pg_pages.specs.Seated.{MayPrint, seated};
 
-use pg_floats::FloatList;
+use pg_column::TextRoom;
+use pg_floats::{FloatList, checked_give, full_height};
 use pg_list::Galley;
 use pg_plan::{Column, Counts};
-use pg_scaled::{minus, plus, wide};
-use pg_style::{AreaRule, Run, Style};
+use pg_scaled::minus;
+use pg_style::{AreaRule, Give, Style};
 use std::alloc::{AllocError, Global};
 
 // An entry of a count list.
@@ -87,27 +87,6 @@ pub fn wide_area(floats: &FloatList, style: &Style, placed: &Counts, counts: &Co
     area_height(floats, &style.wide, placed, counts)
 }
 
-// What a run adds to the height of a column.
-fn extra_of(runs: &[Run], run: u8) -> i32
-    ensures { result ≡ option_map_or (λ (it : ARun). it.extra) (slice_get runs.now run) (pos 0) }
-{
-    match runs.get(run as usize) {
-        Some(run) => run.extra,
-        None => 0,
-    }
-}
-
-// The height of a column on a page of a run.
-fn full_height(style: &Style, run: u8) -> i64
-    ensures value { result ≡ style.now.height +ℤ extra style.now run }
-    ensures size { nat_abs result < 2 ^ 33 }
-{
-    plus(
-        wide(style.height),
-        wide(extra_of(style.runs.as_slice(), run)),
-    )
-}
-
 // The height of a wide area, 0 where there is none.
 fn wide_height(wide: Option<i64>) -> i64
     ensures { result ≡ unwrap_or wide (pos 0) }
@@ -130,8 +109,43 @@ fn room_left(full: i64, wide: i64, top: i64, bottom: i64) -> i64
     minus(minus(minus(full, wide), top), bottom)
 }
 
-// The room of a column's text.
-pub fn room_of(
+// What the gaps of an area give, whose counts are allowed; nothing where a float is not there.
+fn area_give(floats: &FloatList, rule: &AreaRule, before: &Counts, counts: &Counts) -> Give
+    ensures stretch { (blocks : List ABlock) (style : StyleValue) → AreFloats blocks style floats.now →
+        result.stretch ≡ the_checked_give gap_stretch (floats_of blocks style) true rule.now before.now counts.now }
+    ensures shrink { (blocks : List ABlock) (style : StyleValue) → AreFloats blocks style floats.now →
+        result.shrink ≡ the_checked_give gap_shrink (floats_of blocks style) true rule.now before.now counts.now }
+    ensures size { (nat_abs result.stretch < 2 ^ 43) × (nat_abs result.shrink < 2 ^ 43) }
+{
+    checked_give(floats, true, rule, before, counts)
+}
+
+// What the gaps of a column's top area give.
+fn top_give(floats: &FloatList, style: &Style, before: &Counts, counts: &Counts) -> Give
+    ensures stretch { (blocks : List ABlock) (those : StyleValue) → AreFloats blocks those floats.now →
+        result.stretch ≡ the_checked_give gap_stretch (floats_of blocks those) true style.now.top before.now counts.now }
+    ensures shrink { (blocks : List ABlock) (those : StyleValue) → AreFloats blocks those floats.now →
+        result.shrink ≡ the_checked_give gap_shrink (floats_of blocks those) true style.now.top before.now counts.now }
+    ensures size { (nat_abs result.stretch < 2 ^ 43) × (nat_abs result.shrink < 2 ^ 43) }
+{
+    area_give(floats, &style.top, before, counts)
+}
+
+// What the gaps of a column's bottom area give.
+fn bottom_give(floats: &FloatList, style: &Style, below: &Counts, counts: &Counts) -> Give
+    ensures stretch { (blocks : List ABlock) (those : StyleValue) → AreFloats blocks those floats.now →
+        result.stretch
+        ≡ the_checked_give gap_stretch (floats_of blocks those) true style.now.bottom below.now counts.now }
+    ensures shrink { (blocks : List ABlock) (those : StyleValue) → AreFloats blocks those floats.now →
+        result.shrink
+        ≡ the_checked_give gap_shrink (floats_of blocks those) true style.now.bottom below.now counts.now }
+    ensures size { (nat_abs result.stretch < 2 ^ 43) × (nat_abs result.shrink < 2 ^ 43) }
+{
+    area_give(floats, &style.bottom, below, counts)
+}
+
+// What the areas leave of the height of a column.
+fn size_of_room(
     galley: &Galley,
     style: &Style,
     floats: &FloatList,
@@ -154,4 +168,46 @@ pub fn room_of(
         top,
         bottom,
     )
+}
+
+// What the gaps of the areas give to the text between them.
+fn give_of(
+    galley: &Galley,
+    style: &Style,
+    floats: &FloatList,
+    seat: &Seat,
+    below: &Counts,
+    column: &Column,
+) -> Give
+    requires floats { AreFloats galley.now.blocks style.now floats.now }
+    requires may { MayPrint (seated (document galley.now style.now) seat.now column.now) }
+    requires below { below.now ≡ before_bottom (seated (document galley.now style.now) seat.now column.now) }
+    ensures value { result ≡ (text_room (seated (document galley.now style.now) seat.now column.now)).give }
+    ensures size { (nat_abs result.stretch < 2 ^ 40) × (nat_abs result.shrink < 2 ^ 40) }
+{
+    style.stays_in_range();
+    let top = top_give(floats, style, &seat.before, &column.top);
+    let bottom = bottom_give(floats, style, below, &column.bottom);
+    top.plus(bottom)
+}
+
+/// The room of a column's text.
+pub fn room_of(
+    galley: &Galley,
+    style: &Style,
+    floats: &FloatList,
+    seat: &Seat,
+    below: &Counts,
+    column: &Column,
+) -> TextRoom
+    requires floats { AreFloats galley.now.blocks style.now floats.now }
+    requires may { MayPrint (seated (document galley.now style.now) seat.now column.now) }
+    requires below { below.now ≡ before_bottom (seated (document galley.now style.now) seat.now column.now) }
+    ensures value { result ≡ text_room (seated (document galley.now style.now) seat.now column.now) }
+    ensures size { IsRoom result }
+{
+    TextRoom {
+        size: size_of_room(galley, style, floats, seat, below, column),
+        give: give_of(galley, style, floats, seat, below, column),
+    }
 }

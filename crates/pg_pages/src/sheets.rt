@@ -1,5 +1,7 @@
 //! Pages in reading order.
 ghost use Rattle.std.specs.Prelude.{◌≡◌, ◌++◌, [], List, OnOk, OnErr, IfOk, length, true};
+ghost use Rattle.std.specs.List.{AllByRecursion};
+ghost use Rattle.pg_glue.specs.Widths.{IsPrintable};
 ghost use Rattle.pg_rules.specs.Floats.{float_numbers, is_area_allowed, plus_counts, takes_wide};
 ghost use Rattle.pg_list.specs.declared.blocks.Block.{Block as ABlock};
 ghost use Rattle.pg_rules.specs.History.{made_wide as made_wide_of, placed_of, side_of as side_in};
@@ -7,11 +9,13 @@ ghost use Rattle.pg_rules.specs.Legal.{Legal, document};
 ghost use Rattle.pg_floats.specs.AreFloats.{AreFloats};
 ghost use Rattle.pg_scaled.specs.Scaled.{Grows};
 ghost use Rattle.pg_pages.specs.PageText.{float_bodies as bodies_in, page_line, page_text};
-ghost use Rattle.pg_pages.specs.Printed.{FitTogether, lent, wide_by};
+ghost use Rattle.pg_pages.specs.Printed.{FitTogether, lent, wide_by, wide_set};
 ghost use Rattle.pg_pages.specs.Sheets.{AreFilled, MayFrom, MaySheet, MaySheets, columns_from, is_any, placed_behind, placed_from, sheet_behind, sheet_text, sheets_text};
 
-use crate::areas::float_bodies;
-use crate::column::{print_column, print_floats};
+use crate::areas::{dealt_bodies, float_bodies};
+use crate::column::{print_column, print_hanging};
+use crate::gaps::hung_gaps;
+use crate::glue::own_sizes;
 use crate::lines::{print_head, print_side_line};
 use crate::seats::{Seat, added, wide_area};
 use pg_column::blocks_of;
@@ -110,24 +114,52 @@ fn made_wide(floats: &FloatList, style: &Style, placed: &Counts, counts: &Counts
     }
 }
 
-// The wide area of a page, behind so many placed floats.
-#[tactic(auto, unfolding(crate::specs::Printed::wide_by))]
+// The wide area of a page, behind so many placed floats, its gaps set to these widths.
+#[tactic(auto, unfolding(crate::specs::Printed::wide_set))]
+fn print_wide_set(
+    style: &Style,
+    bodies: &[Vec<&[u8]>],
+    placed: &[u16],
+    counts: &[u16],
+    widths: &[i128],
+    out: &mut Vec<u8>,
+) -> Result<(), AllocError>
+    requires { AllByRecursion IsPrintable widths.now }
+    ensures ok { OnOk result (out.new.items
+        ≡ out.old.items ++ wide_set style.now (lent bodies.now) placed.now counts.now widths.now) }
+    ensures grows { Grows out.old.items out.new.items }
+{
+    print_hanging(
+        b"wide",
+        style,
+        &style.wide,
+        bodies,
+        placed,
+        counts,
+        widths,
+        out,
+    )
+}
+
+// The wide area of a page, its gaps as they are.
 fn print_wide_area(
+    style: &Style,
     bodies: &[Vec<&[u8]>],
     placed: &Counts,
     page: &Page,
     out: &mut Vec<u8>,
 ) -> Result<(), AllocError>
-    ensures ok { OnOk result (out.new.items ≡ out.old.items ++ wide_by (lent bodies.now) placed.now page.now.wide) }
+    ensures ok { OnOk result (out.new.items ≡ out.old.items ++ wide_by style.now (lent bodies.now) placed.now page.now.wide) }
     ensures grows { Grows out.old.items out.new.items }
 {
-    print_floats(
-        b"wide",
-        bodies,
-        placed.as_slice(),
-        page.wide.as_slice(),
-        out,
-    )
+    style.stays_in_range();
+    let alloc = *out.allocator();
+    let before = placed.as_slice();
+    let counts = page.wide.as_slice();
+    let dealt = dealt_bodies(alloc, bodies, before, counts)?;
+    let gaps = hung_gaps(alloc, style, &style.wide, dealt.len())?;
+    let sizes = own_sizes(alloc, gaps.as_slice())?;
+    print_wide_set(style, bodies, before, counts, sizes.as_slice(), out)
 }
 
 // The line of a page and its wide area.
@@ -141,11 +173,11 @@ fn print_page_head(
 ) -> Result<(), AllocError>
     ensures ok { OnOk result (out.new.items ≡ out.old.items
         ++ (page_line number (side_in style.now.first number) page.now.run page.now.wide
-        ++ wide_by (lent bodies.now) placed.now page.now.wide)) }
+        ++ wide_by style.now (lent bodies.now) placed.now page.now.wide)) }
     ensures grows { Grows out.old.items out.new.items }
 {
     print_side_line(number, side_of(style.first, number), page, out)?;
-    print_wide_area(bodies, placed, page, out)
+    print_wide_area(style, bodies, placed, page, out)
 }
 
 // Where the first column of a page stands.

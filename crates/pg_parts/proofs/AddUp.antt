@@ -3,30 +3,29 @@ use Rattle.std.proofs.Common.{◌≡◌, refl, arith, [], ◌∷◌, true, false
 use Rattle.std.specs.Prelude.{ℤ, pos, ◌+◌, ◌+ℤ◌, ◌-ℤ◌, if◌then◌else◌, Option, Some, None}
 use Rattle.std.specs.Option.{option_map_or}
 use Rattle.std.proofs.lemmas.Int.{ints}
-use Rattle.pg_list.specs.Break.{break_penalty}
 use Rattle.pg_list.specs.Whole.{square}
 use Rattle.pg_rules.specs.ColumnRules.{text_badness}
-use Rattle.pg_rules.specs.Cost.{cost_of, column_demerits, penalty_demerits, pick_demerits}
+use Rattle.pg_rules.specs.Cost.{cost_of, column_demerits, pick_demerits, text_demerits}
 use Rattle.pg_rules.specs.History.{context}
 use Rattle.pg_rules.specs.Room.{ColumnContext, is_text, items_of, size_of}
 use Rattle.pg_parts.specs.Parts.{PartsAddUp, badness_part, empty_part, fitness_part, float_part, line_part, part_sum, penalty_part, run_part}
 use Rattle.pg_parts.specs.declared.part.Part.TheVariants.{Line, Badness, Penalties, Empty, Picks, Runs, Floats, Fitness}
 
-cases : (t : Bool) (size : Option ℕ) (l : ℤ) (w p : ℕ → ℤ) (e : ℤ) →
-    (if t then option_map_or (λ (n : ℕ). w n +ℤ p n) size (pos 0) else e)
+cases : (t : Bool) (size : Option ℕ) (l : ℤ) (w d : ℕ → ℤ) (e : ℤ) →
+    (if t then option_map_or d size (pos 0) else e)
     ≡ (((if t then option_map_or (λ (n : ℕ). l) size (pos 0) else pos 0)
     +ℤ (if t then option_map_or (λ (n : ℕ). w n -ℤ l) size (pos 0) else pos 0))
-    +ℤ (if t then option_map_or p size (pos 0) else pos 0))
+    +ℤ (if t then option_map_or (λ (n : ℕ). d n -ℤ w n) size (pos 0) else pos 0))
     +ℤ (if t then pos 0 else e)
-cases true (Some n) l w p e = omega (arith, ints)
-cases true None l w p e = refl
-cases false size l w p e = omega (arith, ints)
+cases true (Some n) l w d e = omega (arith, ints)
+cases true None l w d e = refl
+cases false size l w d e = omega (arith, ints)
 
 column_adds_up : (it : ColumnContext) →
     column_demerits it ≡ ((line_part it +ℤ badness_part it) +ℤ penalty_part it) +ℤ empty_part it
 column_adds_up it = cases (is_text it) (size_of it) (square (pos it.document.style.line))
     (λ n. square (pos (it.document.style.line + text_badness it n)))
-    (λ n. option_map_or penalty_demerits (break_penalty (items_of it) n) (pos 0)) (pos it.document.style.float_column.demerits)
+    (text_demerits it) (pos it.document.style.float_column.demerits)
 
 step : (c l b p e k r f t cl cb cp ce ck cr cf ct cd : ℤ) →
     c ≡ l +ℤ (b +ℤ (p +ℤ (e +ℤ (k +ℤ (r +ℤ (f +ℤ (t +ℤ pos 0))))))) → cd ≡ ((cl +ℤ cb) +ℤ cp) +ℤ ce →

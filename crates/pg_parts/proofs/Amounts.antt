@@ -5,15 +5,14 @@ use Rattle.std.specs.Option.{option_map_or}
 use Rattle.std.proofs.lemmas.Int.{ints}
 use Rattle.pg_lemmas.proofs.Lists.{reverse_cons}
 use Rattle.law_places.proofs.Among.{sum_append}
-use Rattle.pg_list.specs.Break.{break_penalty}
 use Rattle.pg_list.specs.Whole.{square}
 use Rattle.pg_plan.specs.declared.pages.PageMove.{PageMove}
 use Rattle.pg_column.specs.Numbers.{AreNumbers}
 use Rattle.pg_column.specs.declared.cost.TextCost.{TextCost}
 use Rattle.pg_rules.specs.ColumnRules.{text_badness}
-use Rattle.pg_rules.specs.Cost.{penalty_demerits}
+use Rattle.pg_rules.specs.Cost.{text_demerits}
 use Rattle.pg_rules.specs.History.{context}
-use Rattle.pg_rules.specs.Room.{Document, ColumnContext, is_text, items_of, size_of}
+use Rattle.pg_rules.specs.Room.{Document, ColumnContext, is_text, size_of}
 use Rattle.pg_parts.specs.Parts.{of_text, part_of, part_sum}
 use Rattle.pg_parts.specs.Priced.{ArePriced, HasNumbers, IsPriced, amount_of, amounts}
 use Rattle.pg_parts.specs.declared.part.Part.{Part}
@@ -31,8 +30,8 @@ by_numbers it (Some text) f part (is, (n, (size, are))) each =
     ∙ sym (ap (λ (t : Bool). if t then option_map_or part (size_of it) (pos 0) else pos 0) is
     ∙ ap (λ (o : Option ℕ). option_map_or part o (pos 0)) size)
 
-above : (d s p a : ℤ) → d ≡ s +ℤ p → a ≡ s → d -ℤ a ≡ p
-above d s p a e f = omega (arith, ints)
+less : (d e a b : ℤ) → d ≡ e → a ≡ b → d -ℤ a ≡ e -ℤ b
+less d e a b p q = cc
 
 priced_empty : (t : Bool) (n : ℕ) → pos (if t then 0 else n) ≡ (if t then pos 0 else pos n)
 priced_empty true n = refl
@@ -51,9 +50,8 @@ module _ (doc : Document) (m : PageMove) (ms : List PageMove) (it : PricedColumn
       (λ text n are. ap (λ (z : ℤ). z -ℤ square (pos it.line)) (squares text n are)
       ∙ ap (λ (k : ℕ). square (pos (doc.style.line + text_badness (context doc m ms) n)) -ℤ square (pos k)) is.line)
   amount_is Penalties = by_numbers (context doc m ms) it.text _ _ is.text
-      (λ text n are. above text.demerits (square (pos (doc.style.line + text_badness (context doc m ms) n)))
-      (option_map_or penalty_demerits (break_penalty (items_of (context doc m ms)) n) (pos 0))
-      (square (pos (it.line + text.badness))) are.demerits (squares text n are))
+      (λ text n are. less text.demerits (text_demerits (context doc m ms) n) (square (pos (it.line + text.badness)))
+      (square (pos (doc.style.line + text_badness (context doc m ms) n))) are.demerits (squares text n are))
   amount_is Empty = ap pos is.empty ∙ priced_empty (is_text (context doc m ms)) doc.style.float_column.demerits
   amount_is Picks = is.picks
   amount_is Runs = is.run

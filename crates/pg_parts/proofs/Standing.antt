@@ -15,22 +15,20 @@ use Rattle.pg_judge.specs.Progress.{IsProgress}
 use Rattle.pg_judge.specs.Verdict.{broken_by, first_false, lesser, tests_on}
 use Rattle.pg_judge.specs.declared.moves.MoveCost.{MoveCost}
 use Rattle.pg_judge.specs.declared.progress.Progress.{Progress}
+use Rattle.pg_judge.proofs.Columns.{some_size}
 use Rattle.pg_judge.proofs.Step.{no_pair}
 use Rattle.pg_rules.specs.ColumnRules.{column_variants, does_fit, has_counts, has_room, is_tolerable, is_well_formed, keeps_looseness, keeps_note_limits, passes_breaks, text_fitness}
 use Rattle.pg_rules.specs.Follow.{KeepsColumnRules}
 use Rattle.pg_rules.specs.History.{column_fitness, context, next_column, place_of}
 use Rattle.pg_rules.specs.Legal.{has_wide_counts, is_chained}
 use Rattle.pg_rules.specs.Room.{ColumnContext, Document, flat_items_of, is_text, size_of}
+use Rattle.law_columns.proofs.Beginnings.{stand_behind}
 use Rattle.law_columns.proofs.Faults.{none_or, none_unless}
 use Rattle.law_columns.specs.Stands.{Stand, StandsAfter}
 use Rattle.pg_parts.specs.Parts.{float_part}
 use Rattle.pg_parts.specs.Priced.{HasNumbers, price_in}
 
 -- ---- the columns before one
-
-behind : (doc : Document) (xs ys : List PageMove) → Stand doc (xs ++ ys) → Stand doc ys
-behind doc [] ys stand = stand
-behind doc (x ∷ xs) ys stand = behind doc xs ys stand.1
 
 pub one_before : (moves : List PageMove) (i : ℕ) (m : PageMove) → i < length moves → m ≡ get_or moves i m →
     reverse (take (i + 1) moves) ≡ m ∷ reverse (take i moves)
@@ -40,7 +38,7 @@ one_before moves i m within is = ap reverse (one_more moves i m within is) ∙ r
 pub stand_at : (doc : Document) (moves : List PageMove) (i : ℕ) (m : PageMove) → i < length moves → m ≡ get_or moves i m →
     Stand doc (reverse moves) → Stand doc (m ∷ reverse (take i moves))
 stand_at doc moves i m within is stand =
-    behind doc (reverse (drop (i + 1) moves)) (m ∷ reverse (take i moves)) (subst (Stand doc) cut stand)
+    stand_behind doc (reverse (drop (i + 1) moves)) (m ∷ reverse (take i moves)) (subst (Stand doc) cut stand)
   where
     cut : reverse moves ≡ reverse (drop (i + 1) moves) ++ (m ∷ reverse (take i moves))
     cut = ap reverse (sym (take-append-drop (i + 1) moves))
@@ -111,10 +109,6 @@ own_is it None none = sym (ap (λ (t : Bool). if t then Some (column_fitness it)
 own_is it (Some numbers) (is, (n, (size, are))) =
     ap Some (are.fitness ∙ ap (λ (o : Option ℕ). option_map_or (text_fitness it) o 2) (sym size))
     ∙ sym (ap (λ (t : Bool). if t then Some (column_fitness it) else None) is)
-
-some_size : (test : ℕ → Bool) (o : Option ℕ) → option_map_or test o false ≡ true → (n : ℕ) × (o ≡ Some n)
-some_size test None e = absurd cc
-some_size test (Some n) e = (n, refl)
 
 -- the numbers of a text that fits
 pub has_numbers : (it : ColumnContext) (numbers : TextCost) → is_text it ≡ true → does_fit it ≡ true →

@@ -1,14 +1,13 @@
 -- The parts of the cost of a pagination.
 use Rattle.std.specs.Prelude.{◌≡◌, ℕ, if◌then◌else◌, List, [], ◌∷◌, ℤ, pos, ◌+◌, ◌+ℤ◌, ◌-ℤ◌, ◌==◌}
 use Rattle.std.specs.Option.{option_map_or}
-use Rattle.pg_list.specs.Break.{break_penalty}
 use Rattle.pg_list.specs.Whole.{square, whole_sum_by}
 use Rattle.pg_plan.specs.declared.pages.PageMove.{PageMove}
 use Rattle.pg_rules.specs.ColumnRules.{text_badness}
-use Rattle.pg_rules.specs.Cost.{cost_of, penalty_demerits, pick_demerits, run_demerits, float_demerits, fitness_demerits}
+use Rattle.pg_rules.specs.Cost.{cost_of, text_demerits, pick_demerits, run_demerits, float_demerits, fitness_demerits}
 use Rattle.pg_rules.specs.History.{context, fitness_of, placed_of, next_column}
 use Rattle.pg_rules.specs.Legal.{added, distance}
-use Rattle.pg_rules.specs.Room.{Document, ColumnContext, is_text, items_of, size_of}
+use Rattle.pg_rules.specs.Room.{Document, ColumnContext, is_text, size_of}
 use Rattle.pg_parts.specs.declared.part.Part.{Part}
 use Rattle.pg_parts.specs.declared.part.Part.TheVariants.{Line, Badness, Penalties, Empty, Picks, Runs, Floats, Fitness}
 
@@ -25,9 +24,10 @@ abbrev pub badness_part : ColumnContext → ℤ
 badness_part it =
     of_text it (λ n. square (pos (it.document.style.line + text_badness it n)) -ℤ square (pos it.document.style.line))
 
--- what the penalty at its end adds
+-- what the penalty at its end adds, or takes off
 abbrev pub penalty_part : ColumnContext → ℤ
-penalty_part it = of_text it (λ n. option_map_or penalty_demerits (break_penalty (items_of it) n) (pos 0))
+penalty_part it =
+    of_text it (λ n. text_demerits it n -ℤ square (pos (it.document.style.line + text_badness it n)))
 
 -- what a column without text pays
 abbrev pub empty_part : ColumnContext → ℤ

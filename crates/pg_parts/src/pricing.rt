@@ -38,7 +38,7 @@ fn numbers_of(galley: &Galley, style: &Style, column: &Column, seat: &Seat) -> O
         column.from,
         column.picks.as_slice(),
         column.to,
-        seat.room(),
+        &seat.room(),
     ) {
         Ok(numbers) => Some(numbers),
         Err(_) => None,

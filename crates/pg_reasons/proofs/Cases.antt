@@ -1,6 +1,5 @@
 -- Cases that break no rule are those that may follow.
-use Rattle.std.proofs.Common.{◌≡◌, refl, ap, ◌∙◌, ℕ, Bool, true, Option, None}
-use Rattle.std.specs.Option.{option_or}
+use Rattle.std.proofs.Common.{◌≡◌, refl, true, None}
 use Rattle.pg_list.specs.GalleyValue.{GalleyValue}
 use Rattle.pg_plan.specs.declared.pages.PageMove.{PageMove}
 use Rattle.pg_plan.specs.declared.states.State.{State}
@@ -11,14 +10,8 @@ use Rattle.pg_rules.specs.Cost.{column_cost}
 use Rattle.pg_rules.specs.Follow.{KeepsColumnRules, age_in, context_in, may_turn, next_state}
 use Rattle.pg_rules.specs.Legal.{added, document, has_callouts, keeps_barriers, unless}
 use Rattle.pg_rules.specs.Room.{ColumnContext, Document}
-use Rattle.law_columns.proofs.Faults.{or_none, unless_none}
+use Rattle.law_columns.proofs.Faults.{none_or, none_unless, or_none, unless_none}
 use Rattle.pg_reasons.specs.Reasons.{CasesFollow, FollowersAreCases, IsCase, MayFollow, fault_behind}
-
-none_both : (a b : Option ℕ) → a ≡ None → b ≡ None → option_or a b ≡ None
-none_both a b e f = ap (λ (x : Option ℕ). option_or x b) e ∙ f
-
-told : (b : Bool) (n : ℕ) → b ≡ true → unless b n ≡ None
-told b n e = ap (λ (x : Bool). unless x n) e
 
 -- the rules on a text, one by one
 pub record Kept (it : ColumnContext) : Type 0 where
@@ -47,12 +40,12 @@ all_kept it e =
 
 kept_all : (it : ColumnContext) → Kept it → text_fault it ≡ None
 kept_all it k =
-    none_both (unless (is_well_formed it) 3) _ (told (is_well_formed it) 3 k.well_formed)
-    (none_both (unless (is_tolerable it) 4) _ (told (is_tolerable it) 4 k.tolerable)
-    (none_both (unless (passes_breaks it) 5) _ (told (passes_breaks it) 5 k.passes)
-    (none_both (unless (has_room it) 6) _ (told (has_room it) 6 k.room)
-    (none_both (unless (keeps_note_limits it) 11) (unless (keeps_looseness it) 13)
-    (told (keeps_note_limits it) 11 k.note_limits) (told (keeps_looseness it) 13 k.looseness)))))
+    none_or (unless (is_well_formed it) 3) _ (none_unless (is_well_formed it) 3 k.well_formed)
+    (none_or (unless (is_tolerable it) 4) _ (none_unless (is_tolerable it) 4 k.tolerable)
+    (none_or (unless (passes_breaks it) 5) _ (none_unless (passes_breaks it) 5 k.passes)
+    (none_or (unless (has_room it) 6) _ (none_unless (has_room it) 6 k.room)
+    (none_or (unless (keeps_note_limits it) 11) (unless (keeps_looseness it) 13)
+    (none_unless (keeps_note_limits it) 11 k.note_limits) (none_unless (keeps_looseness it) 13 k.looseness)))))
 
 rules_of : (it : ColumnContext) → KeepsColumnRules it → Kept it
 rules_of it r = record {
@@ -105,11 +98,13 @@ module _ (g : GalleyValue) (s : StyleValue) where
 
   faultless : (u : State) (m : PageMove) → MayFollow doc u m → fault_behind doc u m ≡ None
   faultless u m (v, (c, f)) =
-      none_both (text_fault (context_in doc u m)) _
+      none_or (text_fault (context_in doc u m)) _
       (kept_all (context_in doc u m) (rules_of (context_in doc u m) f.stands.rules))
-      (none_both (unless (has_callouts doc u.placed m) 9) _ (told (has_callouts doc u.placed m) 9 f.stands.callouts)
-      (none_both (unless (may_turn doc u m) 10) (unless (keeps_barriers doc u.placed m) 14)
-      (told (may_turn doc u m) 10 f.turns) (told (keeps_barriers doc u.placed m) 14 f.stands.barriers)))
+      (none_or (unless (has_callouts doc u.placed m) 9) _
+      (none_unless (has_callouts doc u.placed m) 9 f.stands.callouts)
+      (none_or (unless (may_turn doc u m) 10) (unless (keeps_barriers doc u.placed m) 14)
+      (none_unless (may_turn doc u m) 10 f.turns)
+      (none_unless (keeps_barriers doc u.placed m) 14 f.stands.barriers)))
 
   pub cases : CasesFollow g s
   cases u m case = (follows u m case, faultless u m)

@@ -7,11 +7,13 @@ use Rattle.pg_plan.specs.declared.states.State.{State}
 use Rattle.pg_style.specs.Values.{StyleValue}
 use Rattle.pg_list.specs.Flat.{is_same_place}
 use Rattle.pg_column.specs.Judged.{text_fault}
+use Rattle.pg_column.specs.Numbers.{text_room}
+use Rattle.pg_column.specs.declared.cost.TextRoom.{TextRoom}
 use Rattle.pg_rules.specs.ColumnRules.{does_fit, has_counts}
 use Rattle.pg_rules.specs.Follow.{Follow, context_in, may_turn}
 use Rattle.pg_rules.specs.Legal.{deals_floats, document, has_callouts, has_run, has_wide_counts, keeps_barriers, unless}
 use Rattle.pg_list.specs.declared.galley.Place.{Place}
-use Rattle.pg_rules.specs.Room.{ColumnContext, Document, is_text, room}
+use Rattle.pg_rules.specs.Room.{ColumnContext, Document, is_text}
 
 -- a column behind a state that starts there, on a page of a run that it may have, with counts that are allowed, floats
 -- that are there and picks that fit: what may keep it from following is its text, and how its floats and those that wait
@@ -47,7 +49,7 @@ FollowersAreCases galley style = (u : State) (m : PageMove) → MayFollow (docum
 
 -- what is told of a text in a room: the least rule on it that a column of it breaks, where it fits the galley and its
 -- places differ
-abbrev pub TellsFault : GalleyValue → StyleValue → Place → List ℕ → Place → ℤ → Option ℕ → Type 0
-TellsFault galley style from picks to height told = (it : ColumnContext) → it.document ≡ document galley style →
-    it.column.from ≡ from → it.column.picks ≡ picks → it.column.to ≡ to → room it ≡ height → does_fit it ≡ true →
+abbrev pub TellsFault : GalleyValue → StyleValue → Place → List ℕ → Place → TextRoom → Option ℕ → Type 0
+TellsFault galley style from picks to held told = (it : ColumnContext) → it.document ≡ document galley style →
+    it.column.from ≡ from → it.column.picks ≡ picks → it.column.to ≡ to → text_room it ≡ held → does_fit it ≡ true →
     is_text it ≡ true → text_fault it ≡ told

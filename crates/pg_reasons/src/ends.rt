@@ -5,10 +5,11 @@ ghost use Rattle.pg_list.specs.Places.{item_at as item_at_of};
 ghost use Rattle.pg_list.specs.Ranges.{IsItemInRange};
 ghost use Rattle.pg_rules.specs.Legal.{document};
 ghost use Rattle.pg_rules.specs.Room.{ColumnContext};
+ghost use Rattle.pg_column.specs.Numbers.{IsRoom};
 ghost use Rattle.pg_reasons.specs.Reasons.{TellsFault};
 
 use pg_breaks::{break_cost, is_forced, is_spent};
-use pg_column::{fits_from, goal_in, is_same_place, judge_from};
+use pg_column::{TextCost, TextRoom, fits_from, is_over, is_same_place, judge_from, text_cost};
 use pg_list::{Block, Galley, Item, Place};
 use pg_notes::NoteSums;
 use pg_plan::Picks;
@@ -33,21 +34,20 @@ pub struct Reach {
 /// How many items a reach is looked for in.
 const MOST: u32 = 65536;
 
-/// The least rule on the text of a column that one from a place to another with these picks breaks in a room of so many
-/// scaled points: 3 shape of a column, 4 tolerance, 5 break inside, 6 least text, 11 limit of notes, 13 looseness. None
+/// The least rule on the text of a column that one from a place to another with these picks breaks in a room: 3 shape of a column, 4 tolerance, 5 break inside, 6 least text, 11 limit of notes, 13 looseness. None
 /// where it breaks none, or where the text is none of the galley.
 ///
-/// Condition: the room is below 2^40 in size. Takes no memory.
+/// Condition: the numbers of the room are below 2^40 in size. Takes no memory.
 pub fn rule_at(
     galley: &Galley,
     style: &Style,
     from: Place,
     picks: &[u32],
     to: Place,
-    room: i64,
+    room: &TextRoom,
 ) -> Option<u8>
-    requires { nat_abs room < 2 ^ 40 }
-    ensures { TellsFault galley.now style.now from picks.now to room result }
+    requires { IsRoom room.now }
+    ensures { TellsFault galley.now style.now from picks.now to room.now result }
 {
     if is_same_place(from, to) {
         return None;
@@ -81,15 +81,9 @@ fn is_front(galley: &Galley, at: Place) -> bool {
     )
 }
 
-// How badly a text fills a goal, where it is not over.
-fn badness_in(sums: &Sums, goal: i64, is_spent: bool) -> u16
-    requires { nat_abs goal < 2 ^ 52 }
-{
-    if sums.over(goal) {
-        0
-    } else {
-        sums.page_badness(goal, is_spent)
-    }
+// How badly a text fills its goal, where it is not over.
+fn badness_in(numbers: &TextCost, is_over: bool) -> u16 {
+    if is_over { 0 } else { numbers.badness }
 }
 
 // What is kept of the items so far.
@@ -99,36 +93,36 @@ fn reach_at(
     from: Place,
     picks: &[u32],
     to: Place,
-    room: i64,
+    room: &TextRoom,
     sums: &Sums,
     notes: &NoteSums,
 ) -> Reach
-    requires { nat_abs room < 2 ^ 40 }
+    requires { IsRoom room.now }
 {
-    let goal = goal_in(style, room, notes);
+    let numbers = text_cost(style, room, sums, notes, is_spent(galley, to), 0);
+    let is_over = is_over(style, room, sums, notes);
     Reach {
         to,
-        total: sums.total(),
-        goal,
-        is_over: sums.over(goal),
-        badness: badness_in(sums, goal, is_spent(galley, to)),
+        total: numbers.total,
+        goal: numbers.goal,
+        is_over,
+        badness: badness_in(&numbers, is_over),
         has_box: sums.has_box(),
         rule: rule_at(galley, style, from, picks, to, room),
     }
 }
 
-/// The ends in reach of a text from a place in a room of so many scaled points, with the first version of each paragraph
-/// that is a choice: each break up to the first that is over or forced.
+/// The ends in reach of a text from a place in a room, with the first version of each paragraph that is a choice: each break up to the first that is over or forced.
 ///
-/// Condition: the room is below 2^40 in size.
+/// Condition: the numbers of the room are below 2^40 in size.
 pub fn reaches_of(
     alloc: Global,
     galley: &Galley,
     style: &Style,
     from: Place,
-    room: i64,
+    room: &TextRoom,
 ) -> Result<Vec<Reach>, AllocError>
-    requires { nat_abs room < 2 ^ 40 }
+    requires { IsRoom room.now }
 {
     let mut sums = Sums::start(style.topskip, style.maxdepth);
     let mut notes = NoteSums::start();

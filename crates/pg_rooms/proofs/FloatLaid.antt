@@ -1,8 +1,9 @@
 -- The laid columns without text.
-use Rattle.std.proofs.Common.{◌≡◌, refl, subst, List, ◌∷◌, [], map, inl, inr, ◌<◌, ◌^◌, ℕ}
-use Rattle.std.specs.Prelude.{Contains, nat_abs, Result, Ok, Err, IfOk}
+use Rattle.std.proofs.Common.{◌≡◌, refl, subst, List, ◌∷◌, [], map, inl, inr, ℕ}
+use Rattle.std.specs.Prelude.{Contains, Result, Ok, Err, IfOk}
 use Rattle.std.specs.List.{AllByRecursion}
 use Rattle.pg_plan.specs.declared.states.State.{State}
+use Rattle.pg_column.specs.Numbers.{IsRoom}
 use Rattle.pg_layouts.specs.Layouts.{float_layouts}
 use Rattle.pg_layouts.specs.declared.layout.Layout.{Layout}
 use Rattle.law_places.proofs.Members.{contains_among, of_map}
@@ -21,7 +22,7 @@ all_in P (y ∷ ys) x a (inr b) = all_in P ys x a.1 b
 -- each of the laid columns without text
 float_each : (doc : Document) (u : State) (ceiling : List ℕ) (laid : List Laid) →
     laid ≡ map (laid_of doc u) (float_layouts doc u ceiling) →
-    AllByRecursion (λ (it : Laid). nat_abs it.room < 2 ^ 40) laid → (it : Laid) → Contains laid it →
+    AllByRecursion (λ (it : Laid). IsRoom it.room) laid → (it : Laid) → Contains laid it →
     IsFloatLaid doc u it
 float_each doc u ceiling laid e small it c =
     of_map (laid_of doc u) (float_layouts doc u ceiling) it
@@ -29,16 +30,16 @@ float_each doc u ceiling laid e small it c =
     (λ layout a i. by layout i (of_float_layouts doc u ceiling layout a))
   where
     by : (layout : Layout) → laid_of doc u layout ≡ it → IsFloatLayout doc u ceiling layout → IsFloatLaid doc u it
-    by layout i is = subst (λ (x : Laid). nat_abs x.room < 2 ^ 40 → IsFloatLaid doc u x) i (λ few. record {
+    by layout i is = subst (λ (x : Laid). IsRoom x.room → IsFloatLaid doc u x) i (λ few. record {
       is = refl;
       small = few;
       long = is.top.long;
       bottom = is.bottom;
-    }) (all_in (λ (x : Laid). nat_abs x.room < 2 ^ 40) laid it small (contains_among laid it c))
+    }) (all_in (λ (x : Laid). IsRoom x.room) laid it small (contains_among laid it c))
 
 pub on_float_each : {V E : Type 0} (items : V → List Laid) (r : Result V E) (doc : Document) (u : State)
     (ceiling : List ℕ) → IfOk r (λ laid. items laid ≡ map (laid_of doc u) (float_layouts doc u ceiling)) →
-    IfOk r (λ laid. AllByRecursion (λ (it : Laid). nat_abs it.room < 2 ^ 40) (items laid)) →
+    IfOk r (λ laid. AllByRecursion (λ (it : Laid). IsRoom it.room) (items laid)) →
     IfOk r (λ laid. (it : Laid) → Contains (items laid) it → IsFloatLaid doc u it)
 on_float_each items (Err e) doc u ceiling h k = tt
 on_float_each items (Ok laid) doc u ceiling h k = float_each doc u ceiling (items laid) h k

@@ -1,45 +1,64 @@
 -- What is kept of a place.
 use Rattle.std.proofs.Common.{Ok, Err, Result, ◌≡◌, refl, sym, ap, subst, ◌∙◌, ℕ, zero, suc, ◌+◌, ◌<◌, true, false, Bool, ℤ, arith, get_or}
-use Rattle.std.specs.Prelude.{List, [], ◌∷◌, ◌++◌, length, take, if◌then◌else◌, Contains, OnOk}
+use Rattle.std.specs.Prelude.{◌&&◌, List, [], ◌∷◌, ◌++◌, length, take, if◌then◌else◌, Contains, OnOk}
 use Rattle.std.specs.List.{AllByRecursion}
 use Rattle.std.specs.Ordering.{int_eq}
 use Rattle.std.proofs.Math.Seq.{take-length}
 use Rattle.std.proofs.lemmas.Bool.Decides.{Decides-int_eq}
 use Rattle.pg_column.specs.Ends.{AreEnds}
-use Rattle.pg_lemmas.proofs.Bools.{by_bool, if_false, if_true}
+use Rattle.pg_column.specs.declared.cost.TextRoom.{TextRoom}
+use Rattle.pg_lemmas.proofs.Bools.{both, both_of, by_bool, if_false, if_true}
 use Rattle.pg_lemmas.proofs.Lists.{all_append, none_among}
 use Rattle.pg_rooms.specs.declared.laid.Laid.{Laid}
 use Rattle.pg_list.specs.declared.galley.Place.{Place}
 use Rattle.pg_rules.specs.Room.{Document}
 use Rattle.pg_walk.specs.declared.place.PlaceWalk.{PlaceWalk}
 use Rattle.law_walk.specs.Candidates.{Candidate}
-use Rattle.law_walk.specs.Reached.{tallest}
-use Rattle.pg_candidates.specs.Nears.{AreNearFrom}
+use Rattle.pg_candidates.specs.Nears.{AreNearOnPages}
 use Rattle.pg_candidates.specs.RoomEnds.{ends_of}
 use Rattle.pg_candidates.specs.declared.room_end.RoomEnd.{RoomEnd}
 use Rattle.pg_rooms.proofs.Grouped.{all_more}
 use Rattle.pg_rooms.specs.Calls.{AreCalls}
-use Rattle.pg_rooms.specs.PlaceEnds.{AreGroups, ArePlaceEnds, AreRoomEnds, ends_in, groups_in, has_room}
+use Rattle.pg_rooms.specs.PlaceEnds.{AreGroups, ArePlaceEnds, AreRoomEnds, ends_in, groups_in, has_room, is_same_room}
 use Rattle.pg_rooms.specs.declared.calls.Calls.{Calls}
 use Rattle.pg_rooms.specs.declared.grouping.Group.{Group}
 use Rattle.pg_rooms.specs.declared.place_ends.PlaceEnds.{PlaceEnds}
 use Rattle.pg_rooms.specs.declared.place_ends.RoomEnds.{RoomEnds}
 
+-- ---- rooms that are the same
+
+same_itself : (room : TextRoom) → is_same_room room room ≡ true
+same_itself room = both _ _ (both _ _ ((Decides-int_eq room.size room.size).1 refl)
+    ((Decides-int_eq room.give.stretch room.give.stretch).1 refl))
+    ((Decides-int_eq room.give.shrink room.give.shrink).1 refl)
+
+same_is : (a b : TextRoom) → is_same_room a b ≡ true → a ≡ b
+same_is a b e =
+    let two = both_of (int_eq a.size b.size && int_eq a.give.stretch b.give.stretch) _ e in
+    let one = both_of (int_eq a.size b.size) (int_eq a.give.stretch b.give.stretch) two.0 in
+    make _ _ _ _ _ _ ((Decides-int_eq a.size b.size).0 one.0)
+    ((Decides-int_eq a.give.stretch b.give.stretch).0 one.1) ((Decides-int_eq a.give.shrink b.give.shrink).0 two.1)
+  where
+    make : (s s' x x' y y' : ℤ) → s ≡ s' → x ≡ x' → y ≡ y' →
+        ◌≡◌ {A = TextRoom} (record { size = s; give = record { stretch = x; shrink = y } })
+        (record { size = s'; give = record { stretch = x'; shrink = y' } })
+    make s s' x x' y y' p q r = cc
+
 -- ---- a room more
 
 has_last : (rooms : List RoomEnds) (it : RoomEnds) → has_room (rooms ++ it ∷ []) it.room ≡ true
-has_last [] it = if_true (int_eq it.room it.room) true false ((Decides-int_eq it.room it.room).1 refl)
-has_last (first ∷ rooms) it = by (int_eq first.room it.room) (has_last rooms it)
+has_last [] it = if_true (is_same_room it.room it.room) true false (same_itself it.room)
+has_last (first ∷ rooms) it = by (is_same_room first.room it.room) (has_last rooms it)
   where
     by : (b : Bool) → has_room (rooms ++ it ∷ []) it.room ≡ true →
         (if b then true else has_room (rooms ++ it ∷ []) it.room) ≡ true
     by true h = refl
     by false h = h
 
-has_front : (rooms more : List RoomEnds) (room : ℤ) → has_room rooms room ≡ true →
+has_front : (rooms more : List RoomEnds) (room : TextRoom) → has_room rooms room ≡ true →
     has_room (rooms ++ more) room ≡ true
 has_front [] more room h = absurd cc
-has_front (first ∷ rooms) more room h = by (int_eq first.room room) h (has_front rooms more room)
+has_front (first ∷ rooms) more room h = by (is_same_room first.room room) h (has_front rooms more room)
   where
     by : (b : Bool) → (if b then true else has_room rooms room) ≡ true →
         (has_room rooms room ≡ true → has_room (rooms ++ more) room ≡ true) →
@@ -48,14 +67,14 @@ has_front (first ∷ rooms) more room h = by (int_eq first.room room) h (has_fro
     by false h f = f h
 
 -- the room that was added is kept
-pub has_added : (rooms now : List RoomEnds) (it : RoomEnds) (room : ℤ) → now ≡ rooms ++ it ∷ [] → it.room ≡ room →
+pub has_added : (rooms now : List RoomEnds) (it : RoomEnds) (room : TextRoom) → now ≡ rooms ++ it ∷ [] → it.room ≡ room →
     has_room now room ≡ true
 has_added rooms now it room push is =
     subst (λ (xs : List RoomEnds). has_room xs room ≡ true) (sym push)
-    (subst (λ (z : ℤ). has_room (rooms ++ it ∷ []) z ≡ true) is (has_last rooms it))
+    (subst (λ (z : TextRoom). has_room (rooms ++ it ∷ []) z ≡ true) is (has_last rooms it))
 
 -- the others still are
-pub has_still : (rooms now : List RoomEnds) (it : RoomEnds) (room : ℤ) → now ≡ rooms ++ it ∷ [] →
+pub has_still : (rooms now : List RoomEnds) (it : RoomEnds) (room : TextRoom) → now ≡ rooms ++ it ∷ [] →
     has_room rooms room ≡ true → has_room now room ≡ true
 has_still rooms now it room push h =
     subst (λ (xs : List RoomEnds). has_room xs room ≡ true) (sym push) (has_front rooms (it ∷ []) room h)
@@ -79,7 +98,7 @@ all_contain P (y ∷ ys) x a (suc k, l, e) = all_contain P ys x a.1 (k, omega ar
 pub has_more : (rooms now : List RoomEnds) (laid : List Laid) (i : ℕ) (it : Laid) → i < length laid →
     it ≡ get_or laid i it →
     AllByRecursion (λ (x : Laid). has_room rooms x.room ≡ true) (take i laid) → has_room now it.room ≡ true →
-    ((room : ℤ) → has_room rooms room ≡ true → has_room now room ≡ true) →
+    ((room : TextRoom) → has_room rooms room ≡ true → has_room now room ≡ true) →
     AllByRecursion (λ (x : Laid). has_room now x.room ≡ true) (take (i + 1) laid)
 has_more rooms now laid i it less is all own keeps =
     all_more (λ (x : Laid). has_room now x.room ≡ true) laid i it less is (still (take i laid) all) own
@@ -91,16 +110,16 @@ has_more rooms now laid i it less is all own keeps =
 
 -- a walk with no room asked for is kept of its place, with the calls of any places
 pub begun : (doc : Document) (from : Place) (it : PlaceEnds) (walk : PlaceWalk) (calls : Calls) → it.walk ≡ walk →
-    it.rooms.items ≡ [] → it.calls ≡ calls → AreNearFrom doc from (tallest doc.style) walk.near →
+    it.rooms.items ≡ [] → it.calls ≡ calls → AreNearOnPages doc from walk.near →
     AreCalls doc calls.items.items → ArePlaceEnds doc from it
 begun doc from it walk calls w r k near are = record {
-  near = subst (λ (x : PlaceWalk). AreNearFrom doc from (tallest doc.style) x.near) (sym w) near;
+  near = subst (λ (x : PlaceWalk). AreNearOnPages doc from x.near) (sym w) near;
   rooms = subst (AllByRecursion (AreRoomEnds doc from it.walk.near.candidates)) (sym r) tt;
   calls = subst (λ (kept : Calls). AreCalls doc kept.items.items) (sym k) are;
 }
 
 -- the ends in a room that is kept
-pub room_right : (doc : Document) (from : Place) (it : PlaceEnds) (room : ℤ) → ArePlaceEnds doc from it →
+pub room_right : (doc : Document) (from : Place) (it : PlaceEnds) (room : TextRoom) → ArePlaceEnds doc from it →
     has_room it.rooms.items room ≡ true →
     AreEnds doc from room (ends_of it.walk.near.candidates (ends_in it.rooms.items room))
 room_right doc from it room are h = by it.rooms.items are.rooms h
@@ -114,15 +133,15 @@ room_right doc from it room are h = by it.rooms.items are.rooms h
     by : (rooms : List RoomEnds) → AllByRecursion (AreRoomEnds doc from cs) rooms → has_room rooms room ≡ true →
         AreOf (ends_in rooms room)
     by [] all h = absurd cc
-    by (first ∷ rooms) all h = by_bool (int_eq first.room room)
-        (λ t. subst AreOf (sym (if_true (int_eq first.room room) first.ends.items (ends_in rooms room) t))
-        (subst (λ (z : ℤ). AreEnds doc from z (ends_of cs first.ends.items)) ((Decides-int_eq first.room room).0 t)
+    by (first ∷ rooms) all h = by_bool (is_same_room first.room room)
+        (λ t. subst AreOf (sym (if_true (is_same_room first.room room) first.ends.items (ends_in rooms room) t))
+        (subst (λ (z : TextRoom). AreEnds doc from z (ends_of cs first.ends.items)) (same_is first.room room t)
         all.0.ends))
-        (λ f. subst AreOf (sym (if_false (int_eq first.room room) first.ends.items (ends_in rooms room) f))
-        (by rooms all.1 (sym (if_false (int_eq first.room room) true (has_room rooms room) f) ∙ h)))
+        (λ f. subst AreOf (sym (if_false (is_same_room first.room room) first.ends.items (ends_in rooms room) f))
+        (by rooms all.1 (sym (if_false (is_same_room first.room room) true (has_room rooms room) f) ∙ h)))
 
 -- their groups, also where it is not
-pub groups_right : (doc : Document) (from : Place) (it : PlaceEnds) (room : ℤ) → ArePlaceEnds doc from it →
+pub groups_right : (doc : Document) (from : Place) (it : PlaceEnds) (room : TextRoom) → ArePlaceEnds doc from it →
     AreGroups doc (groups_in it.rooms.items room) (ends_in it.rooms.items room)
 groups_right doc from it room are = by it.rooms.items are.rooms
   where
@@ -134,7 +153,7 @@ groups_right doc from it room are = by it.rooms.items are.rooms
     by : (rooms : List RoomEnds) → AllByRecursion (AreRoomEnds doc from it.walk.near.candidates) rooms →
         AreGroups doc (groups_in rooms room) (ends_in rooms room)
     by [] all = refl
-    by (first ∷ rooms) all = either (int_eq first.room room) first.groups.items (groups_in rooms room) first.ends.items
+    by (first ∷ rooms) all = either (is_same_room first.room room) first.groups.items (groups_in rooms room) first.ends.items
         (ends_in rooms room) all.0.groups (by rooms all.1)
 
 -- two clauses of an answer as one

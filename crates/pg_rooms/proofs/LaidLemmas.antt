@@ -4,21 +4,27 @@ use Rattle.std.specs.Prelude.{◌==◌, nat_lt, if◌then◌else◌, nat_abs, �
 use Rattle.std.specs.Option.{option_map_or}
 use Rattle.std.proofs.lemmas.Int.{ints}
 use Rattle.pg_plan.specs.declared.states.State.{State}
+use Rattle.pg_style.specs.Plain.{plus_give}
 use Rattle.pg_style.specs.Ranges.{IsAreaRule}
 use Rattle.pg_style.specs.Values.{AreaRuleValue}
-use Rattle.pg_rules.specs.Floats.{dealt, float_numbers, floats, plus_counts, total_count}
+use Rattle.pg_style.specs.declared.style.Gap.{Gap}
+use Rattle.pg_style.specs.declared.style.Give.{Give}
+use Rattle.pg_rules.specs.Floats.{dealt, float_numbers, floats, gap_shrink, gap_stretch, plus_counts, total_count}
 use Rattle.pg_rules.specs.IsState.{IsState, not_first}
-use Rattle.pg_rules.specs.Room.{Document, checked_height, extra}
+use Rattle.pg_rules.specs.Room.{Document, checked_give, checked_height, extra}
 use Rattle.std.specs.List.{AllByRecursion}
 use Rattle.pg_list.specs.Shapes.{IsBlock}
 use Rattle.law_columns.proofs.Areas.{area_range, dealt_range, floats_range}
+use Rattle.law_columns.proofs.Gives.{IsPart, give_range}
+use Rattle.pg_column.specs.Numbers.{IsRoom}
+use Rattle.pg_column.specs.declared.cost.TextRoom.{TextRoom}
 use Rattle.pg_layouts.specs.declared.layout.Layout.{Layout}
 use Rattle.std.proofs.lemmas.List.{map-append}
 use Rattle.pg_lemmas.proofs.Lists.{all_append, one_more}
 use Rattle.pg_lemmas.proofs.Bools.{both_of, by_bool, if_false}
 use Rattle.std.proofs.lemmas.Bool.{eqb-true}
-use Rattle.law_moves.proofs.Moves.{checked_is}
-use Rattle.law_moves.specs.Steps.{area_of, text_room, wide_of}
+use Rattle.law_moves.proofs.Moves.{checked_give_is, checked_is, same_give}
+use Rattle.law_moves.specs.Steps.{area_of, give_of, text_give, text_room, text_size, wide_of}
 use Rattle.pg_rooms.specs.Laid.{IsLaidBy, IsThere, laid_of}
 use Rattle.pg_rooms.specs.declared.laid.Laid.{Laid}
 use Rattle.law_places.proofs.Tests.{le_int, less_int}
@@ -38,6 +44,52 @@ height_small doc rule before counts z blocks range there e =
     there.few in
     let few = r.1 in
     subst (λ (y : ℤ). nat_abs y < 2 ^ 34) (sym e) (omega (arith, few))
+
+-- what the gaps of an area give
+pub give_is : (part : Gap → ℤ) (doc : Document) (rule : AreaRuleValue) (before counts : List ℕ) (z : ℤ) →
+    IsThere doc before counts → z ≡ checked_give part (floats doc.blocks doc.style) true rule before counts →
+    z ≡ give_of part doc rule before counts
+give_is part doc rule before counts z there e =
+    e ∙ checked_give_is part (floats doc.blocks doc.style) true rule before counts refl there.there
+
+pub give_small : (part : Gap → ℤ) → IsPart part → (doc : Document) (rule : AreaRuleValue) (before counts : List ℕ) (z : ℤ) →
+    IsAreaRule rule → IsThere doc before counts → z ≡ give_of part doc rule before counts → nat_abs z < 2 ^ 33
+give_small part sized doc rule before counts z range there e =
+    let r = give_range part sized rule range (length (dealt (floats doc.blocks doc.style) before counts)) there.few in
+    let few = r.1 in
+    subst (λ (y : ℤ). nat_abs y < 2 ^ 33) (sym e) (omega (arith, few))
+
+-- what those of both areas of a layout give
+pub gives_are : (doc : Document) (u : State) (layout : Layout) (wide : Option ℤ) (before below : List ℕ) (t b : Give) →
+    IsLaidBy doc u layout wide before below →
+    t.stretch ≡ give_of gap_stretch doc doc.style.top before layout.top →
+    t.shrink ≡ give_of gap_shrink doc doc.style.top before layout.top →
+    b.stretch ≡ give_of gap_stretch doc doc.style.bottom below layout.bottom →
+    b.shrink ≡ give_of gap_shrink doc doc.style.bottom below layout.bottom →
+    plus_give t b ≡ (text_room doc u layout).give
+gives_are doc u layout wide before below t b by e f g h =
+    same _ _ _ _ (sum gap_stretch t.stretch b.stretch e g) (sum gap_shrink t.shrink b.shrink f h)
+  where
+    same : (a a' b b' : ℤ) → a ≡ a' → b ≡ b' →
+        ◌≡◌ {A = Give} (record { stretch = a; shrink = b }) (record { stretch = a'; shrink = b' })
+    same a a' b b' p q = cc
+
+    sum : (part : Gap → ℤ) (x y : ℤ) → x ≡ give_of part doc doc.style.top before layout.top →
+        y ≡ give_of part doc doc.style.bottom below layout.bottom → x +ℤ y ≡ text_give part doc u layout
+    sum part x y p q = same_give x _ y _
+        (p ∙ ap (λ (counts : List ℕ). give_of part doc doc.style.top counts layout.top) by.before_is)
+        (q ∙ ap (λ (counts : List ℕ). give_of part doc doc.style.bottom counts layout.bottom)
+        (by.below_is ∙ ap (λ (counts : List ℕ). plus_counts doc.style counts layout.top) by.before_is))
+
+-- the room of a text
+pub whole_is : (doc : Document) (u : State) (layout : Layout) (size : ℤ) (give : Give) → size ≡ text_size doc u layout →
+    give ≡ (text_room doc u layout).give →
+    ◌≡◌ {A = TextRoom} (record { size = size; give = give }) (text_room doc u layout)
+whole_is doc u layout size give p q = same size _ give _ p q
+  where
+    same : (s s' : ℤ) (g g' : Give) → s ≡ s' → g ≡ g' →
+        ◌≡◌ {A = TextRoom} (record { size = s; give = g }) (record { size = s'; give = g' })
+    same s s' g g' p q = cc
 
 -- the wide area of the page of a later column, and of a first one
 pub wide_kept : (doc : Document) (u : State) (wide : List ℕ) → (u.column ≡ 1 → ⊥) → u.wide ≡ wide_of doc u wide
@@ -66,7 +118,7 @@ kept_small column (Some z) e =
 pub room_is : (doc : Document) (u : State) (layout : Layout) (wide : Option ℤ) (before below : List ℕ)
     (full w t b : ℤ) → IsLaidBy doc u layout wide before below → full ≡ doc.style.height +ℤ extra doc.style layout.run →
     w ≡ unwrap_or wide (pos 0) → t ≡ area_of doc doc.style.top before layout.top →
-    b ≡ area_of doc doc.style.bottom below layout.bottom → ((full -ℤ w) -ℤ t) -ℤ b ≡ text_room doc u layout
+    b ≡ area_of doc doc.style.bottom below layout.bottom → ((full -ℤ w) -ℤ t) -ℤ b ≡ text_size doc u layout
 room_is doc u layout wide before below full w t b by f h i j =
     left_is full w t b _ _ _ _ f (h ∙ ap (λ (o : Option ℤ). unwrap_or o (pos 0)) by.wide_is)
     (i ∙ ap (λ (counts : List ℕ). area_of doc doc.style.top counts layout.top) by.before_is)
@@ -77,7 +129,7 @@ room_is doc u layout wide before below full w t b by f h i j =
         ((f -ℤ w) -ℤ t) -ℤ b ≡ ((f' -ℤ w') -ℤ t') -ℤ b'
     left_is f w t b f' w' t' b' p q r s = cc
 
-pub laid_is : (doc : Document) (u : State) (layout : Layout) (wide : Option ℤ) (before below after : List ℕ) (room : ℤ) →
+pub laid_is : (doc : Document) (u : State) (layout : Layout) (wide : Option ℤ) (before below after : List ℕ) (room : TextRoom) →
     IsLaidBy doc u layout wide before below → after ≡ plus_counts doc.style below layout.bottom →
     room ≡ text_room doc u layout →
     ◌≡◌ {A = Laid} (record { layout = layout; wide = wide; after = after; room = room }) (laid_of doc u layout)
@@ -87,7 +139,7 @@ laid_is doc u layout wide before below after room by a r =
     ∙ ap (λ (counts : List ℕ). plus_counts doc.style (plus_counts doc.style counts layout.top) layout.bottom)
     by.before_is)) r
   where
-    same : (w w' : Option ℤ) (a a' : List ℕ) (r r' : ℤ) → w ≡ w' → a ≡ a' → r ≡ r' →
+    same : (w w' : Option ℤ) (a a' : List ℕ) (r r' : TextRoom) → w ≡ w' → a ≡ a' → r ≡ r' →
         ◌≡◌ {A = Laid} (record { layout = layout; wide = w; after = a; room = r })
         (record { layout = layout; wide = w'; after = a'; room = r' })
     same w w' a a' r r' p q s = cc
@@ -95,14 +147,14 @@ laid_is doc u layout wide before below after room by a r =
 -- one more layout behind those before it
 pub laid_more : (doc : Document) (u : State) (layouts : List Layout) (i : ℕ) (layout copy : Layout) (it : Laid)
     (mid new : List Laid) → i < length layouts → layout ≡ get_or layouts i layout → copy ≡ layout →
-    it ≡ laid_of doc u copy → nat_abs it.room < 2 ^ 40 → mid ≡ map (laid_of doc u) (take i layouts) →
-    AllByRecursion (λ (x : Laid). nat_abs x.room < 2 ^ 40) mid → new ≡ mid ++ it ∷ [] →
-    (new ≡ map (laid_of doc u) (take (i + 1) layouts)) × AllByRecursion (λ (x : Laid). nat_abs x.room < 2 ^ 40) new
+    it ≡ laid_of doc u copy → IsRoom it.room → mid ≡ map (laid_of doc u) (take i layouts) →
+    AllByRecursion (λ (x : Laid). IsRoom x.room) mid → new ≡ mid ++ it ∷ [] →
+    (new ≡ map (laid_of doc u) (take (i + 1) layouts)) × AllByRecursion (λ (x : Laid). IsRoom x.room) new
 laid_more doc u layouts i layout copy it mid new less is c e small h all n = (
   n ∙ (ap (λ (xs : List Laid). xs ++ it ∷ []) h
       ∙ (ap (λ (x : Laid). map (laid_of doc u) (take i layouts) ++ x ∷ []) (e ∙ ap (laid_of doc u) c)
       ∙ (sym (map-append (laid_of doc u) (take i layouts) (layout ∷ []))
       ∙ ap (map (laid_of doc u)) (sym (one_more layouts i layout less is))))),
-  subst (AllByRecursion (λ (x : Laid). nat_abs x.room < 2 ^ 40)) (sym n)
-      (all_append (λ (x : Laid). nat_abs x.room < 2 ^ 40) mid (it ∷ []) all (small, tt)),
+  subst (AllByRecursion (λ (x : Laid). IsRoom x.room)) (sym n)
+      (all_append (λ (x : Laid). IsRoom x.room) mid (it ∷ []) all (small, tt)),
 )

@@ -1,8 +1,9 @@
 -- A layout with what it makes of its page.
-use Rattle.std.specs.Prelude.{◌≡◌, ℕ, ◌≤◌, ◌<◌, ◌^◌, true, List, length, nat_abs, Option, ℤ}
+use Rattle.std.specs.Prelude.{◌≡◌, ℕ, ◌≤◌, ◌<◌, true, List, length, Option, ℤ}
 use Rattle.pg_plan.specs.declared.states.State.{State}
 use Rattle.pg_rules.specs.Floats.{dealt, entry, float_numbers, floats, has_all, plus_counts}
 use Rattle.pg_rules.specs.Room.{Document}
+use Rattle.pg_column.specs.Numbers.{IsRoom}
 use Rattle.pg_layouts.specs.Fit.{Fit}
 use Rattle.pg_layouts.specs.Layouts.{zeros}
 use Rattle.pg_layouts.specs.declared.layout.Layout.{Layout}
@@ -47,6 +48,6 @@ laid_of doc u layout = record {
 -- such a layout of a column without text: a count of each class at the top, and none at the bottom
 pub record IsFloatLaid (doc : Document) (u : State) (it : Laid) : Type 0 where
   pub is : it ≡ laid_of doc u it.layout
-  pub small : nat_abs it.room < 2 ^ 40
+  pub small : IsRoom it.room
   pub long : length it.layout.top ≡ length (float_numbers doc.style)
   pub bottom : it.layout.bottom ≡ zeros doc.style

@@ -1,29 +1,33 @@
 //! Layouts with what they make of their pages.
-ghost use Rattle.std.specs.Prelude.{◌≡◌, ◌<◌, ◌^◌, ◌-ℤ◌, Contains, length, map, nat_abs, nat_lt, pos, unwrap_or, IfOk, IfSome};
-ghost use Rattle.pg_rules.specs.Floats.{float_numbers, plus_counts as the_plus_counts, total_count};
+ghost use Rattle.std.specs.Prelude.{◌≡◌, ◌<◌, ◌^◌, ◌-ℤ◌, Contains, Option, length, map, nat_abs, nat_lt, pos, unwrap_or, IfOk, IfSome, ℤ};
+ghost use Rattle.pg_column.specs.Numbers.{IsRoom};
+ghost use Rattle.pg_style.specs.Ranges.{IsAreaRule};
+ghost use Rattle.pg_rules.specs.Floats.{float_numbers, gap_shrink, gap_stretch, plus_counts as the_plus_counts, total_count};
 ghost use Rattle.pg_rules.specs.IsState.{IsState};
 ghost use Rattle.pg_layouts.specs.declared.layout.Layout.{Layout as ALayout};
-ghost use Rattle.law_moves.specs.Steps.{area_of, text_room, wide_of};
+ghost use Rattle.law_moves.specs.Steps.{area_of, give_of, text_room, text_size, wide_of};
 ghost use Rattle.pg_plan.specs.declared.states.State.{State as AState};
 ghost use Rattle.std.specs.List.{AllByRecursion};
 ghost use Rattle.pg_rooms.specs.declared.laid.Laid.{Laid as ALaid};
 ghost use Rattle.pg_sources.specs.Document.{doc_of};
 ghost use Rattle.pg_rooms.specs.Laid.{IsLaid, IsLaidBy, IsThere, laid_of};
 
-use pg_floats::{checked_area, count_floats, full_height};
+use pg_column::TextRoom;
+use pg_floats::{checked_area, checked_give, count_floats, full_height};
 use pg_layouts::{Layout, plus_counts};
 use pg_plan::{Counts, State};
 use pg_scaled::minus;
 use pg_sources::Sources;
+use pg_style::{AreaRule, Give};
 use std::alloc::AllocError;
 
-/// A layout, the height of its page's wide area, the floats that are placed behind it, and what it leaves to a text.
+/// A layout, the height of its page's wide area, the floats that are placed behind it, and the room of a text in it.
 #[derive(Drop)]
 pub struct Laid {
     pub layout: Layout,
     pub wide: Option<i64>,
     pub after: Counts,
-    pub room: i64,
+    pub room: TextRoom,
 }
 
 // What areas leave of a height.
@@ -68,6 +72,17 @@ fn top_area(sources: &Sources<'_>, before: &Counts, counts: &Counts) -> i64
 {
     let style = sources.style;
     checked_area(sources.floats, true, &style.top, before, counts)
+}
+
+// What the gaps of an area give to a text.
+fn area_give(sources: &Sources<'_>, rule: &AreaRule, before: &Counts, counts: &Counts) -> Give
+    requires range { IsAreaRule rule.now }
+    requires there { IsThere (doc_of sources.now) before.now counts.now }
+    ensures stretch { result.stretch ≡ give_of gap_stretch (doc_of sources.now) rule.now before.now counts.now }
+    ensures shrink { result.shrink ≡ give_of gap_shrink (doc_of sources.now) rule.now before.now counts.now }
+    ensures size { (nat_abs result.stretch < 2 ^ 33) × (nat_abs result.shrink < 2 ^ 33) }
+{
+    checked_give(sources.floats, true, rule, before, counts)
 }
 
 // The height of a bottom area.
@@ -120,7 +135,7 @@ fn plus(sources: &Sources<'_>, a: &Counts, b: &Counts) -> Result<Counts, AllocEr
 }
 
 // What a layout leaves to a text.
-fn room(
+fn room_size(
     sources: &Sources<'_>,
     wide: Option<i64>,
     before: &Counts,
@@ -131,7 +146,7 @@ fn room(
     requires top { IsThere (doc_of sources.now) before.now layout.now.top }
     requires bottom { IsThere (doc_of sources.now) below.now layout.now.bottom }
     ensures value { (u : AState) → IsLaidBy (doc_of sources.now) u layout.now wide before.now below.now →
-        result ≡ text_room (doc_of sources.now) u layout.now }
+        result ≡ text_size (doc_of sources.now) u layout.now }
     ensures size { nat_abs result < 2 ^ 40 }
 {
     room_left(
@@ -142,12 +157,47 @@ fn room(
     )
 }
 
+// What the gaps of a layout's areas give to a text.
+fn areas_give(sources: &Sources<'_>, before: &Counts, below: &Counts, layout: &Layout) -> Give
+    requires top { IsThere (doc_of sources.now) before.now layout.now.top }
+    requires bottom { IsThere (doc_of sources.now) below.now layout.now.bottom }
+    ensures value { (u : AState) (wide : Option ℤ) → IsLaidBy (doc_of sources.now) u layout.now wide before.now below.now →
+        result ≡ (text_room (doc_of sources.now) u layout.now).give }
+    ensures size { (nat_abs result.stretch < 2 ^ 40) × (nat_abs result.shrink < 2 ^ 40) }
+{
+    let style = sources.style;
+    let top = area_give(sources, &style.top, before, &layout.top);
+    let bottom = area_give(sources, &style.bottom, below, &layout.bottom);
+    top.plus(bottom)
+}
+
+// The room of a text in a layout.
+fn room(
+    sources: &Sources<'_>,
+    wide: Option<i64>,
+    before: &Counts,
+    below: &Counts,
+    layout: &Layout,
+) -> TextRoom
+    requires wide { IfSome wide (λ height. nat_abs height < 2 ^ 34) }
+    requires top { IsThere (doc_of sources.now) before.now layout.now.top }
+    requires bottom { IsThere (doc_of sources.now) below.now layout.now.bottom }
+    ensures value { (u : AState) → IsLaidBy (doc_of sources.now) u layout.now wide before.now below.now →
+        result ≡ text_room (doc_of sources.now) u layout.now }
+    ensures size { IsRoom result }
+{
+    TextRoom {
+        size: room_size(sources, wide, before, below, layout),
+        give: areas_give(sources, before, below, layout),
+    }
+}
+
 /// A layout with what it makes of its page behind a state.
 pub fn lay(sources: &Sources<'_>, state: &State, layout: Layout) -> Result<Laid, AllocError>
     requires own { IsState (doc_of sources.now) state.now }
     requires laid { IsLaid (doc_of sources.now) state.now layout }
     ensures laid { IfOk result (λ laid. laid ≡ laid_of (doc_of sources.now) state.now layout) }
-    ensures size { IfOk result (λ laid. nat_abs laid.room < 2 ^ 40) }
+    ensures size { IfOk result (λ laid. IsRoom laid.room) }
 {
     let before = plus(sources, &state.placed, &layout.wide)?;
     let below = plus(sources, &before, &layout.top)?;
@@ -171,7 +221,7 @@ pub fn lay_all(
     requires own { IsState (doc_of sources.now) state.now }
     requires laid { (layout : ALayout) → Contains layouts.now layout → IsLaid (doc_of sources.now) state.now layout }
     ensures laid { IfOk result (λ laid. laid.items ≡ map (laid_of (doc_of sources.now) state.now) layouts.now) }
-    ensures small { IfOk result (λ laid. AllByRecursion (λ (it : ALaid). nat_abs it.room < 2 ^ 40) laid.items) }
+    ensures small { IfOk result (λ laid. AllByRecursion (λ (it : ALaid). IsRoom it.room) laid.items) }
 {
     let mut laid = Vec::new(sources.alloc);
     for layout in layouts {

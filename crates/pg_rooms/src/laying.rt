@@ -1,11 +1,12 @@
 //! The layouts of a state, each with what it makes of its page.
-ghost use Rattle.std.specs.Prelude.{◌≡◌, ◌<◌, ◌^◌, ◌≤ℤ◌, map, nat_abs, Contains, IfOk};
+ghost use Rattle.std.specs.Prelude.{◌≡◌, map, Contains, IfOk};
 ghost use Rattle.std.specs.List.{AllByRecursion};
 ghost use Rattle.pg_rules.specs.IsState.{IsState};
 ghost use Rattle.pg_layouts.specs.Layouts.{float_layouts as the_float_layouts, text_layouts as the_text_layouts};
-ghost use Rattle.law_walk.specs.Reached.{tallest};
+ghost use Rattle.pg_column.specs.Numbers.{IsRoom};
 ghost use Rattle.pg_sources.specs.Document.{doc_of};
 ghost use Rattle.pg_rooms.specs.Laid.{HasSoMany, IsFloatLaid, laid_of};
+ghost use Rattle.pg_rooms.specs.PlaceEnds.{IsPageRoom};
 ghost use Rattle.pg_rooms.specs.declared.laid.Laid.{Laid as ALaid};
 
 use crate::laid::{Laid, lay_all};
@@ -24,9 +25,9 @@ pub fn lay_texts(
     requires ceiling { HasSoMany (doc_of sources.now) ceiling.now }
     ensures laid { IfOk result (λ laid. laid.items
         ≡ map (laid_of (doc_of sources.now) state.now) (the_text_layouts (doc_of sources.now) state.now ceiling.now)) }
-    ensures small { IfOk result (λ laid. AllByRecursion (λ (it : ALaid). nat_abs it.room < 2 ^ 40) laid.items) }
+    ensures small { IfOk result (λ laid. AllByRecursion (λ (it : ALaid). IsRoom it.room) laid.items) }
     ensures low { IfOk result (λ laid.
-        AllByRecursion (λ (it : ALaid). it.room ≤ℤ tallest sources.now.style.now) laid.items) }
+        AllByRecursion (λ (it : ALaid). IsPageRoom sources.now.style.now it.room) laid.items) }
 {
     let layouts = text_layouts(
         sources.alloc,

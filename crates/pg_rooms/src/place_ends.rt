@@ -1,37 +1,45 @@
 //! The ends in the rooms of a place.
-ghost use Rattle.std.specs.Prelude.{◌≡◌, ◌<◌, ◌^◌, ◌≤ℤ◌, [], true, is_some, nat_abs, Contains, IfOk, MatchOption, OnOk, ℤ};
+ghost use Rattle.std.specs.Prelude.{◌≡◌, [], true, is_some, Contains, IfOk, MatchOption, OnOk};
 ghost use Rattle.std.specs.List.{AllByRecursion};
-ghost use Rattle.std.specs.Ordering.{int_eq};
 ghost use Rattle.pg_list.specs.declared.galley.Place.{Place as APlace};
-ghost use Rattle.law_walk.specs.Reached.{tallest};
+ghost use Rattle.pg_column.specs.Numbers.{IsRoom};
+ghost use Rattle.pg_column.specs.declared.cost.TextRoom.{TextRoom as ATextRoom};
 ghost use Rattle.pg_rooms.specs.declared.laid.Laid.{Laid as ALaid};
 ghost use Rattle.pg_sources.specs.Document.{doc_of};
 ghost use Rattle.pg_rooms.specs.Calls.{AreCalls};
-ghost use Rattle.pg_candidates.specs.Nears.{AreNearFrom};
-ghost use Rattle.pg_rooms.specs.PlaceEnds.{ArePlaceEnds, AreRoomEnds, ends_in, groups_in, has_room};
+ghost use Rattle.pg_candidates.specs.Nears.{AreNearOnPages};
+ghost use Rattle.pg_rooms.specs.PlaceEnds.{ArePlaceEnds, AreRoomEnds, IsPageRoom, ends_in, groups_in, has_room, is_same_room};
 
 use crate::Laid;
 use crate::calls::Calls;
 use crate::grouping::{Group, group_ends};
 use pg_candidates::{NearList, RoomEnd};
+use pg_column::TextRoom;
 use pg_sources::Sources;
 use pg_walk::PlaceWalk;
 use std::alloc::{AllocError, Global};
 
-/// The ends in a room in scaled points, of the candidates of a place, and their groups.
+/// The ends in a room, of the candidates of a place, and their groups.
 #[derive(Drop)]
 pub struct RoomEnds {
-    pub room: i64,
+    pub room: TextRoom,
     pub ends: Vec<RoomEnd>,
     pub groups: Vec<Group>,
 }
 
+// Whether two rooms have the same size, beside gaps that give the same.
+fn is_same(a: &TextRoom, b: &TextRoom) -> bool
+    ensures { result ≡ is_same_room a.now b.now }
+{
+    a.size == b.size && a.give.stretch == b.give.stretch && a.give.shrink == b.give.shrink
+}
+
 impl RoomEnds {
     // Whether these are the ends in a room.
-    fn is_of(&self, room: i64) -> bool
-        ensures { result ≡ int_eq self.now.room room }
+    fn is_of(&self, room: &TextRoom) -> bool
+        ensures { result ≡ is_same_room self.now.room room.now }
     {
-        self.room == room
+        is_same(&self.room, room)
     }
 }
 
@@ -44,11 +52,12 @@ pub struct PlaceEnds {
 }
 
 // What is kept of a room.
-fn kept(rooms: &[RoomEnds], room: i64) -> Option<&RoomEnds>
-    ensures has { has_room rooms.now room ≡ is_some result }
-    ensures ends { MatchOption result (ends_in rooms.now room ≡ []) (λ it. ends_in rooms.now room ≡ it.now.ends.items) }
-    ensures groups { MatchOption result (groups_in rooms.now room ≡ [])
-        (λ it. groups_in rooms.now room ≡ it.now.groups.items) }
+fn kept<'a>(rooms: &'a [RoomEnds], room: &TextRoom) -> Option<&'a RoomEnds>
+    ensures has { has_room rooms.now room.now ≡ is_some result }
+    ensures ends { MatchOption result (ends_in rooms.now room.now ≡ [])
+        (λ it. ends_in rooms.now room.now ≡ it.now.ends.items) }
+    ensures groups { MatchOption result (groups_in rooms.now room.now ≡ [])
+        (λ it. groups_in rooms.now room.now ≡ it.now.groups.items) }
 {
     let mut rest = rooms;
     'rooms: while let [first, after @ ..] = rest {
@@ -64,38 +73,42 @@ fn kept(rooms: &[RoomEnds], room: i64) -> Option<&RoomEnds>
 fn room_ends(
     sources: &Sources<'_>,
     near: &NearList,
-    room: i64,
+    room: &TextRoom,
     calls: &mut Calls,
 ) -> Result<RoomEnds, AllocError>
-    requires { nat_abs room < 2 ^ 40 }
-    ensures room { IfOk result (λ it. it.room ≡ room) }
+    requires { IsRoom room.now }
+    ensures room { IfOk result (λ it. it.room ≡ room.now) }
     ensures right { IfOk result (λ it. (from : APlace) →
-        AreNearFrom (doc_of sources.now) from (tallest sources.now.style.now) near.now →
-        room ≤ℤ tallest sources.now.style.now → AreCalls (doc_of sources.now) calls.old.items.items →
+        AreNearOnPages (doc_of sources.now) from near.now →
+        IsPageRoom sources.now.style.now room.now → AreCalls (doc_of sources.now) calls.old.items.items →
         AreRoomEnds (doc_of sources.now) from near.now.candidates it) }
     ensures calls { OnOk result (AreCalls (doc_of sources.now) calls.old.items.items →
         AreCalls (doc_of sources.now) calls.new.items.items) }
 {
     let ends = near.room_ends(sources.alloc, sources.galley, sources.style, room)?;
     let groups = group_ends(sources, calls, ends.as_slice())?;
-    Ok(RoomEnds { room, ends, groups })
+    Ok(RoomEnds {
+        room: *room,
+        ends,
+        groups,
+    })
 }
 
 // Works out the ends in a room, where they are not kept yet.
 fn add_room(
     sources: &Sources<'_>,
     near: &NearList,
-    room: i64,
+    room: &TextRoom,
     rooms: &mut Vec<RoomEnds>,
     calls: &mut Calls,
 ) -> Result<(), AllocError>
-    requires { nat_abs room < 2 ^ 40 }
-    ensures has { OnOk result (has_room rooms.new.items room ≡ true) }
-    ensures keeps { OnOk result ((other : ℤ) → has_room rooms.old.items other ≡ true →
+    requires { IsRoom room.now }
+    ensures has { OnOk result (has_room rooms.new.items room.now ≡ true) }
+    ensures keeps { OnOk result ((other : ATextRoom) → has_room rooms.old.items other ≡ true →
         has_room rooms.new.items other ≡ true) }
     ensures right { OnOk result ((from : APlace) →
-        AreNearFrom (doc_of sources.now) from (tallest sources.now.style.now) near.now →
-        room ≤ℤ tallest sources.now.style.now → AreCalls (doc_of sources.now) calls.old.items.items →
+        AreNearOnPages (doc_of sources.now) from near.now →
+        IsPageRoom sources.now.style.now room.now → AreCalls (doc_of sources.now) calls.old.items.items →
         AllByRecursion (AreRoomEnds (doc_of sources.now) from near.now.candidates) rooms.old.items →
         AllByRecursion (AreRoomEnds (doc_of sources.now) from near.now.candidates) rooms.new.items) }
     ensures calls { OnOk result (AreCalls (doc_of sources.now) calls.old.items.items →
@@ -117,11 +130,11 @@ fn add_rooms(
     rooms: &mut Vec<RoomEnds>,
     calls: &mut Calls,
 ) -> Result<(), AllocError>
-    requires small { AllByRecursion (λ (it : ALaid). nat_abs it.room < 2 ^ 40) laid.now }
+    requires small { AllByRecursion (λ (it : ALaid). IsRoom it.room) laid.now }
     ensures has { OnOk result ((it : ALaid) → Contains laid.now it → has_room rooms.new.items it.room ≡ true) }
     ensures right { OnOk result ((from : APlace) →
-        AreNearFrom (doc_of sources.now) from (tallest sources.now.style.now) near.now →
-        AllByRecursion (λ (it : ALaid). it.room ≤ℤ tallest sources.now.style.now) laid.now →
+        AreNearOnPages (doc_of sources.now) from near.now →
+        AllByRecursion (λ (it : ALaid). IsPageRoom sources.now.style.now it.room) laid.now →
         AreCalls (doc_of sources.now) calls.old.items.items →
         AllByRecursion (AreRoomEnds (doc_of sources.now) from near.now.candidates) rooms.old.items →
         AllByRecursion (AreRoomEnds (doc_of sources.now) from near.now.candidates) rooms.new.items) }
@@ -129,7 +142,7 @@ fn add_rooms(
         AreCalls (doc_of sources.now) calls.new.items.items) }
 {
     for it in laid {
-        add_room(sources, near, it.room, rooms, calls)?;
+        add_room(sources, near, &it.room, rooms, calls)?;
     }
     Ok(())
 }
@@ -150,13 +163,13 @@ impl PlaceEnds {
 
     /// Works out the ends in the rooms of layouts, where they are not kept yet.
     ///
-    /// Condition: each room is below 2^40 in size. The one refusal is want of memory.
+    /// Condition: the numbers of each room are below 2^40 in size. The one refusal is want of memory.
     pub fn ask_all(&mut self, sources: &Sources<'_>, laid: &[Laid]) -> Result<(), AllocError>
-        requires small { AllByRecursion (λ (it : ALaid). nat_abs it.room < 2 ^ 40) laid.now }
+        requires small { AllByRecursion (λ (it : ALaid). IsRoom it.room) laid.now }
         ensures walk { OnOk result (self.new.walk ≡ self.old.walk) }
         ensures has { OnOk result ((it : ALaid) → Contains laid.now it → has_room self.new.rooms.items it.room ≡ true) }
         ensures right { OnOk result ((from : APlace) →
-            AllByRecursion (λ (it : ALaid). it.room ≤ℤ tallest sources.now.style.now) laid.now →
+            AllByRecursion (λ (it : ALaid). IsPageRoom sources.now.style.now it.room) laid.now →
             ArePlaceEnds (doc_of sources.now) from self.old → ArePlaceEnds (doc_of sources.now) from self.new) }
     {
         add_rooms(
@@ -168,9 +181,9 @@ impl PlaceEnds {
         )
     }
 
-    /// The ends in a room of so many scaled points, and none where they are not kept.
-    pub fn ends_in(&self, room: i64) -> &[RoomEnd]
-        ensures { result.now ≡ ends_in self.now.rooms.items room }
+    /// The ends in a room, and none where they are not kept.
+    pub fn ends_in(&self, room: &TextRoom) -> &[RoomEnd]
+        ensures { result.now ≡ ends_in self.now.rooms.items room.now }
     {
         match kept(self.rooms.as_slice(), room) {
             Some(it) => it.ends.as_slice(),
@@ -178,9 +191,9 @@ impl PlaceEnds {
         }
     }
 
-    /// The groups of the ends in a room of so many scaled points, and none where they are not kept.
-    pub fn groups_in(&self, room: i64) -> &[Group]
-        ensures { result.now ≡ groups_in self.now.rooms.items room }
+    /// The groups of the ends in a room, and none where they are not kept.
+    pub fn groups_in(&self, room: &TextRoom) -> &[Group]
+        ensures { result.now ≡ groups_in self.now.rooms.items room.now }
     {
         match kept(self.rooms.as_slice(), room) {
             Some(it) => it.groups.as_slice(),

@@ -17,6 +17,7 @@ use Rattle.pg_plan.specs.declared.states.State.{State}
 use Rattle.pg_plan.specs.declared.states.Side.TheVariants.{S}
 use Rattle.pg_style.specs.Values.{StyleValue}
 use Rattle.pg_style.specs.Values.{AreaRuleValue}
+use Rattle.pg_style.specs.Plain.{rigid}
 use Rattle.pg_style.specs.declared.style.First.{First}
 use Rattle.pg_style.specs.declared.style.First.TheVariants.{Single}
 use Rattle.pg_style.specs.declared.style.Kind.TheVariants.{Note, Float}
@@ -59,7 +60,7 @@ barrier = Carry barrier_body
 -- ---- styles
 
 abbrev pub area : ℕ → ℕ → ℕ → AreaRuleValue
-area count sep gap = record { count = count; sep = points sep; gap = points gap }
+area count sep gap = record { count = count; sep = rigid (points sep); gap = rigid (points gap) }
 
 -- one column of so many points, no runs, no classes, any badness
 abbrev pub plain : ℕ → StyleValue
@@ -81,6 +82,7 @@ plain height = record {
   float_column = record { count = 0; demerits = 1000 };
   classes = [];
   fitness = 0;
+  ragged = None;
 }
 
 -- ---- galleys and paginations
@@ -129,7 +131,7 @@ abbrev pub one_note : GalleyValue
 one_note = galley (line ∷ soft_gap 1 ∷ line ∷ soft_gap 1 ∷ line ∷ soft_gap 1 ∷ line ∷ soft_gap 1 ∷ line ∷ insert 200 9 ∷ [])
 
 abbrev pub note_style : ℕ → StyleValue
-note_style limit = record (plain 58) { classes = record { number = 200; kind = Note (points 4) (points limit) } ∷ [] }
+note_style limit = record (plain 58) { classes = record { number = 200; kind = Note (rigid (points 4)) (points limit) } ∷ [] }
 
 -- two lines and two floats, which do not fit beside the text
 abbrev pub two_floats : GalleyValue

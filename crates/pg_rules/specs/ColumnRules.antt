@@ -1,15 +1,16 @@
 -- The rules on one column in its context.
-use Rattle.std.specs.Prelude.{ℕ, Bool, ◌==◌, ◌&&◌, ◌||◌, not, nat_lt, nat_le, if◌then◌else◌, List, length, take, ℤ, ◌+ℤ◌, ◌-ℤ◌, int_le, int_lt, is_some, unsigned_abs}
+use Rattle.std.specs.Prelude.{ℕ, Bool, ◌==◌, ◌&&◌, ◌||◌, not, nat_lt, nat_le, if◌then◌else◌, List, length, take, ℤ, ◌+ℤ◌, ◌-ℤ◌, int_le, int_lt, is_some, unsigned_abs, unwrap_or}
 use Rattle.std.specs.List.{list_all, list_any}
 use Rattle.pg_list.specs.declared.variants.Variant.{Variant}
 use Rattle.pg_list.specs.declared.item.Item.{Item}
 use Rattle.pg_list.specs.Shapes.{is_box}
-use Rattle.pg_list.specs.Badness.{is_over, page_badness}
+use Rattle.pg_list.specs.Badness.{is_over, fill_badness, has_infinite}
 use Rattle.pg_list.specs.Break.{break_penalty, is_forced, is_spent, passes_between}
 use Rattle.pg_list.specs.Flat.{fronts, picked_variants, blocks_at}
-use Rattle.pg_rules.specs.Floats.{float_count, float_numbers, floats, has_all}
-use Rattle.pg_rules.specs.Room.{ColumnContext, is_text, flat_items_of, items_of, at_size, before_bottom, is_top_allowed, is_bottom_allowed, top_height, full_height, wide_height, room, notes, are_notes_within_limits}
-use Rattle.pg_list.specs.Totals.{trimmed, total, shrink}
+use Rattle.pg_rules.specs.Floats.{float_count, float_numbers, floats, gap_stretch, gap_shrink, has_all}
+use Rattle.pg_rules.specs.Room.{ColumnContext, is_text, flat_items_of, items_of, at_size, before_bottom, is_top_allowed, is_bottom_allowed, top_height, full_height, wide_height, room, tallest_room, give, notes, smallest_notes, are_notes_within_limits}
+use Rattle.pg_list.specs.declared.item.Order.TheVariants.{Finite}
+use Rattle.pg_list.specs.Totals.{trimmed, total, stretch, shrink}
 
 -- ---- the first n items of the column
 
@@ -25,13 +26,27 @@ text_total it n = total it.document.style.topskip it.document.style.maxdepth (se
 abbrev pub text_goal : ColumnContext → ℕ → ℤ
 text_goal it n = room it -ℤ notes it.document.style (segment it n)
 
--- that text is higher than its goal by more than it can shrink
+-- what that text may fill where all gaps around it are shrunk
+abbrev pub tallest_goal : ColumnContext → ℕ → ℤ
+tallest_goal it n = tallest_room it -ℤ smallest_notes it.document.style (segment it n)
+
+-- that text is higher than that by more than it can shrink
 abbrev pub text_is_over : ColumnContext → ℕ → Bool
-text_is_over it n = is_over (text_total it n) (shrink (segment it n)) (text_goal it n)
+text_is_over it n = is_over (text_total it n) (shrink (segment it n)) (tallest_goal it n)
+
+-- what fills its goal where it is short: the foot alone where the style is ragged
+abbrev pub text_stretch : ColumnContext → ℕ → ℤ
+text_stretch it n = unwrap_or it.document.style.ragged (stretch Finite (segment it n) +ℤ give gap_stretch it (segment it n))
+
+-- what fits it into its goal where it is long
+abbrev pub text_shrink : ColumnContext → ℕ → ℤ
+text_shrink it n = shrink (segment it n) +ℤ give gap_shrink it (segment it n)
 
 -- how badly that text fills its goal
 abbrev pub text_badness : ColumnContext → ℕ → ℕ
-text_badness it n = page_badness (is_spent (items_of it) n) (text_goal it n) (text_total it n) (segment it n)
+text_badness it n =
+    fill_badness (is_spent (items_of it) n) (text_goal it n) (text_total it n) (has_infinite (segment it n))
+    (text_stretch it n) (text_shrink it n)
 
 -- very loose 0, loose 1, decent 2, tight 3
 abbrev pub fitness_by : ℤ → ℤ → ℕ → ℕ
@@ -84,8 +99,8 @@ abbrev pub has_room : ColumnContext → Bool
 has_room it =
     if is_text it then int_le it.document.style.min_text (room it)
     else int_le ((wide_height it +ℤ top_height it)
-    -ℤ (if float_count it.document.style it.column.top == 0 then it.document.style.wide.gap
-    else it.document.style.top.gap)) (full_height it)
+    -ℤ (if float_count it.document.style it.column.top == 0 then it.document.style.wide.gap.size
+    else it.document.style.top.gap.size)) (full_height it)
 
 -- rule 7, counts of areas: a count for each class at the top and at the bottom, of floats that may stand there,
 -- and not too many

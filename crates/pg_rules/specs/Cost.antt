@@ -1,5 +1,6 @@
 -- The cost of a pagination.
-use Rattle.std.specs.Prelude.{ℕ, ◌+◌, ◌==◌, ◌&&◌, not, Bool, nat_le, if◌then◌else◌, List, [], ◌∷◌, Option, slice_get, slice_index, ℤ, pos, negsuc, ◌+ℤ◌, ◌-ℤ◌, int_lt}
+use Rattle.std.specs.Prelude.{ℕ, ◌+◌, ◌==◌, ◌&&◌, not, Bool, true, false, nat_le, if◌then◌else◌, List, [], ◌∷◌, Option, slice_get, slice_index, ℤ, pos, negsuc, ◌+ℤ◌, ◌-ℤ◌, int_lt, unwrap_or}
+use Rattle.std.specs.Int.{int_max}
 use Rattle.std.specs.Option.{option_map_or}
 use Rattle.pg_list.specs.declared.variants.Variant.{Variant}
 use Rattle.pg_list.specs.GalleyValue.{GalleyValue}
@@ -21,10 +22,21 @@ abbrev pub penalty_demerits : ℤ → ℤ
 penalty_demerits (pos p) = square (pos p)
 penalty_demerits (negsuc p) = if int_lt (negsuc 9999) (negsuc p) then pos 0 -ℤ square (negsuc p) else pos 0
 
--- what the first n items as a text cost: the square of line and badness, and what the penalty at their end adds
+-- a penalty below 0 that does not force
+abbrev pub is_bonus : ℤ → Bool
+is_bonus (pos p) = false
+is_bonus (negsuc p) = int_lt (negsuc 9999) (negsuc p)
+
+-- what badness and penalty cost a text: the square of line and badness, and what the penalty adds; in version 3 a bonus
+-- is taken off badness, as far as that goes
+abbrev pub break_demerits : StyleValue → ℕ → ℤ → ℤ
+break_demerits style badness penalty =
+    if (style.version == 3) && is_bonus penalty then square (pos style.line +ℤ int_max (pos 0) (pos badness +ℤ penalty))
+    else square (pos (style.line + badness)) +ℤ penalty_demerits penalty
+
+-- what the first n items as a text cost
 abbrev pub text_demerits : ColumnContext → ℕ → ℤ
-text_demerits it n = square (pos (it.document.style.line + text_badness it n))
-    +ℤ option_map_or penalty_demerits (break_penalty (items_of it) n) (pos 0)
+text_demerits it n = break_demerits it.document.style (text_badness it n) (unwrap_or (break_penalty (items_of it) n) (pos 0))
 
 -- what a column costs by itself, with text or without
 abbrev pub column_demerits : ColumnContext → ℤ

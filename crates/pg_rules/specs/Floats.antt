@@ -7,6 +7,7 @@ use Rattle.pg_list.specs.declared.item.Item.{Item}
 use Rattle.pg_list.specs.declared.item.Item.TheVariants.{Insert}
 use Rattle.pg_style.specs.Values.{StyleValue}
 use Rattle.pg_style.specs.declared.style.Class.{Class}
+use Rattle.pg_style.specs.declared.style.Gap.{Gap}
 use Rattle.pg_style.specs.declared.style.Kind.{Kind}
 use Rattle.pg_style.specs.declared.style.Kind.TheVariants.{Note, Float}
 use Rattle.pg_style.specs.declared.style.Area.{Area}
@@ -104,7 +105,21 @@ has_all floats before counts = has_all_from 0 floats before counts
 -- floats
 abbrev pub area_height : AreaRuleValue → List ℤ → ℤ
 area_height rule [] = pos 0
-area_height rule (size ∷ sizes) = (whole_sum_by (λ (z : ℤ). z) (size ∷ sizes) +ℤ (rule.sep *ℤ pos (length sizes))) +ℤ rule.gap
+area_height rule (size ∷ sizes) =
+    (whole_sum_by (λ (z : ℤ). z) (size ∷ sizes) +ℤ (rule.sep.size *ℤ pos (length sizes))) +ℤ rule.gap.size
+
+-- by how much a gap may be stretched
+abbrev pub gap_stretch : Gap → ℤ
+gap_stretch gap = gap.stretch
+
+-- by how much a gap may be shrunk
+abbrev pub gap_shrink : Gap → ℤ
+gap_shrink gap = gap.shrink
+
+-- what the gaps of an area with so many floats give: those between two floats, and one; 0 without floats
+abbrev pub area_give : (Gap → ℤ) → AreaRuleValue → ℕ → ℤ
+area_give part rule zero = pos 0
+area_give part rule (suc n) = (part rule.sep *ℤ pos n) +ℤ part rule.gap
 
 -- all counts together
 abbrev pub total_count : List ℕ → ℕ

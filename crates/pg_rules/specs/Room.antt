@@ -9,11 +9,12 @@ use Rattle.pg_list.specs.Flat.{FlatItem, flat_items_at, steps_to, is_same_place}
 use Rattle.pg_style.specs.Values.{StyleValue}
 use Rattle.pg_style.specs.declared.style.Run.{Run}
 use Rattle.pg_style.specs.declared.style.Class.{Class}
+use Rattle.pg_style.specs.declared.style.Gap.{Gap}
 use Rattle.pg_style.specs.declared.style.Kind.{Kind}
 use Rattle.pg_style.specs.declared.style.Kind.TheVariants.{Note, Float}
 use Rattle.pg_style.specs.Values.{AreaRuleValue}
 use Rattle.pg_list.specs.Whole.{whole_sum_by, whole_sum}
-use Rattle.pg_rules.specs.Floats.{dealt, has_all, floats, area_height, is_area_allowed, takes_top, takes_bottom, takes_in_column, sizes_of, plus_counts}
+use Rattle.pg_rules.specs.Floats.{dealt, has_all, floats, area_give, area_height, gap_shrink, is_area_allowed, takes_top, takes_bottom, takes_in_column, sizes_of, plus_counts}
 
 -- the galley's blocks and the style
 pub record Document : Type 0 where
@@ -73,6 +74,11 @@ abbrev pub checked_height : List (List ℤ) → Bool → AreaRuleValue → List 
 checked_height floats allowed rule before counts =
     if allowed && has_all floats before counts then area_height rule (dealt floats before counts) else pos 0
 
+-- what the gaps of an area give; nothing with counts that are not allowed, or with a float that is not there
+abbrev pub checked_give : (Gap → ℤ) → List (List ℤ) → Bool → AreaRuleValue → List ℕ → List ℕ → ℤ
+checked_give part floats allowed rule before counts =
+    if allowed && has_all floats before counts then area_give part rule (length (dealt floats before counts)) else pos 0
+
 -- the height of the top area
 abbrev pub top_height : ColumnContext → ℤ
 top_height it =
@@ -84,6 +90,22 @@ abbrev pub bottom_height : ColumnContext → ℤ
 bottom_height it =
     checked_height (floats it.document.blocks it.document.style) (is_bottom_allowed it) it.document.style.bottom
     (before_bottom it) it.column.bottom
+
+-- what the gaps of the top area give
+abbrev pub top_give : (Gap → ℤ) → ColumnContext → ℤ
+top_give part it =
+    checked_give part (floats it.document.blocks it.document.style) (is_top_allowed it) it.document.style.top
+    it.before it.column.top
+
+-- what the gaps of the bottom area give
+abbrev pub bottom_give : (Gap → ℤ) → ColumnContext → ℤ
+bottom_give part it =
+    checked_give part (floats it.document.blocks it.document.style) (is_bottom_allowed it) it.document.style.bottom
+    (before_bottom it) it.column.bottom
+
+-- what the gaps of the areas give to the text between them; those of the wide area are rigid
+abbrev pub areas_give : (Gap → ℤ) → ColumnContext → ℤ
+areas_give part it = top_give part it +ℤ bottom_give part it
 
 -- the height of a column on a page of this run
 abbrev pub full_height : ColumnContext → ℤ
@@ -97,15 +119,37 @@ wide_height it = unwrap_or it.wide (pos 0)
 abbrev pub room : ColumnContext → ℤ
 room it = ((full_height it -ℤ wide_height it) -ℤ top_height it) -ℤ bottom_height it
 
+-- the same where the gaps of the areas are shrunk
+abbrev pub tallest_room : ColumnContext → ℤ
+tallest_room it = room it +ℤ areas_give gap_shrink it
+
 -- for a note class with a note in the list, its skip and the sizes
 abbrev pub class_notes : List Item → ℕ → Kind → ℤ
 class_notes items number (Note skip limit) =
-    if length (sizes_of number items) == 0 then pos 0 else (skip +ℤ whole_sum (sizes_of number items))
+    if length (sizes_of number items) == 0 then pos 0 else (skip.size +ℤ whole_sum (sizes_of number items))
 class_notes items number (Float area distance) = pos 0
 
 -- the height of all notes in a list of items
 abbrev pub notes : StyleValue → List Item → ℤ
 notes style items = whole_sum_by (λ (class : Class). class_notes items class.number class.kind) style.classes
+
+-- for a note class with a note in the list, what its skip gives
+abbrev pub class_give : (Gap → ℤ) → List Item → ℕ → Kind → ℤ
+class_give part items number (Note skip limit) = if length (sizes_of number items) == 0 then pos 0 else part skip
+class_give part items number (Float area distance) = pos 0
+
+-- what the skips of all notes in a list of items give
+abbrev pub skips_give : (Gap → ℤ) → StyleValue → List Item → ℤ
+skips_give part style items =
+    whole_sum_by (λ (class : Class). class_give part items class.number class.kind) style.classes
+
+-- the height of the notes where their skips are shrunk
+abbrev pub smallest_notes : StyleValue → List Item → ℤ
+smallest_notes style items = notes style items -ℤ skips_give gap_shrink style items
+
+-- what the gaps around a text with these items give
+abbrev pub give : (Gap → ℤ) → ColumnContext → List Item → ℤ
+give part it items = areas_give part it +ℤ skips_give part it.document.style items
 
 -- the notes of a class in a list of items, without the skip, are within the class's limit
 abbrev pub is_within_limit : List Item → ℕ → Kind → Bool

@@ -30,7 +30,7 @@ all_step : (P : Class → Type 0) (b : Bool) (first class : Class) (classes : Li
 all_step P true first class classes all more one = (all.0, more)
 all_step P false first class classes all more one = (one, all)
 
-all_inserted : (P : Class → Type 0) (class : Class) (classes : List Class) → AllByRecursion P classes → P class → AllByRecursion P (inserted class classes)
+pub all_inserted : (P : Class → Type 0) (class : Class) (classes : List Class) → AllByRecursion P classes → P class → AllByRecursion P (inserted class classes)
 all_inserted P class [] all one = (one, tt)
 all_inserted P class (first ∷ classes) all one = all_step P (nat_lt first.number class.number) first class classes all (all_inserted P class classes all.1 one) one
 

@@ -1,14 +1,15 @@
 -- What contracts see of a style and its rules.
-use Rattle.std.specs.Prelude.{ℕ, ℤ, List}
+use Rattle.std.specs.Prelude.{ℕ, ℤ, List, Option}
 use Rattle.pg_style.specs.declared.style.First.{First}
 use Rattle.pg_style.specs.declared.style.Run.{Run}
+use Rattle.pg_style.specs.declared.style.Gap.{Gap}
 use Rattle.pg_style.specs.declared.style.Class.{Class}
 
 -- what callers see of the rule of an area
 pub record AreaRuleValue : Type 0 where
   pub count : ℕ
-  pub sep : ℤ
-  pub gap : ℤ
+  pub sep : Gap
+  pub gap : Gap
 
 -- what callers see of the rule of columns without text
 pub record ColumnRuleValue : Type 0 where
@@ -34,3 +35,4 @@ pub record StyleValue : Type 0 where
   pub float_column : ColumnRuleValue
   pub classes : List Class
   pub fitness : ℕ
+  pub ragged : Option ℤ

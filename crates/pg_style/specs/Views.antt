@@ -22,4 +22,5 @@ style_of a = record {
   float_column = a.float_column;
   classes = a.classes;
   fitness = a.fitness;
+  ragged = a.ragged;
 }

@@ -5,14 +5,21 @@ ghost use Rattle.std.specs.Option.{option_copied};
 ghost use Rattle.pg_style.specs.Classes.{class_in, inserted, is_float_class, float_numbers_of};
 ghost use Rattle.pg_style.specs.Ranges.{IsClass, AreClasses};
 
-use crate::style::{Class, Kind};
+use crate::style::{Class, Gap, Kind};
 use std::alloc::Global;
 use std::marker::Model;
 
 // Where no class stands yet.
 const NO_CLASS: Class = Class {
     number: 0,
-    kind: Kind::Note { skip: 0, limit: 0 },
+    kind: Kind::Note {
+        skip: Gap {
+            size: 0,
+            stretch: 0,
+            shrink: 0,
+        },
+        limit: 0,
+    },
 };
 
 /// The classes of inserts, at most 8, in increasing number.

@@ -1,19 +1,19 @@
 //! The style of a page height alone.
 ghost use Rattle.std.specs.Prelude.{◌≡◌, pos, ◌≤ℤ◌, ◌<ℤ◌, ◌^◌};
-ghost use Rattle.pg_style.specs.Plain.{plain};
+ghost use Rattle.pg_style.specs.Plain.{no_area, plain};
 
 use crate::classes::Classes;
 use crate::runs::Runs;
-use crate::style::{AreaRule, ColumnRule, First, Run, Style};
+use crate::style::{AreaRule, ColumnRule, First, Gap, Run, Style};
 use std::alloc::Global;
 
 fn no_area() -> AreaRule
-    ensures { result ≡ record { count = 0; sep = pos 0; gap = pos 0 } }
+    ensures { result ≡ no_area }
 {
     AreaRule {
         count: 0,
-        sep: 0,
-        gap: 0,
+        sep: Gap::rigid(0),
+        gap: Gap::rigid(0),
     }
 }
 
@@ -51,5 +51,6 @@ pub fn plain_style(alloc: Global, height: i32) -> Style
         },
         classes: Classes::new(alloc),
         fitness: 0,
+        ragged: None,
     }
 }

@@ -14,16 +14,16 @@ none_there None e = refl
 none_there (Some class) e = absurd (cc)
 
 -- one more class is read
-pub class_read : (position : ℕ) (tables : List Members) (said : Members) (earlier classes : List Class)
+pub class_read : (version position : ℕ) (tables : List Members) (said : Members) (earlier classes : List Class)
     (all : Result (List Class) StyleFault)
-    → all ≡ classes_from position earlier (drop position tables) → slice_get tables position ≡ Some said
-    → with_next position said earlier ≡ Ok classes
-    → all ≡ classes_from (position + 1) classes (drop (position + 1) tables)
-class_read position tables said earlier classes all same there is = same ∙ rw (drop_at tables position said there, is)
+    → all ≡ classes_from version position earlier (drop position tables) → slice_get tables position ≡ Some said
+    → with_next version position said earlier ≡ Ok classes
+    → all ≡ classes_from version (position + 1) classes (drop (position + 1) tables)
+class_read version position tables said earlier classes all same there is = same ∙ rw (drop_at tables position said there, is)
 
 -- a class has a fault
-pub class_refused : (position : ℕ) (tables : List Members) (said : Members) (earlier : List Class)
+pub class_refused : (version position : ℕ) (tables : List Members) (said : Members) (earlier : List Class)
     (fault : StyleFault) (all : Result (List Class) StyleFault)
-    → all ≡ classes_from position earlier (drop position tables) → slice_get tables position ≡ Some said
-    → with_next position said earlier ≡ Err fault → all ≡ Err fault
-class_refused position tables said earlier fault all same there is = same ∙ rw (drop_at tables position said there, is)
+    → all ≡ classes_from version position earlier (drop position tables) → slice_get tables position ≡ Some said
+    → with_next version position said earlier ≡ Err fault → all ≡ Err fault
+class_refused version position tables said earlier fault all same there is = same ∙ rw (drop_at tables position said there, is)

@@ -23,6 +23,11 @@ at_key table_name key (Err kind) = Err (fault_at kind table_name key)
 unfoldable pub keyed : {A : Type 0} → TableName → List ℕ → (Data → Result A StyleKind) → Members → Result A StyleFault
 keyed table_name key read members = due_at table_name key members >>= (λ value. at_key table_name key (read value))
 
+-- what the value of a key says that may be missing
+unfoldable pub keyed_if_any : {A : Type 0} → TableName → List ℕ → (Data → Result A StyleKind) → Members → Result (Option A) StyleFault
+keyed_if_any table_name key read members = if is_some (get_member key members)
+    then (keyed table_name key read members >>= (λ x. Ok (Some x))) else Ok None
+
 -- a key that the table does not know here
 unfoldable pub absent : TableName → List ℕ → Members → Result (Unit {0}) StyleFault
 absent table_name key members = if is_some (get_member key members) then Err (fault_at UnknownKey table_name key) else Ok tt

@@ -15,8 +15,8 @@ area_names = codes "count" ∷ codes "sep" ∷ codes "gap" ∷ []
 unfoldable pub names_of : TableName → List (List ℕ)
 names_of Root =
     codes "version" ∷ codes "columns" ∷ codes "first" ∷ codes "height" ∷ codes "topskip" ∷ codes "maxdepth"
-    ∷ codes "min_text" ∷ codes "tolerance" ∷ codes "line" ∷ codes "max_looseness" ∷ codes "fitness" ∷ codes "runs"
-    ∷ codes "top" ∷ codes "bottom" ∷ codes "wide" ∷ codes "float_column" ∷ codes "classes" ∷ []
+    ∷ codes "min_text" ∷ codes "tolerance" ∷ codes "line" ∷ codes "max_looseness" ∷ codes "fitness" ∷ codes "ragged"
+    ∷ codes "runs" ∷ codes "top" ∷ codes "bottom" ∷ codes "wide" ∷ codes "float_column" ∷ codes "classes" ∷ []
 names_of Top = area_names
 names_of Bottom = area_names
 names_of Wide = area_names

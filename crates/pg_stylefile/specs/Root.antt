@@ -1,9 +1,9 @@
 -- What the root table of a style file says, key by key in the order in which faults are told.
-use Rattle.std.specs.Prelude.{◌≡◌, ◌==◌, ℕ, ◌^◌, ◌-◌, ◌≤◌, nat_le, pos, ◌≤ℤ◌, if◌then◌else◌, List, length, codes}
-use Rattle.std.specs.Prelude.{Result, Ok, Err}
+use Rattle.std.specs.Prelude.{◌≡◌, ◌==◌, ℕ, ◌^◌, ◌-◌, ◌≤◌, nat_le, ℤ, pos, ◌≤ℤ◌, if◌then◌else◌, List, length, codes}
+use Rattle.std.specs.Prelude.{Option, None, Result, Ok, Err}
 use Rattle.toml.specs.Data.{Members}
 use Rattle.toml.specs.View.{table_view}
-use Rattle.pg_style.specs.Ranges.{IsLength, AreDemerits}
+use Rattle.pg_style.specs.Ranges.{IsLength, IsFoot, AreDemerits}
 use Rattle.pg_scaled.specs.Ranges.{IsScaled}
 use Rattle.pg_stylefile.specs.declared.fault.TableName.{TableName}
 use Rattle.pg_stylefile.specs.declared.fault.StyleKind.TheVariants.{NoRun, OutOfRange}
@@ -14,23 +14,28 @@ use Rattle.pg_stylefile.specs.declared.root.Limits.{Limits}
 use Rattle.pg_stylefile.specs.declared.root.Subtables.{Subtables}
 use Rattle.pg_stylefile.specs.Faults.{fault_at, ◌>>=◌}
 use Rattle.pg_stylefile.specs.Values.{whole_of, dimension_of, length_of, first_of, table_of, tables_of, tables_in}
-use Rattle.pg_stylefile.specs.Keys.{keyed, absent, tables_if_any}
+use Rattle.pg_stylefile.specs.Keys.{keyed, keyed_if_any, absent, tables_if_any}
 
 -- version 1 knows no fitness
 unfoldable pub no_fitness_yet : TableName → ℕ → Members → Result (Unit {0}) StyleFault
 no_fitness_yet table_name version members = if version == 1 then absent table_name (codes "fitness") members else Ok tt
 
+-- versions 1 and 2 know no ragged texts
+unfoldable pub no_ragged_yet : TableName → ℕ → Members → Result (Unit {0}) StyleFault
+no_ragged_yet table_name version members = if version == 3 then Ok tt else absent table_name (codes "ragged") members
+
 unfoldable pub head_of : TableName → Members → Result Head StyleFault
 head_of table_name members = do
-  version ← keyed table_name (codes "version") (whole_of 1 2) members
+  version ← keyed table_name (codes "version") (whole_of 1 3) members
   _ ← no_fitness_yet table_name version members
+  _ ← no_ragged_yet table_name version members
   columns ← keyed table_name (codes "columns") (whole_of 1 2) members
   first ← keyed table_name (codes "first") first_of members
   Ok (record { version = version; columns = columns; first = first })
 
 pub record IsHead (head : Head) : Type 0 where
   pub version_from : 1 ≤ head.version
-  pub version_to : head.version ≤ 2
+  pub version_to : head.version ≤ 3
   pub columns_from : 1 ≤ head.columns
   pub columns_to : head.columns ≤ 2
 
@@ -53,13 +58,18 @@ unfoldable pub fitness_of : TableName → ℕ → Members → Result ℕ StyleFa
 fitness_of table_name version members = if version == 1 then Ok 0 else keyed table_name (codes "fitness")
     (whole_of 0 100000000) members
 
+unfoldable pub ragged_of : TableName → ℕ → Members → Result (Option ℤ) StyleFault
+ragged_of table_name version members = if version == 3 then keyed_if_any table_name (codes "ragged")
+    (dimension_of (pos 1) (pos (2 ^ 30 - 1))) members else Ok None
+
 unfoldable pub limits_of : TableName → ℕ → Members → Result Limits StyleFault
 limits_of table_name version members = do
   tolerance ← keyed table_name (codes "tolerance") (whole_of 0 10000) members
   line ← keyed table_name (codes "line") (whole_of 0 10000) members
   max_looseness ← keyed table_name (codes "max_looseness") (whole_of 0 100) members
   fitness ← fitness_of table_name version members
-  Ok (record { tolerance = tolerance; line = line; max_looseness = max_looseness; fitness = fitness })
+  ragged ← ragged_of table_name version members
+  Ok (record { tolerance = tolerance; line = line; max_looseness = max_looseness; fitness = fitness; ragged = ragged })
 
 pub record AreLimits (version : ℕ) (limits : Limits) : Type 0 where
   pub tolerance_in : limits.tolerance ≤ 10000
@@ -67,6 +77,8 @@ pub record AreLimits (version : ℕ) (limits : Limits) : Type 0 where
   pub looseness_in : limits.max_looseness ≤ 100
   pub fitness_in : AreDemerits limits.fitness
   pub no_fitness : version ≡ 1 → limits.fitness ≡ 0
+  pub ragged_in : IsFoot limits.ragged
+  pub no_ragged : version ≤ 2 → limits.ragged ≡ None
 
 abbrev pub few_runs : TableName → List Members → Result (List Members) StyleFault
 few_runs table_name tables =

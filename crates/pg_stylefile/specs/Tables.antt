@@ -1,5 +1,5 @@
 -- What the tables of a style file say, key by key in the order in which faults are told.
-use Rattle.std.specs.Prelude.{ℕ, ◌+◌, ◌^◌, ◌-◌, ℤ, pos, ◌-ℤ◌, is_some, if◌then◌else◌, List, [], ◌∷◌, codes, Result}
+use Rattle.std.specs.Prelude.{ℕ, ◌+◌, ◌^◌, ◌-◌, ◌≤◌, ℤ, pos, ◌-ℤ◌, is_some, if◌then◌else◌, List, [], ◌∷◌, codes, Result}
 use Rattle.std.specs.Prelude.{Ok, Err}
 use Rattle.toml.specs.Data.{Members}
 use Rattle.pg_style.specs.declared.style.Run.{Run}
@@ -7,6 +7,7 @@ use Rattle.pg_style.specs.declared.style.Kind.{Kind}
 use Rattle.pg_style.specs.declared.style.Kind.TheVariants as kind
 use Rattle.pg_style.specs.declared.style.Class.{Class}
 use Rattle.pg_style.specs.Classes.{class_in, inserted}
+use Rattle.pg_style.specs.Ranges.{AreClasses, AreRigidClasses}
 use Rattle.pg_style.specs.Values.{AreaRuleValue, ColumnRuleValue}
 use Rattle.pg_stylefile.specs.declared.fault.TableName.{TableName}
 use Rattle.pg_stylefile.specs.declared.fault.TableName.TheVariants as table_name
@@ -15,16 +16,16 @@ use Rattle.pg_stylefile.specs.declared.fault.StyleKind.TheVariants.{DuplicateCla
 use Rattle.pg_stylefile.specs.declared.values.Sort.{Sort}
 use Rattle.pg_stylefile.specs.declared.values.Sort.TheVariants as sort
 use Rattle.pg_stylefile.specs.Faults.{fault_at, ◌>>=◌}
-use Rattle.pg_stylefile.specs.Values.{whole_of, dimension_of, length_of, area_of, sort_of, distance_of}
+use Rattle.pg_stylefile.specs.Values.{whole_of, dimension_of, length_of, gap_of, area_of, sort_of, distance_of}
 use Rattle.pg_stylefile.specs.Keys.{keyed, absent, named}
 
 -- the rules of an area
-unfoldable pub area_rule_of : TableName → Members → Result AreaRuleValue StyleFault
-area_rule_of table_name members = do
+unfoldable pub area_rule_of : ℕ → TableName → Members → Result AreaRuleValue StyleFault
+area_rule_of version table_name members = do
   _ ← named table_name members
   count ← keyed table_name (codes "count") (whole_of 0 4) members
-  sep ← keyed table_name (codes "sep") length_of members
-  gap ← keyed table_name (codes "gap") length_of members
+  sep ← keyed table_name (codes "sep") (gap_of version) members
+  gap ← keyed table_name (codes "gap") (gap_of version) members
   Ok (record { count = count; sep = sep; gap = gap })
 
 -- the rules of a column without text
@@ -58,11 +59,11 @@ unfoldable pub runs_of : ℤ → List Members → Result (List Run) StyleFault
 runs_of height tables = runs_from height 0 tables
 
 -- a class of notes
-unfoldable pub note_of : TableName → Members → Result Kind StyleFault
-note_of table_name members = do
+unfoldable pub note_of : ℕ → TableName → Members → Result Kind StyleFault
+note_of version table_name members = do
   _ ← absent table_name (codes "area") members
   _ ← absent table_name (codes "distance") members
-  skip ← keyed table_name (codes "skip") length_of members
+  skip ← keyed table_name (codes "skip") (gap_of version) members
   limit ← keyed table_name (codes "limit") length_of members
   Ok (kind.Note skip limit)
 
@@ -75,17 +76,17 @@ float_of table_name members = do
   distance ← keyed table_name (codes "distance") distance_of members
   Ok (kind.Float area distance)
 
-abbrev pub kind_of : Sort → TableName → Members → Result Kind StyleFault
-kind_of sort.Note table_name members = note_of table_name members
-kind_of sort.Float table_name members = float_of table_name members
+abbrev pub kind_of : ℕ → Sort → TableName → Members → Result Kind StyleFault
+kind_of version sort.Note table_name members = note_of version table_name members
+kind_of version sort.Float table_name members = float_of table_name members
 
 -- the class of a table
-unfoldable pub class_of : ℕ → Members → Result Class StyleFault
-class_of position members = do
+unfoldable pub class_of : ℕ → ℕ → Members → Result Class StyleFault
+class_of version position members = do
   _ ← named (table_name.Class position) members
   number ← keyed (table_name.Class position) (codes "number") (whole_of 0 254) members
   sort ← keyed (table_name.Class position) (codes "kind") sort_of members
-  kind ← kind_of sort (table_name.Class position) members
+  kind ← kind_of version sort (table_name.Class position) members
   Ok (record { number = number; kind = kind })
 
 -- the earlier classes and one more, whose number none of them has
@@ -95,15 +96,19 @@ with_class position earlier class =
     then Err (fault_at DuplicateClass (table_name.Class position) (codes "number")) else Ok (inserted class earlier)
 
 -- the earlier classes and that of the next table
-unfoldable pub with_next : ℕ → Members → List Class → Result (List Class) StyleFault
-with_next position members earlier = class_of position members >>= with_class position earlier
+unfoldable pub with_next : ℕ → ℕ → Members → List Class → Result (List Class) StyleFault
+with_next version position members earlier = class_of version position members >>= with_class position earlier
 
 -- the earlier classes and those of these tables, the first of which stands at this position
-abbrev pub classes_from : ℕ → List Class → List Members → Result (List Class) StyleFault
-classes_from position earlier [] = Ok earlier
-classes_from position earlier (members ∷ tables) = with_next position members earlier
-    >>= (λ classes. classes_from (position + 1) classes tables)
+abbrev pub classes_from : ℕ → ℕ → List Class → List Members → Result (List Class) StyleFault
+classes_from version position earlier [] = Ok earlier
+classes_from version position earlier (members ∷ tables) = with_next version position members earlier
+    >>= (λ classes. classes_from version (position + 1) classes tables)
 
 -- the classes of these tables, in increasing number
-unfoldable pub classes_of : List Members → Result (List Class) StyleFault
-classes_of tables = classes_from 0 [] tables
+unfoldable pub classes_of : ℕ → List Members → Result (List Class) StyleFault
+classes_of version tables = classes_from version 0 [] tables
+
+pub record AreClassesOf (version : ℕ) (classes : List Class) : Type 0 where
+  pub classes_in : AreClasses classes
+  pub rigid_in : version ≤ 2 → AreRigidClasses classes

@@ -1,6 +1,6 @@
 -- What one value of a style file says, or the kind of its fault.
 use Rattle.std.specs.Prelude.{Bool, true, is_some, ◌≡◌, ◌==◌, ◌&&◌, ℕ, ◌-◌, ◌^◌, ℤ, pos, negsuc, nat_le, int_le}
-use Rattle.std.specs.Prelude.{if◌then◌else◌, List, [], ◌∷◌, length, codes, Result, Ok, Err}
+use Rattle.std.specs.Prelude.{if◌then◌else◌, List, [], ◌∷◌, length, drop, codes, Option, Some, None, Result, Ok, Err}
 use Rattle.std.specs.Option.{ok_or}
 use Rattle.std.specs.Str.{bytes_eq}
 use Rattle.toml.specs.Data.{Data, Items, no_items, item, Members, as_integer, as_str, as_array, as_table}
@@ -9,7 +9,10 @@ use Rattle.toml.specs.declared.value.Value as value
 use Rattle.pg_scaled.specs.Scaled.{scaled_value}
 use Rattle.pg_scaled.specs.declared.read.Front.{Front}
 use Rattle.pg_scaled.specs.declared.read.Front.TheVariants.{Value, NotNumber, TooLarge}
+use Rattle.pg_scan.specs.Parts.{after, on}
+use Rattle.pg_style.specs.Plain.{rigid}
 use Rattle.pg_style.specs.Ranges.{has_table_range, rises}
+use Rattle.pg_style.specs.declared.style.Gap.{Gap}
 use Rattle.pg_style.specs.declared.style.First.{First}
 use Rattle.pg_style.specs.declared.style.First.TheVariants.{Left, Right, Single}
 use Rattle.pg_style.specs.declared.style.Area.{Area}
@@ -88,6 +91,47 @@ sort_of value = text_of value >>= sort_named
 -- a dimension that is not negative
 abbrev pub length_of : Data → Result ℤ StyleKind
 length_of = dimension_of (pos 0) (pos (2 ^ 30 - 1))
+
+-- the number in front of a text, none where it is too large, and what stands behind it
+abbrev pub part_from : Front → List ℕ → Result (Option ℤ × List ℕ) StyleKind
+part_from (Value value len) text = Ok (Some value, drop len text)
+part_from (TooLarge len) text = Ok (None, drop len text)
+part_from NotNumber text = Err WrongKind
+
+unfoldable pub part_at : List ℕ → Result (Option ℤ × List ℕ) StyleKind
+part_at text = part_from (scaled_value text) text
+
+-- the number behind a word, 0 where the word does not stand in front
+unfoldable pub part_behind : List ℕ → List ℕ → Result (Option ℤ × List ℕ) StyleKind
+part_behind word text = on (after word text) part_at (Ok (Some (pos 0), text))
+
+-- none of the three is below 0, and the shrink is not above the size
+abbrev pub can_give : ℤ → ℤ → ℤ → Bool
+can_give size stretch shrink = int_le (pos 0) size && (int_le (pos 0) stretch && (int_le (pos 0) shrink && int_le shrink size))
+
+abbrev pub gap_of_numbers : ℤ → ℤ → ℤ → Result Gap StyleKind
+gap_of_numbers size stretch shrink = if can_give size stretch shrink
+    then Ok (record { size = size; stretch = stretch; shrink = shrink }) else Err OutOfRange
+
+-- a gap of three numbers that are there, and may give so much
+unfoldable pub gap_from : Option ℤ → Option ℤ → Option ℤ → Result Gap StyleKind
+gap_from (Some size) (Some stretch) (Some shrink) = gap_of_numbers size stretch shrink
+gap_from (Some size) (Some stretch) None = Err OutOfRange
+gap_from (Some size) None shrink = Err OutOfRange
+gap_from None stretch shrink = Err OutOfRange
+
+-- a size, ` plus ` and a stretch or not, ` minus ` and a shrink or not
+unfoldable pub gap_in : List ℕ → Result Gap StyleKind
+gap_in text = do
+  size ← part_at text
+  stretch ← part_behind (codes " plus ") size.1
+  shrink ← part_behind (codes " minus ") stretch.1
+  if bytes_eq shrink.1 [] then gap_from size.0 stretch.0 shrink.0 else Err WrongKind
+
+-- a gap, which before version 3 is a length
+unfoldable pub gap_of : ℕ → Data → Result Gap StyleKind
+gap_of version value = if version == 3 then (text_of value >>= gap_in)
+    else (length_of value >>= (λ size. Ok (rigid size)))
 
 -- the tables of an array that has no other elements
 abbrev pub each_table : Items → Result (List Members) StyleKind

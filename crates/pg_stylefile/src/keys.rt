@@ -1,19 +1,20 @@
 //! The keys of one table.
-ghost use Rattle.std.specs.Prelude.{◌≡◌, ◌≤◌, ◌∷◌, pos, ◌≤ℤ◌, ◌<ℤ◌, ◌^◌, IfOk, is_some};
+ghost use Rattle.std.specs.Prelude.{◌≡◌, ◌≤◌, ◌∷◌, pos, ◌≤ℤ◌, ◌<ℤ◌, ◌^◌, IfOk, IfSome, is_some};
 ghost use Rattle.toml.specs.Data.{get_member};
 ghost use Rattle.toml.specs.View.{view, table_view};
-ghost use Rattle.pg_style.specs.Ranges.{IsLength, IsDistance};
+ghost use Rattle.pg_style.specs.Ranges.{IsLength, IsGap, IsRigid, IsDistance};
 ghost use Rattle.pg_stylefile.specs.Faults.{Tells};
 ghost use Rattle.pg_stylefile.specs.Values.{whole_of, dimension_of, length_of, first_of, area_of, sort_of, table_of};
-ghost use Rattle.pg_stylefile.specs.Values.{tables_of, tables_in, distance_of};
-ghost use Rattle.pg_stylefile.specs.Keys.{due_at, keyed, absent, at_key, named, tables_if_any};
+ghost use Rattle.pg_stylefile.specs.Values.{tables_of, tables_in, distance_of, gap_of};
+ghost use Rattle.pg_stylefile.specs.Keys.{due_at, keyed, keyed_if_any, absent, at_key, named, tables_if_any};
 
 use crate::distance::as_distance;
 use crate::fault::{Fault, StyleKind, TableName};
+use crate::gaps::as_gap;
 use crate::names::first_unnamed;
 use crate::tables::{Tables, as_tables};
 use crate::values::{Sort, as_area, as_dimension, as_first, as_sort, as_table, as_whole};
-use pg_style::{Area, Distance, First};
+use pg_style::{Area, Distance, First, Gap};
 use std::alloc::Global;
 use toml::{Table, Value};
 
@@ -114,6 +115,38 @@ impl<'t> Keys<'t> {
         ensures range { IfOk result IsLength }
     {
         self.dimension(key, 0, MAX_DIMENSION)
+    }
+
+    /// A dimension that may be missing.
+    #[tactic(auto, unfolding(crate::specs::Keys::keyed_if_any))]
+    pub fn dimension_if_any(
+        &self,
+        key: &'t str,
+        low: i32,
+        high: i32,
+    ) -> Result<Option<i32>, Fault<'t>>
+        ensures value { Tells (λ n. n) result (keyed_if_any self.now.table_name key.now (dimension_of low high)
+            (table_view self.now.table.now)) }
+        ensures low { IfOk result (λ found. IfSome found (λ n. low ≤ℤ n)) }
+        ensures high { IfOk result (λ found. IfSome found (λ n. n ≤ℤ high)) }
+    {
+        if !self.has(key) {
+            return Ok(None);
+        }
+        let value = self.dimension(key, low, high)?;
+        Ok(Some(value))
+    }
+
+    /// A gap, which before version 3 is a length.
+    #[tactic(auto, unfolding(crate::specs::Keys::keyed))]
+    pub fn gap(&self, version: u8, key: &'t str) -> Result<Gap, Fault<'t>>
+        ensures value { Tells (λ gap. gap) result (keyed self.now.table_name key.now (gap_of version)
+            (table_view self.now.table.now)) }
+        ensures range { IfOk result IsGap }
+        ensures rigid { IfOk result (λ gap. version ≤ 2 → IsRigid gap) }
+    {
+        let value = self.due(key)?;
+        self.told(key, as_gap(version, value))
     }
 
     #[tactic(auto, unfolding(crate::specs::Keys::keyed))]

@@ -11,6 +11,7 @@ mod classes;
 mod distance;
 mod entries;
 mod fault;
+mod gaps;
 mod keys;
 mod names;
 mod read;

@@ -26,6 +26,7 @@ impl TableName {
                 "line",
                 "max_looseness",
                 "fitness",
+                "ragged",
                 "runs",
                 "top",
                 "bottom",

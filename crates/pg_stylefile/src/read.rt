@@ -4,7 +4,7 @@ ghost use Rattle.toml.specs.View.{table_view};
 ghost use Rattle.pg_style.specs.Ranges.{IsStyle};
 ghost use Rattle.pg_stylefile.specs.Faults.{Tells, Gives, bare_fault};
 ghost use Rattle.pg_stylefile.specs.Root.{IsHead, AreLengths, AreLimits, AreSubtablesFew, subtables_view};
-ghost use Rattle.pg_stylefile.specs.Style.{AreRules, rules_of, root_of, root_view, IsRoot, style_with, style_of};
+ghost use Rattle.pg_stylefile.specs.Style.{AreAreas, areas_of, AreRules, rules_of, root_of, root_view, IsRoot, style_with, style_of};
 ghost use Rattle.pg_stylefile.specs.Style.{table_of_text, style_of_text};
 
 use crate::areas::{read_area, read_column};
@@ -28,13 +28,19 @@ pub struct Root<'t> {
     pub subtables: Subtables<'t>,
 }
 
+/// The rules of the three areas.
+#[derive(Clone, Copy)]
+pub struct Areas {
+    pub top: AreaRule,
+    pub bottom: AreaRule,
+    pub wide: AreaRule,
+}
+
 /// What the tables within the root table say.
 #[derive(Drop)]
 pub struct Rules {
     pub runs: Runs,
-    pub top: AreaRule,
-    pub bottom: AreaRule,
-    pub wide: AreaRule,
+    pub areas: Areas,
     pub float_column: ColumnRule,
     pub classes: Classes,
 }
@@ -61,6 +67,17 @@ fn read_root<'t>(table: &'t Table) -> Result<Root<'t>, Fault<'t>>
     })
 }
 
+#[tactic(auto, unfolding(crate::specs::Style::areas_of))]
+fn read_areas<'t>(version: u8, subtables: &Subtables<'t>) -> Result<Areas, Fault<'t>>
+    ensures value { Tells (λ areas. areas) result (areas_of version (subtables_view subtables.now)) }
+    ensures range { IfOk result (AreAreas version) }
+{
+    let top = read_area(version, TableName::Top, subtables.top)?;
+    let bottom = read_area(version, TableName::Bottom, subtables.bottom)?;
+    let wide = read_area(version, TableName::Wide, subtables.wide)?;
+    Ok(Areas { top, bottom, wide })
+}
+
 #[tactic(auto, unfolding(crate::specs::Style::rules_of))]
 fn read_rules<'t>(
     alloc: Global,
@@ -71,20 +88,16 @@ fn read_rules<'t>(
     requires some { pos 1 ≤ℤ height }
     requires limit { height <ℤ pos (2 ^ 30) }
     requires few { AreSubtablesFew version subtables.now }
-    ensures value { Tells (λ rules. rules) result (rules_of height (subtables_view subtables.now)) }
+    ensures value { Tells (λ rules. rules) result (rules_of version height (subtables_view subtables.now)) }
     ensures range { IfOk result (AreRules version height) }
 {
     let runs = read_runs(alloc, height, &subtables.runs)?;
-    let top = read_area(TableName::Top, subtables.top)?;
-    let bottom = read_area(TableName::Bottom, subtables.bottom)?;
-    let wide = read_area(TableName::Wide, subtables.wide)?;
+    let areas = read_areas(version, subtables)?;
     let float_column = read_column(subtables.float_column)?;
-    let classes = read_classes(alloc, &subtables.classes)?;
+    let classes = read_classes(alloc, version, &subtables.classes)?;
     Ok(Rules {
         runs,
-        top,
-        bottom,
-        wide,
+        areas,
         float_column,
         classes,
     })
@@ -108,12 +121,13 @@ fn style_from(root: &Root<'_>, rules: Rules) -> Style
         line: limits.line,
         max_looseness: limits.max_looseness,
         runs: rules.runs,
-        top: rules.top,
-        bottom: rules.bottom,
-        wide: rules.wide,
+        top: rules.areas.top,
+        bottom: rules.areas.bottom,
+        wide: rules.areas.wide,
         float_column: rules.float_column,
         classes: rules.classes,
         fitness: limits.fitness,
+        ragged: limits.ragged,
     }
 }
 

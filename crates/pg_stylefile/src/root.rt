@@ -1,11 +1,12 @@
 //! The root table.
-ghost use Rattle.std.specs.Prelude.{◌≡◌, ◌≤◌, length, IfOk};
+ghost use Rattle.std.specs.Prelude.{◌≡◌, ◌≤◌, length, IfOk, None};
 ghost use Rattle.toml.specs.View.{table_view};
+ghost use Rattle.pg_style.specs.Ranges.{IsFoot};
 ghost use Rattle.pg_stylefile.specs.Faults.{Tells};
 ghost use Rattle.pg_stylefile.specs.Values.{tables_in};
 ghost use Rattle.pg_stylefile.specs.Root.{IsHead, AreLengths, AreLimits, AreSubtablesFew, subtables_view, head_of};
 ghost use Rattle.pg_stylefile.specs.Root.{lengths_of, fitness_of, limits_of, most_classes, run_tables, class_tables};
-ghost use Rattle.pg_stylefile.specs.Root.{subtables_of, no_fitness_yet};
+ghost use Rattle.pg_stylefile.specs.Root.{subtables_of, no_fitness_yet, no_ragged_yet, ragged_of};
 
 use crate::fault::{Fault, StyleKind};
 use crate::keys::{Keys, MAX_DEMERITS, MAX_DIMENSION};
@@ -37,6 +38,7 @@ pub struct Limits {
     pub line: u16,
     pub max_looseness: u8,
     pub fitness: u32,
+    pub ragged: Option<i32>,
 }
 
 /// The tables within the root table.
@@ -61,13 +63,25 @@ fn refuse_fitness<'t>(keys: &Keys<'t>, version: u32) -> Result<(), Fault<'t>>
     Ok(())
 }
 
+// Versions 1 and 2 know no ragged texts.
+#[tactic(auto, unfolding(crate::specs::Root::no_ragged_yet))]
+fn refuse_ragged<'t>(keys: &Keys<'t>, version: u32) -> Result<(), Fault<'t>>
+    ensures { Tells (λ x. x) result (no_ragged_yet keys.now.table_name version (table_view keys.now.table.now)) }
+{
+    if version == 3 {
+        return Ok(());
+    }
+    keys.absent("ragged")
+}
+
 #[tactic(auto, unfolding(crate::specs::Root::head_of))]
 pub fn read_head<'t>(keys: &Keys<'t>) -> Result<Head, Fault<'t>>
     ensures value { Tells (λ head. head) result (head_of keys.now.table_name (table_view keys.now.table.now)) }
     ensures range { IfOk result IsHead }
 {
-    let version = keys.whole("version", 1, 2)?;
+    let version = keys.whole("version", 1, 3)?;
     refuse_fitness(keys, version)?;
+    refuse_ragged(keys, version)?;
     let columns = keys.whole("columns", 1, 2)?;
     let first = keys.first("first")?;
     Ok(Head {
@@ -107,6 +121,19 @@ fn read_fitness<'t>(keys: &Keys<'t>, version: u8) -> Result<u32, Fault<'t>>
     keys.whole("fitness", 0, MAX_DEMERITS)
 }
 
+#[tactic(auto, unfolding(crate::specs::Root::ragged_of))]
+fn read_ragged<'t>(keys: &Keys<'t>, version: u8) -> Result<Option<i32>, Fault<'t>>
+    ensures value { Tells (λ ragged. ragged) result (ragged_of keys.now.table_name version
+        (table_view keys.now.table.now)) }
+    ensures range { IfOk result IsFoot }
+    ensures none { IfOk result (λ ragged. version ≤ 2 → ragged ≡ None) }
+{
+    if version == 3 {
+        return keys.dimension_if_any("ragged", 1, MAX_DIMENSION);
+    }
+    Ok(None)
+}
+
 #[tactic(auto, unfolding(crate::specs::Root::limits_of))]
 pub fn read_limits<'t>(keys: &Keys<'t>, version: u8) -> Result<Limits, Fault<'t>>
     ensures value { Tells
@@ -117,11 +144,13 @@ pub fn read_limits<'t>(keys: &Keys<'t>, version: u8) -> Result<Limits, Fault<'t>
     let line = keys.whole("line", 0, 10000)?;
     let max_looseness = keys.whole("max_looseness", 0, 100)?;
     let fitness = read_fitness(keys, version)?;
+    let ragged = read_ragged(keys, version)?;
     Ok(Limits {
         tolerance: tolerance as u16,
         line: line as u16,
         max_looseness: max_looseness as u8,
         fitness,
+        ragged,
     })
 }
 

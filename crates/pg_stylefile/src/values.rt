@@ -33,7 +33,7 @@ pub fn as_whole(value: &Value, low: u32, high: u32) -> Result<u32, StyleKind>
 }
 
 #[tactic(auto, unfolding(crate::specs::Values::text_of))]
-fn as_text(value: &Value) -> Result<&str, StyleKind>
+pub fn as_text(value: &Value) -> Result<&str, StyleKind>
     ensures { Answers (λ text. text.now) result (text_of (view value.now)) }
 {
     match value.as_str() {

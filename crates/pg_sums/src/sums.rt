@@ -6,7 +6,7 @@ ghost use Rattle.pg_scaled.specs.Ranges.{IsScaled};
 ghost use Rattle.pg_list.specs.Shapes.{is_box, is_discardable};
 ghost use Rattle.pg_list.specs.declared.item.Item.{Item as AnItem};
 ghost use Rattle.pg_list.specs.Totals.{total, shrink, stretch, trimmed};
-ghost use Rattle.pg_list.specs.Badness.{badness as badness_of, is_over, page_badness, has_infinite as has_infinite_of};
+ghost use Rattle.pg_list.specs.Badness.{is_over, fill_badness, has_infinite as has_infinite_of};
 ghost use Rattle.pg_list.specs.declared.item.Order.TheVariants.{Finite};
 ghost use Rattle.pg_sums.specs.AreSums.{AreSums};
 ghost use Rattle.pg_sums.specs.SumsValue.{IsBounded};
@@ -135,6 +135,16 @@ impl Sums {
         self.totals.shrink
     }
 
+    /// How much can stretch by what is finite: the sum of the finite stretch of all glue.
+    pub fn stretch(&self) -> i64
+        ensures sums { (topskip maxdepth : ℤ) (items : List AnItem) →
+            AreSums topskip maxdepth items self.now → result ≡ stretch Finite (trimmed items) }
+        ensures value { result ≡ self.now.totals.finite }
+        ensures size { nat_abs result < 2 ^ 52 }
+    {
+        self.totals.finite
+    }
+
     /// Whether a box or rule was added.
     pub fn has_box(&self) -> bool
         ensures value { result ≡ self.now.totals.has_box }
@@ -147,7 +157,7 @@ impl Sums {
     /// Whether the total passes a goal by more than can shrink; one that just fits is not over (TeX: The
     /// Program, §1007).
     pub fn over(&self, goal: i64) -> bool
-        requires { nat_abs goal < 2 ^ 52 }
+        requires { nat_abs goal < 2 ^ 53 }
         ensures value { result ≡ is_over self.now.totals.total self.now.totals.shrink goal }
         ensures sums { (topskip maxdepth : ℤ) (items : List AnItem) →
             AreSums topskip maxdepth items self.now →
@@ -165,57 +175,38 @@ impl Sums {
         self.totals.fil != 0 || self.totals.fill != 0 || self.totals.filll != 0
     }
 
-    // How badly the finite stretch fills an excess.
-    fn stretch_badness(&self, excess: i64) -> u16
-        requires { pos 0 ≤ℤ excess }
+    // The same of a segment that is not spent.
+    fn glue_badness(&self, goal: i64, stretch: i64, shrink: i64) -> u16
+        requires size { nat_abs goal < 2 ^ 53 }
         ensures sums { (topskip maxdepth : ℤ) (items : List AnItem) → AreSums topskip maxdepth items self.now →
-            result ≡ badness_of excess (stretch Finite (trimmed items)) }
-        ensures value { result ≡ badness_of excess self.now.totals.finite }
-    {
-        badness(excess, self.totals.finite)
-    }
-
-    // How badly the shrink takes up an excess.
-    fn shrink_badness(&self, excess: i64) -> u16
-        requires { pos 0 ≤ℤ excess }
-        ensures sums { (topskip maxdepth : ℤ) (items : List AnItem) → AreSums topskip maxdepth items self.now →
-            result ≡ badness_of excess (shrink (trimmed items)) }
-        ensures value { result ≡ badness_of excess self.now.totals.shrink }
-    {
-        badness(excess, self.totals.shrink)
-    }
-
-    // How badly the glue fills a goal that the segment is not over.
-    fn glue_badness(&self, goal: i64) -> u16
-        requires size { nat_abs goal < 2 ^ 52 }
-        requires fits { is_over self.now.totals.total self.now.totals.shrink goal ≡ false }
-        ensures sums { (topskip maxdepth : ℤ) (items : List AnItem) → AreSums topskip maxdepth items self.now →
-            result ≡ page_badness false goal (total topskip maxdepth (trimmed items)) (trimmed items) }
-        ensures value { result ≡ badness_by false goal self.now.totals }
+            result ≡ fill_badness false goal (total topskip maxdepth (trimmed items)) (has_infinite_of (trimmed items))
+            stretch shrink }
+        ensures value { result ≡ badness_by false goal stretch shrink self.now.totals }
     {
         let total = self.total();
         if total >= goal {
-            self.shrink_badness(minus(total, goal))
+            badness(minus(total, goal), shrink)
         } else if self.has_infinite() {
             0
         } else {
-            self.stretch_badness(minus(goal, total))
+            badness(minus(goal, total), stretch)
         }
     }
 
-    /// How badly the segment fills a goal that it is not over, from 0 to 10000 (TeX: The Program, §1007): 0 where
-    /// it is short and has infinite stretch, or where it is spent, with no box behind it, and not too high.
-    pub fn page_badness(&self, goal: i64, spent: bool) -> u16
-        requires size { nat_abs goal < 2 ^ 52 }
-        requires fits { is_over self.now.totals.total self.now.totals.shrink goal ≡ false }
+    /// How badly the segment fills a goal that it is not over, from 0 to 10000, where so much may stretch and so much
+    /// may shrink (TeX: The Program, §1007): 0 where it is short and has infinite stretch, or where it is spent, with no
+    /// box behind it, and not too high.
+    pub fn page_badness(&self, goal: i64, spent: bool, stretch: i64, shrink: i64) -> u16
+        requires size { nat_abs goal < 2 ^ 53 }
         ensures sums { (topskip maxdepth : ℤ) (items : List AnItem) → AreSums topskip maxdepth items self.now →
-            result ≡ page_badness spent goal (total topskip maxdepth (trimmed items)) (trimmed items) }
-        ensures value { result ≡ badness_by spent goal self.now.totals }
+            result ≡ fill_badness spent goal (total topskip maxdepth (trimmed items)) (has_infinite_of (trimmed items))
+            stretch shrink }
+        ensures value { result ≡ badness_by spent goal stretch shrink self.now.totals }
     {
         if spent && self.total() <= goal {
             0
         } else {
-            self.glue_badness(goal)
+            self.glue_badness(goal, stretch, shrink)
         }
     }
 }

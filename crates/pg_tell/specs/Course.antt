@@ -2,7 +2,8 @@
 use Rattle.std.specs.Prelude.{◌≡◌, ◌<◌, ◌^◌, ℕ, ◌⊎◌, List, [], length, ⊤, Option, Some, None, Ok, Err}
 use Rattle.std.specs.Io.KnownBytes.{Appends}
 use Rattle.pg_alone.specs.Alone.{FindsAlone}
-use Rattle.pg_alone.specs.declared.alone.Alone.{Alone}
+use Rattle.pg_alone.specs.Notes.{high_note}
+use Rattle.pg_changes.specs.Changes.{AreHelping}
 use Rattle.pg_command.specs.Lines.{Says, status_of}
 use Rattle.pg_command.specs.Words.{StyleName, named, plain}
 use Rattle.pg_command.specs.declared.ending.Ending.{Ending}
@@ -10,7 +11,6 @@ use Rattle.pg_command.specs.declared.ending.Ending.TheVariants as ending
 use Rattle.pg_command.specs.declared.status.Status.{Status}
 use Rattle.pg_floats.specs.AreFloats.{float_total, unknown_class}
 use Rattle.pg_furthest.specs.Furthest.{StandsAt}
-use Rattle.pg_furthest.specs.declared.standing.Standing.{Standing}
 use Rattle.pg_list.specs.GalleyValue.{GalleyValue}
 use Rattle.pg_outside.specs.Outside.{AppendsFront, Held, IsFile, IsTooLong, OverSink}
 use Rattle.pg_pieces.specs.declared.letters.Form.{Form}
@@ -26,6 +26,7 @@ use Rattle.pg_style.specs.Values.{StyleValue}
 use Rattle.pg_stylefile.specs.Style.{style_of_text}
 use Rattle.pg_tell.specs.Lines.{Begins, none_front, own_line, pages_front, refusal_front}
 use Rattle.pg_tell.specs.Words.{Command, pages}
+use Rattle.pg_tell.specs.declared.findings.Findings.{Findings}
 
 -- ---- files
 
@@ -100,12 +101,18 @@ abbrev pub IsTold : List ℕ → Ending → Ending → Option (List ℕ) → Opt
 IsTold front cause end old new = ((end ≡ cause) × WritesAll front old new)
     ⊎ (((end ≡ ending.WriteFault) × WritesFront old new) ⊎ ((end ≡ ending.Memory) × (new ≡ old)))
 
--- of a galley under a style that has no legal pagination: a float that no column can hold, if there is one, and the
--- furthest place of a beginning; or nothing, where memory ran out
+-- what is found of a galley under a style that has no legal pagination: a float that no column can hold and a note above
+-- its limit, if there are some; changes that help; and the furthest place of a beginning
+pub record AreFindings (galley : GalleyValue) (style : StyleValue) (found : Findings) : Type 0 where
+  pub alone : FindsAlone galley style found.alone
+  pub note : found.note ≡ high_note galley style
+  pub helping : AreHelping galley style found.helping
+  pub standing : StandsAt galley style found.standing
+
+-- it is told, or nothing, where memory ran out
 abbrev pub TellsNone : Form → GalleyValue → StyleValue → Ending → Option (List ℕ) → Option (List ℕ) → Type 0
-TellsNone form galley style end old new = ((alone : Option Alone) × FindsAlone galley style alone
-    × (standing : Standing) × StandsAt galley style standing
-    × IsTold (none_front form alone standing) ending.NoLegal end old new) ⊎ ((end ≡ ending.Memory) × (new ≡ old))
+TellsNone form galley style end old new = ((found : Findings) × AreFindings galley style found
+    × IsTold (none_front form found) ending.NoLegal end old new) ⊎ ((end ≡ ending.Memory) × (new ≡ old))
 
 -- of a galley under a style: how many pages the best pagination has, with its cost and the parts of that; or that none is
 -- legal; or nothing, where memory ran out

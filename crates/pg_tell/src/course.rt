@@ -5,6 +5,7 @@ ghost use Rattle.pg_command.specs.Words.{IsStyle, style_name};
 ghost use Rattle.pg_command.specs.declared.ending.Ending.TheVariants.{Done, NoLegal};
 ghost use Rattle.pg_outside.specs.Outside.{over_sink};
 ghost use Rattle.pg_outside.specs.Words.{texts_of};
+ghost use Rattle.pg_changes.specs.Changes.{NoneLegal};
 ghost use Rattle.pg_furthest.specs.Pages.{IsBestPages};
 ghost use Rattle.pg_parts.specs.Parts.{part_sum};
 ghost use Rattle.pg_plan.specs.Order.{columns};
@@ -16,17 +17,17 @@ ghost use Rattle.pg_tell.specs.Lines.{Begins, none_front, own_line, pages_front,
 ghost use Rattle.pg_tell.specs.Words.{command_of};
 
 use crate::faults::faults_text;
+use crate::findings::{Findings, findings_of};
 use crate::help::{HELP, VERSION};
 use crate::none::none_text;
 use crate::open::{no_memory, open_galley, open_style, remark_why};
 use crate::pages::pages_text;
 use crate::refusal::{Stop, refusal_text};
 use crate::words::{Job, read_job};
-use pg_alone::Alone;
 use pg_command::{Ending, Status, StyleWord};
 use pg_fault_words::{MANY_FLOATS, STRANGE_CLASS};
 use pg_floats::FloatFault;
-use pg_furthest::{BestPages, Search, Standing};
+use pg_furthest::{BestPages, Search};
 use pg_list::Galley;
 use pg_outside::{Shelf, Sink};
 use pg_parts::columns_add_up;
@@ -132,42 +133,53 @@ fn tell_best<'a, O: Sink>(
     }
 }
 
-// Tells how far pages come.
-fn tell_standing<'a, O: Sink>(
+// Tells what was found where none are legal.
+fn tell_findings<'a, O: Sink>(
     alloc: Global,
     form: Form,
     search: &Search,
-    alone: &Option<Alone>,
-    standing: &Standing,
+    found: &Findings,
     out: &mut O,
 ) -> Ending<'a>
-    ensures { IsTold (none_front form alone.now standing.now) NoLegal result (O.written out.old) (O.written out.new) }
+    ensures { IsTold (none_front form found.now) NoLegal result (O.written out.old) (O.written out.new) }
 {
-    match none_text(alloc, form, search, alone, standing) {
+    match none_text(alloc, form, search, found) {
         Err(_) => Ending::Memory,
         Ok(text) => write_text(&text, Ending::NoLegal, out),
     }
 }
 
-// Tells why none are legal, and how far pages come.
-fn tell_none<'a, O: Sink>(alloc: Global, form: Form, search: &Search, out: &mut O) -> Ending<'a>
+// Tells why none are legal, what would help, and how far pages come.
+fn tell_none<'a, O: Sink, L: Ledger>(
+    alloc: Global,
+    form: Form,
+    search: &Search,
+    out: &mut O,
+    steps: &mut Steps<L>,
+) -> Ending<'a>
+    requires { NoneLegal search.now.galley search.now.style }
     ensures { TellsNone form search.now.galley search.now.style result (O.written out.old) (O.written out.new) }
 {
-    let alone = search.alone();
-    let Ok(standing) = search.standing() else {
-        return Ending::Memory;
-    };
-    tell_standing(alloc, form, search, &alone, &standing, out)
+    match findings_of(alloc, search, steps) {
+        Err(_) => Ending::Memory,
+        Ok(found) => tell_findings(alloc, form, search, &found, out),
+    }
 }
 
 // Tells of the pages of a galley.
-fn tell_pages<'a, O: Sink>(alloc: Global, form: Form, search: &Search, out: &mut O) -> Ending<'a>
+fn tell_pages<'a, O: Sink, L: Ledger>(
+    alloc: Global,
+    form: Form,
+    search: &Search,
+    out: &mut O,
+    steps: &mut Steps<L>,
+) -> Ending<'a>
     ensures { TellsPages form search.now.galley search.now.style result (O.written out.old) (O.written out.new) }
 {
     match search.pages() {
         Err(_) => Ending::Memory,
         Ok(Some(pages)) => tell_best(alloc, form, search.galley(), search.style(), &pages, out),
-        Ok(None) => tell_none(alloc, form, search, out),
+        Ok(None) => tell_none(alloc, form, search, out, steps),
     }
 }
 
@@ -188,7 +200,7 @@ fn tell_files<'a, H: Shelf, O: Sink, L: Ledger>(
 {
     match open_search(alloc, style, galley, wrap, shelf, steps) {
         Err(stop) => tell_refusal(alloc, form, stop, out),
-        Ok(search) => tell_pages(alloc, form, &search, out),
+        Ok(search) => tell_pages(alloc, form, &search, out, steps),
     }
 }
 

@@ -1,11 +1,14 @@
 //! Why the next column can end nowhere.
 ghost use Rattle.std.specs.Prelude.{◌<◌, ◌≤◌, ◌^◌, nat_abs};
+ghost use Rattle.pg_column.specs.Numbers.{IsRoom};
 
+use pg_column::TextRoom;
 use pg_floats::full_height;
 use pg_furthest::Search;
 use pg_pieces::{Form, Piece, print};
 use pg_reasons::{Reach, reaches_of};
 use pg_scaled::minus;
+use pg_style::Give;
 use std::alloc::{AllocError, Global};
 
 /// More than a wide area is high, in scaled points.
@@ -28,7 +31,7 @@ fn wide_height(wide: Option<i64>) -> i64
 }
 
 // The height that a page of the furthest label leaves to a column, in scaled points.
-fn room_of(search: &Search) -> i64
+fn height_of(search: &Search) -> i64
     ensures { nat_abs result < 2 ^ 40 }
 {
     let style = search.style();
@@ -37,6 +40,16 @@ fn room_of(search: &Search) -> i64
     };
     let run = label.state.run().unwrap_or(0);
     minus(full_height(style, run), wide_height(label.state.wide()))
+}
+
+// The room of a text there beside areas without floats.
+fn room_of(search: &Search) -> TextRoom
+    ensures { IsRoom result }
+{
+    TextRoom {
+        size: height_of(search),
+        give: Give::none(),
+    }
 }
 
 // The last end that is not over, and holds a box.
@@ -75,7 +88,7 @@ fn rule_words(rule: u8) -> &'static str {
     match rule {
         3 => "it holds no line",
         5 => "it runs on past a place where it is full, or where it has to end",
-        6 => "floats leave less than min_text",
+        6 => "its text has less room than min_text asks for",
         11 => "its notes are above their limit",
         13 => "a version of a paragraph is beyond max_looseness",
         _ => "it breaks a rule",
@@ -246,7 +259,7 @@ pub fn print_ends(
         search.galley(),
         search.style(),
         from,
-        room_of(search),
+        &room_of(search),
     )?;
     match form {
         Form::Plain => print_plain(&ends, search.style().tolerance, out),

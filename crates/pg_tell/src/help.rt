@@ -8,8 +8,10 @@ usage: pg_tell [--json] [--wrap N] STYLE GALLEY
 
 It tells in words what pg says of the same files: how many pages the best
 pagination has, what it costs and for what, and what these pages are like; or
-that none is legal, and how far pages come; and where a file is refused, the
-line of the file, what is wrong with it, and what to do.
+that none is legal, why, which number of the style would help, all else as it
+is, and how far pages come; and where a file is refused, the line of the file,
+what is wrong with it, and what to do. To find what would help it searches up
+to 64 times more.
 
   --height H   one column H points high (58.0: always with a point) in place
                of a style

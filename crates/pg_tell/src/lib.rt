@@ -8,9 +8,11 @@
 //! and ends; what stands in a file cannot end a string of JSON (pg_pieces).
 #![tactic(auto)]
 
+mod changes;
 mod course;
 mod ends;
 mod faults;
+mod findings;
 mod help;
 mod letters;
 mod like;

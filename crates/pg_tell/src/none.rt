@@ -2,11 +2,14 @@
 ghost use Rattle.std.specs.Prelude.{◌≡◌, ◌++◌, IfOk, OnOk};
 ghost use Rattle.pg_pieces.specs.declared.letters.Form.TheVariants.{Plain, Json};
 ghost use Rattle.pg_tell.specs.Lines.{Begins, alone_key as alone_key_of, alone_text, alone_why as alone_why_of};
-ghost use Rattle.pg_tell.specs.Lines.{illegal_text, none_front, standing_text};
+ghost use Rattle.pg_tell.specs.Lines.{illegal_text, limit_text, none_front, note_class, note_limit, note_size};
+ghost use Rattle.pg_tell.specs.Lines.{note_text, some_note, standing_text, why_text};
 
+use crate::changes::print_help;
+use crate::findings::Findings;
 use crate::letters::words_from;
 use crate::reasons::print_reasons;
-use pg_alone::Alone;
+use pg_alone::{Alone, HighNote};
 use pg_furthest::{Search, Standing};
 use pg_pieces::{Form, Piece, print};
 use std::alloc::{AllocError, Global};
@@ -88,6 +91,113 @@ fn print_alone(form: Form, alone: &Option<Alone>, out: &mut Vec<u8>) -> Result<(
     }
 }
 
+// The class of a note above its limit.
+fn print_note_class(form: Form, note: &HighNote, out: &mut Vec<u8>) -> Result<(), AllocError>
+    ensures { OnOk result (out.new.items ≡ out.old.items ++ note_class form note.now) }
+{
+    match form {
+        Form::Plain => print(
+            form,
+            out,
+            &[
+                Piece::Mark("A note of class "),
+                Piece::Count(u64::from(note.class)),
+            ],
+        ),
+        Form::Json => print(
+            form,
+            out,
+            &[
+                Piece::Mark(",\"note\":{\"class\":"),
+                Piece::Count(u64::from(note.class)),
+            ],
+        ),
+    }
+}
+
+// Its size.
+fn print_note_size(form: Form, note: &HighNote, out: &mut Vec<u8>) -> Result<(), AllocError>
+    ensures { OnOk result (out.new.items ≡ out.old.items ++ note_size form note.now) }
+{
+    match form {
+        Form::Plain => print(
+            form,
+            out,
+            &[
+                Piece::Mark(" is "),
+                Piece::Length(i64::from(note.size)),
+                Piece::Mark(" points high"),
+            ],
+        ),
+        Form::Json => print(
+            form,
+            out,
+            &[
+                Piece::Mark(",\"size\":\""),
+                Piece::Length(i64::from(note.size)),
+                Piece::Mark("\""),
+            ],
+        ),
+    }
+}
+
+// The limit of its class, between words.
+fn print_limit(
+    form: Form,
+    front: &'static str,
+    note: &HighNote,
+    end: &'static str,
+    out: &mut Vec<u8>,
+) -> Result<(), AllocError>
+    ensures { OnOk result (out.new.items ≡ out.old.items ++ limit_text front.now note.now end.now) }
+{
+    print(
+        form,
+        out,
+        &[
+            Piece::Mark(front),
+            Piece::Length(i64::from(note.limit)),
+            Piece::Mark(end),
+        ],
+    )
+}
+
+// What its class may take.
+fn print_note_limit(form: Form, note: &HighNote, out: &mut Vec<u8>) -> Result<(), AllocError>
+    ensures { OnOk result (out.new.items ≡ out.old.items ++ note_limit form note.now) }
+{
+    match form {
+        Form::Plain => print_limit(
+            form,
+            ", and its class may take ",
+            note,
+            " in a column: nothing is legal while it stands there.\n",
+            out,
+        ),
+        Form::Json => print_limit(form, ",\"limit\":\"", note, "\"}", out),
+    }
+}
+
+// A note above its limit.
+fn print_some_note(form: Form, note: &HighNote, out: &mut Vec<u8>) -> Result<(), AllocError>
+    ensures { OnOk result (out.new.items ≡ out.old.items ++ some_note form note.now) }
+{
+    print_note_class(form, note, out)?;
+    print_note_size(form, note, out)?;
+    print_note_limit(form, note, out)
+}
+
+// A note above its limit, if there is one.
+#[tactic(auto, unfolding(crate::specs::Lines::note_text))]
+fn print_note(form: Form, note: &Option<HighNote>, out: &mut Vec<u8>) -> Result<(), AllocError>
+    ensures { OnOk result (out.new.items ≡ out.old.items ++ note_text form note.now) }
+{
+    match note {
+        None => Ok(()),
+        Some(note) => print_some_note(form, note, out),
+    }
+}
+
 // Where beginnings come to an end, for a reader.
 fn print_plain_standing(standing: &Standing, out: &mut Vec<u8>) -> Result<(), AllocError>
     ensures { OnOk result (out.new.items ≡ out.old.items ++ standing_text Plain standing.now) }
@@ -138,19 +248,24 @@ fn print_standing(form: Form, standing: &Standing, out: &mut Vec<u8>) -> Result<
     }
 }
 
-// What is told first where no pagination is legal.
-#[tactic(auto, unfolding(crate::specs::Lines::none_front))]
-fn print_none(
-    form: Form,
-    alone: &Option<Alone>,
-    standing: &Standing,
-    out: &mut Vec<u8>,
-) -> Result<(), AllocError>
-    ensures { OnOk result (out.new.items ≡ out.old.items ++ none_front form alone.now standing.now) }
+// That nothing is legal, and what forbids all.
+#[tactic(auto, unfolding(crate::specs::Lines::why_text))]
+fn print_why(form: Form, found: &Findings, out: &mut Vec<u8>) -> Result<(), AllocError>
+    ensures { OnOk result (out.new.items ≡ out.old.items ++ why_text form found.now) }
 {
     print_illegal(form, out)?;
-    print_alone(form, alone, out)?;
-    print_standing(form, standing, out)
+    print_alone(form, &found.alone, out)?;
+    print_note(form, &found.note, out)
+}
+
+// What is told first where no pagination is legal.
+#[tactic(auto, unfolding(crate::specs::Lines::none_front))]
+fn print_none(form: Form, found: &Findings, out: &mut Vec<u8>) -> Result<(), AllocError>
+    ensures { OnOk result (out.new.items ≡ out.old.items ++ none_front form found.now) }
+{
+    print_why(form, found, out)?;
+    print_help(form, &found.helping, out)?;
+    print_standing(form, &found.standing, out)
 }
 
 // The words at the furthest place.
@@ -180,23 +295,22 @@ fn print_words(form: Form, words: &[u8], out: &mut Vec<u8>) -> Result<(), AllocE
     }
 }
 
-/// What is told where no pagination is legal: a float that forbids all, if there is one; where beginnings come to an end;
-/// and why they come no further.
+/// What is told where no pagination is legal: a float and a note that forbid all, if there are some; changes that help;
+/// where beginnings come to an end; and why they come no further.
 pub fn none_text(
     alloc: Global,
     form: Form,
     search: &Search,
-    alone: &Option<Alone>,
-    standing: &Standing,
+    found: &Findings,
 ) -> Result<Vec<u8>, AllocError>
-    ensures { IfOk result (λ out. Begins (none_front form alone.now standing.now) out.items) }
+    ensures { IfOk result (λ out. Begins (none_front form found.now) out.items) }
 {
-    let words = words_from(alloc, search.galley(), standing.at)?;
+    let words = words_from(alloc, search.galley(), found.standing.at)?;
     let mut rest = Vec::new(alloc);
     print_words(form, &words, &mut rest)?;
-    print_reasons(alloc, form, search, alone, &mut rest)?;
+    print_reasons(alloc, form, search, found, &mut rest)?;
     let mut out = Vec::new(alloc);
-    print_none(form, alone, standing, &mut out)?;
+    print_none(form, found, &mut out)?;
     out.extend_from_slice(&rest)?;
     Ok(out)
 }

@@ -1,7 +1,8 @@
 //! Why beginnings come no further.
 use crate::ends::print_ends;
+use crate::findings::Findings;
 use crate::letters::words_from;
-use pg_alone::Alone;
+use pg_alone::{Alone, HighNote};
 use pg_furthest::Search;
 use pg_list::{Block, Galley, Item, Place};
 use pg_pieces::{Form, Piece, print};
@@ -159,18 +160,87 @@ fn print_float(
     }
 }
 
-/// Why beginnings come no further: where the next column could end, and what is wrong there; and where a float is called
-/// that no column can hold, if there is one.
+// Whether an item is an insert of a class above a size.
+fn is_above(item: &Item, number: u8, limit: i32) -> bool {
+    match item {
+        Item::Insert { class, size, .. } => *class == number && limit < *size,
+        _ => false,
+    }
+}
+
+// Whether some item is one.
+fn has_above(items: &[Item], number: u8, limit: i32) -> bool {
+    for item in items {
+        if is_above(item, number, limit) {
+            return true;
+        }
+    }
+    false
+}
+
+// The first block with an insert of a class above a size.
+fn block_above(galley: &Galley, number: u8, limit: i32) -> u32 {
+    let mut index = 0u32;
+    for block in galley.blocks().as_slice() {
+        let is_there = match block {
+            Block::One(item) => is_above(item, number, limit),
+            Block::Choice(choice) => match choice.variants().first() {
+                Some(variant) => has_above(variant.items.as_slice(), number, limit),
+                None => false,
+            },
+        };
+        if is_there {
+            return index;
+        }
+        index = index.saturating_add(1);
+    }
+    index
+}
+
+// Where a note stands that is above the limit of its class.
+fn print_note(
+    form: Form,
+    search: &Search,
+    note: &HighNote,
+    out: &mut Vec<u8>,
+) -> Result<(), AllocError> {
+    let block = block_above(search.galley(), note.class, note.limit);
+    match form {
+        Form::Plain => print(
+            form,
+            out,
+            &[
+                Piece::Mark("The note stands in block "),
+                Piece::Count(u64::from(block)),
+                Piece::Mark(".\n"),
+            ],
+        ),
+        Form::Json => print(
+            form,
+            out,
+            &[
+                Piece::Mark(",\"note block\":"),
+                Piece::Count(u64::from(block)),
+            ],
+        ),
+    }
+}
+
+/// Why beginnings come no further: where the next column could end, and what is wrong there; and where the float and the
+/// note stand that forbid all, if there are some.
 pub fn print_reasons(
     alloc: Global,
     form: Form,
     search: &Search,
-    alone: &Option<Alone>,
+    found: &Findings,
     out: &mut Vec<u8>,
 ) -> Result<(), AllocError> {
     print_ends(alloc, form, search, out)?;
-    if let Some(alone) = alone {
+    if let Some(alone) = &found.alone {
         print_float(alloc, form, search, alone, out)?;
+    }
+    if let Some(note) = &found.note {
+        print_note(form, search, note, out)?;
     }
     match form {
         Form::Plain => Ok(()),

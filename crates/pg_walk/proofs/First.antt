@@ -13,6 +13,7 @@ use Rattle.pg_list.proofs.Places.{same_place}
 use Rattle.pg_column.specs.Passed.{Passed, nothing}
 use Rattle.pg_rules.specs.IsState.{IsPlace}
 use Rattle.pg_rules.specs.Room.{Document}
+use Rattle.pg_style.specs.Ranges.{IsClass}
 use Rattle.pg_hops.specs.View.{IsFor, view}
 use Rattle.pg_hops.specs.declared.state.State.{State}
 use Rattle.pg_hops.proofs.Left.{first_left}
@@ -101,29 +102,30 @@ first_owned (Ok w) doc top z t all few from at p pe xs xe b be n m ne me past fr
 
 -- ---- what it tells of a walk without notes
 
-tells_quiet : (doc : Document) (top : ℤ) (from : Place) (w : Walked) →
+tells_quiet : (doc : Document) → AllByRecursion IsClass doc.style.classes → (top : ℤ) (from : Place) (w : Walked) →
     passed_of w.state ≡ past_stretch doc top nothing (first_items doc.blocks from) →
     w.greatest ≡ first_reach doc top from →
     w.is_quiet ≡ is_quiet doc.style (passed_along doc top nothing (first_items doc.blocks from)) →
     w.is_quiet ≡ true → TellsQuiet doc top from w
-tells_quiet doc top from w past reach quiet-is is =
+tells_quiet doc ranged top from w past reach quiet-is is =
     let items = first_items doc.blocks from in
     let still = sym quiet-is ∙ is in
     record {
-      greatest = reach ∙ sym (quiet_reach doc top nothing items still (first_front doc.blocks from));
-      stops = λ none. quiet_stops doc top nothing items still (sym past ∙ none);
+      greatest = reach ∙ sym (quiet_reach doc top ranged nothing items still (first_front doc.blocks from));
+      stops = λ none. quiet_stops doc top ranged nothing items still (sym past ∙ none);
     }
 
-pub first_quiet : {E : Type 0} (r : Result Walked E) (doc : Document) (top z : ℤ) → z ≡ top → (from : Place) →
+pub first_quiet : {E : Type 0} (r : Result Walked E) (doc : Document) → AllByRecursion IsClass doc.style.classes →
+    (top z : ℤ) → z ≡ top → (from : Place) →
     (p : Passed) → p ≡ nothing → (xs : List FlatItem) → xs ≡ first_items doc.blocks from →
     (b : ℕ) → b ≡ first_front doc.blocks from →
     IfOk r (λ w. passed_of w.state ≡ past_stretch doc z p xs) →
     IfOk r (λ w. w.greatest ≡ reach_along doc z b p xs) →
     IfOk r (λ w. w.is_quiet ≡ is_quiet doc.style (passed_along doc z p xs)) →
     IfOk r (λ w. w.is_quiet ≡ true → TellsQuiet doc top from w)
-first_quiet (Err e) doc top z t from p pe xs xe b be past reach quiet-is = tt
-first_quiet (Ok w) doc top z t from p pe xs xe b be past reach quiet-is =
-    tells_quiet doc top from w
+first_quiet (Err e) doc ranged top z t from p pe xs xe b be past reach quiet-is = tt
+first_quiet (Ok w) doc ranged top z t from p pe xs xe b be past reach quiet-is =
+    tells_quiet doc ranged top from w
     (past ∙ at_first (λ (y : ℤ) (q : Passed) (ys : List FlatItem) (c : ℕ). past_stretch doc y q ys)
     doc top z t from p pe xs xe b be)
     (reach ∙ at_first (λ (y : ℤ) (q : Passed) (ys : List FlatItem) (c : ℕ). reach_along doc y c q ys)

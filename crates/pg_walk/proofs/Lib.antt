@@ -1,5 +1,6 @@
 pub mod Lifted
 pub mod Moves
+mod Gives
 pub mod Reaches
 pub mod Labels
 pub mod Collecting

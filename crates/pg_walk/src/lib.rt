@@ -15,6 +15,7 @@
 #![tactic(auto)]
 
 mod filling;
+mod give;
 mod label;
 mod labels_reach;
 mod picks;

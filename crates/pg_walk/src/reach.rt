@@ -1,5 +1,5 @@
 //! How far columns from a place may go.
-ghost use Rattle.std.specs.Prelude.{◌≡◌, [], IfOk, IfSome, option_map};
+ghost use Rattle.std.specs.Prelude.{◌+ℤ◌, ◌<◌, ◌^◌, nat_abs, ◌≡◌, [], IfOk, IfSome, option_map};
 ghost use Rattle.pg_hops.specs.Index.{AreHops};
 ghost use Rattle.pg_rules.specs.IsState.{IsPlace};
 ghost use Rattle.pg_rules.specs.Legal.{document};
@@ -7,10 +7,12 @@ ghost use Rattle.pg_rules.specs.Reach.{IsReach, greatest_extra as greatest_extra
 ghost use Rattle.law_walk.specs.Reached.{quiet, tallest as tallest_of};
 ghost use Rattle.pg_walk.specs.Blocks.{IsAlone, IsGreatestFrom, state};
 
+use crate::give::greatest_shrink;
 use crate::{furthest, variants_at};
 use law_walk::laws::walk_tells_reach;
 use pg_hops::{BreakIndex, Cursor, Passed, State, pass_on};
 use pg_list::{Galley, Place};
+use pg_scaled::{plus, wide};
 use pg_style::{Classes, Run, Runs, Style};
 use std::alloc::{AllocError, Global};
 
@@ -53,6 +55,7 @@ fn quiet_style(alloc: Global, style: &Style) -> Style
         float_column: style.float_column,
         classes: Classes::new(alloc),
         fitness: style.fitness,
+        ragged: style.ragged,
     }
 }
 
@@ -75,10 +78,21 @@ fn greatest_extra(runs: &[Run]) -> i32
 }
 
 // The room of the tallest run.
+fn tallest_run(style: &Style) -> i64
+    ensures value { result ≡ style.now.height +ℤ greatest_extra_of style.now.runs }
+    ensures size { nat_abs result < 2 ^ 40 }
+{
+    plus(
+        wide(style.height),
+        wide(greatest_extra(style.runs.as_slice())),
+    )
+}
+
+// The room of the tallest run, where all gaps around a text are shrunk.
 pub(crate) fn tallest(style: &Style) -> i64
     ensures { result ≡ tallest_of style.now }
 {
-    i64::from(style.height) + i64::from(greatest_extra(style.runs.as_slice()))
+    plus(tallest_run(style), greatest_shrink(style))
 }
 
 // Before a front with what was passed.

@@ -1,5 +1,7 @@
 //! The candidates of a place.
 ghost use Rattle.std.specs.Prelude.{◌≡◌, ◌++◌, [], true, if◌then◌else◌, None, Some, IfOk, IfSome, OnOk};
+ghost use Rattle.std.specs.List.{AllByRecursion};
+ghost use Rattle.pg_style.specs.Ranges.{IsClass};
 ghost use Rattle.pg_hops.specs.Index.{AreHops};
 ghost use Rattle.pg_rules.specs.IsState.{IsPlace};
 ghost use Rattle.pg_rules.specs.Legal.{document};
@@ -21,6 +23,13 @@ use pg_plan::Picks;
 use pg_style::Style;
 use std::alloc::{AllocError, Global};
 
+// The classes of a style are in their ranges.
+fn has_classes(style: &Style)
+    ensures { AllByRecursion IsClass style.now.classes }
+{
+    style.stays_in_range();
+}
+
 // Adds the ends along the first stretch, and answers what the walk along it tells; where the notes passed take no room,
 // it tells of a walk without notes.
 fn first_stretch(
@@ -41,6 +50,7 @@ fn first_stretch(
     ensures own { IfOk result (λ w. IfSome w.state (IsOwn (document galley.now style.now) top)) }
     ensures quiet { IfOk result (λ w. w.is_quiet ≡ true → TellsQuiet (document galley.now style.now) top from w) }
 {
+    has_classes(style);
     let _ = galley.blocks().as_slice();
     let ahead = Cursor::first(galley, from);
     let picks = Picks::new(alloc);

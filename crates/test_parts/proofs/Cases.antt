@@ -10,7 +10,7 @@ use Rattle.pg_style.specs.declared.style.Class.{Class}
 use Rattle.pg_style.specs.declared.style.Kind.TheVariants.{Note, Float}
 use Rattle.pg_style.specs.declared.style.Area.TheVariants.{Top, Wide}
 use Rattle.pg_style.specs.Values.{StyleValue}
-use Rattle.pg_style.specs.Plain.{plain}
+use Rattle.pg_style.specs.Plain.{plain, rigid}
 
 -- each line of a table has what is found, and behind it what was told
 abbrev pub AreTold : {A : Type 0} → List (A × A) → Type 0
@@ -58,8 +58,8 @@ loose list = record { looseness = pos 1; demerits = 100; items = list }
 abbrev pub note_classes : List Class
 note_classes =
     record { number = 100; kind = Float Top (0 ∷ []) }
-    ∷ record { number = 200; kind = Note (points 4) (points 100) }
-    ∷ record { number = 201; kind = Note (points 2) (points 5) }
+    ∷ record { number = 200; kind = Note (rigid (points 4)) (points 100) }
+    ∷ record { number = 201; kind = Note (rigid (points 2)) (points 5) }
     ∷ []
 
 abbrev pub note_style : StyleValue

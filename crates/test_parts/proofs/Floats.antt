@@ -5,6 +5,7 @@ use Rattle.pg_list.specs.Places.{place}
 use Rattle.pg_list.specs.declared.galley.Place.{Place}
 use Rattle.pg_list.specs.declared.blocks.Block.{Block}
 use Rattle.pg_list.specs.declared.blocks.Block.TheVariants.{One, Choice}
+use Rattle.pg_style.specs.Plain.{rigid}
 use Rattle.pg_style.specs.Values.{AreaRuleValue, StyleValue}
 use Rattle.pg_rules.specs.Floats.{called, entry, floats}
 use Rattle.pg_floats.specs.AreFloats.{float_size, float_total, height_of, unknown_class}
@@ -41,7 +42,7 @@ called_before blocks at = map (entry (called blocks style at)) (0 ∷ 1 ∷ 2 �
 
 -- 2 points between two floats, and 4 between the area and the text
 abbrev rule : AreaRuleValue
-rule = record { count = 4; sep = points 2; gap = points 4 }
+rule = record { count = 4; sep = rigid (points 2); gap = rigid (points 4) }
 
 abbrev area : List Block → List ℕ → List ℕ → Option ℤ
 area blocks placed counts = height_of (floats blocks style) rule placed counts

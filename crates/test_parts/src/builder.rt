@@ -8,7 +8,7 @@ use itoa::Buffer;
 use pg_breaks::break_cost;
 use pg_list::{Block, Galley, Item, Place};
 use pg_notes::NoteSums;
-use pg_scaled::print_scaled;
+use pg_scaled::{plus, print_scaled};
 use pg_style::Style;
 use pg_sums::Sums;
 use std::alloc::{AllocError, Global};
@@ -39,7 +39,7 @@ impl Best {
 }
 
 // What stands on a page at a break: the total, the room without the notes, the shrink, how badly the page is filled,
-// None where it is over full, and whether there are notes.
+// None where it is over full, and whether there are notes of which the style does not tell what their skips give.
 #[derive(Clone, Copy, Drop)]
 struct Filling {
     total: i64,
@@ -53,17 +53,20 @@ struct Filling {
 fn filling_of(sums: &Sums, notes: &NoteSums, style: &Style) -> Filling {
     let taken = notes.height(style);
     let goal = i64::from(style.height) - taken;
-    let badness = if sums.over(goal) {
+    let give = notes.give(style);
+    let stretch = plus(sums.stretch(), give.stretch);
+    let shrink = plus(sums.shrink(), give.shrink);
+    let badness = if sums.total() >= goal && sums.total().saturating_sub(goal) > shrink {
         None
     } else {
-        Some(sums.page_badness(goal, false))
+        Some(sums.page_badness(goal, false, stretch, shrink))
     };
     Filling {
         total: sums.total(),
         goal,
-        shrink: sums.shrink(),
+        shrink,
         badness,
-        has_notes: taken > 0,
+        has_notes: taken > 0 && style.version < 3,
     }
 }
 
@@ -83,7 +86,7 @@ fn say_length(units: i64, out: &mut Vec<u8>) -> Result<(), AllocError> {
     Ok(())
 }
 
-// Adds the shrink of a page without notes, and `-` for one that has some.
+// Adds the shrink of a page, and `-` for one with notes of whose skips it is not told.
 fn say_shrink(filling: &Filling, out: &mut Vec<u8>) -> Result<(), AllocError> {
     if filling.has_notes {
         out.extend_from_slice(b"- ")
@@ -240,7 +243,7 @@ fn build_page(
 
 /// Adds what is said of all pages, and where they end: of each the block at which it starts and, for each break behind
 /// its first box, the total, the goal, the shrink, the badness and the penalty. `*` is the badness of a page that is
-/// over full; of a page with notes neither shrink nor badness is said.
+/// over full; of a page with notes, before version 3 of the style, neither shrink nor badness is said.
 pub fn build(
     alloc: Global,
     galley: &Galley,

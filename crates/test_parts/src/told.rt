@@ -1,6 +1,6 @@
 //! What is said of a style, or of the fault of a text.
 use crate::say::{say_number, say_points, say_word};
-use pg_style::{Area, Class, First, Kind, Style};
+use pg_style::{Area, Class, First, Gap, Kind, Style};
 use pg_stylefile::{StyleFault, StyleKind, read_style};
 use std::alloc::{AllocError, Global};
 
@@ -31,10 +31,24 @@ fn area_word(area: Area) -> &'static [u8] {
     }
 }
 
+// A gap, with what it gives, if it gives anything.
+fn say_gap(gap: &Gap, out: &mut Vec<u8>) -> Result<(), AllocError> {
+    say_points(gap.size, out)?;
+    if gap.stretch != 0 {
+        out.extend_from_slice(b" plus ")?;
+        say_points(gap.stretch, out)?;
+    }
+    if gap.shrink != 0 {
+        out.extend_from_slice(b" minus ")?;
+        say_points(gap.shrink, out)?;
+    }
+    Ok(())
+}
+
 // A note's skip and limit.
-fn say_note(skip: i32, limit: i32, out: &mut Vec<u8>) -> Result<(), AllocError> {
+fn say_note(skip: &Gap, limit: i32, out: &mut Vec<u8>) -> Result<(), AllocError> {
     out.extend_from_slice(b" note ")?;
-    say_points(skip, out)?;
+    say_gap(skip, out)?;
     out.push(b' ')?;
     say_points(limit, out)
 }
@@ -61,7 +75,7 @@ fn say_slot(slot: Option<usize>, out: &mut Vec<u8>) -> Result<(), AllocError> {
 fn say_class(style: &Style, class: &Class, out: &mut Vec<u8>) -> Result<(), AllocError> {
     say_word(b"class ", u64::from(class.number), out)?;
     match &class.kind {
-        Kind::Note { skip, limit } => say_note(*skip, *limit, out)?,
+        Kind::Note { skip, limit } => say_note(skip, *limit, out)?,
         Kind::Float { area, distance } => say_float(*area, distance.as_slice(), out)?,
     }
     say_slot(style.float_slot(class.number), out)
@@ -76,6 +90,10 @@ fn say_head(style: &Style, out: &mut Vec<u8>) -> Result<(), AllocError> {
     say_points(style.height, out)?;
     say_word(b" runs ", style.runs.as_slice().len() as u64, out)?;
     say_word(b" fitness ", u64::from(style.fitness), out)?;
+    if let Some(foot) = style.ragged {
+        out.extend_from_slice(b" ragged ")?;
+        say_points(foot, out)?;
+    }
     out.push(b'\n')?;
     Ok(())
 }

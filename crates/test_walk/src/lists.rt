@@ -1,9 +1,10 @@
 //! What is printed of the columns from a place.
-ghost use Rattle.std.specs.Prelude.{◌<◌, ◌^◌, nat_abs, ℤ};
 ghost use Rattle.std.specs.List.{AllByRecursion};
+ghost use Rattle.pg_walk.specs.Rooms.{IsAsked};
 
 use crate::places::{Columns, is_place};
 use anyhow::anyhow;
+use pg_column::TextRoom;
 use pg_list::Galley;
 use pg_scaled::print_scaled;
 use pg_style::Style;
@@ -54,10 +55,23 @@ fn list_end(rt: &HostRuntime, end: &End) -> anyhow::Result<()> {
     Ok(())
 }
 
+// The line of a room.
+fn print_room(rt: &HostRuntime, room: &TextRoom) -> anyhow::Result<()> {
+    let alloc = rt.alloc();
+    let size = points(alloc, room.size)?;
+    if room.give.stretch == 0 && room.give.shrink == 0 {
+        println!(rt; "room {}", size)?;
+        return Ok(());
+    }
+    let stretch = points(alloc, room.give.stretch)?;
+    let shrink = points(alloc, room.give.shrink)?;
+    println!(rt; "room {}+{}-{}", size, stretch, shrink)?;
+    Ok(())
+}
+
 // The ends in a room.
-fn list_room(rt: &HostRuntime, room: i64, ends: &[End]) -> anyhow::Result<()> {
-    let room = points(rt.alloc(), room)?;
-    println!(rt; "room {}", room)?;
+fn list_room(rt: &HostRuntime, room: &TextRoom, ends: &[End]) -> anyhow::Result<()> {
+    print_room(rt, room)?;
     for end in ends {
         list_end(rt, end)?;
     }
@@ -71,7 +85,7 @@ pub fn list_from(
     style: &Style,
     columns: &Columns,
 ) -> anyhow::Result<()>
-    requires { AllByRecursion (λ (room : ℤ). nat_abs room < 2 ^ 40) columns.now.rooms.items }
+    requires { AllByRecursion IsAsked columns.now.rooms.items }
 {
     let from = columns.from;
     if !is_place(galley, from) {
@@ -85,7 +99,7 @@ pub fn list_from(
     let rooms = columns.rooms.as_slice();
     let lists = ends_many(rt.alloc(), galley, style, from, rooms)?;
     for (room, ends) in rooms.iter().zip(lists.as_slice()) {
-        list_room(rt, *room, ends.as_slice())?;
+        list_room(rt, room, ends.as_slice())?;
     }
     Ok(())
 }

@@ -1,25 +1,28 @@
 //! Places and rooms in words.
-ghost use Rattle.std.specs.Prelude.{◌≡◌, ◌<◌, ◌^◌, true, nat_abs, ℤ, IfOk, IfSome};
+ghost use Rattle.std.specs.Prelude.{◌≡◌, ◌<◌, ◌^◌, ◌≤ℤ◌, true, nat_abs, pos, IfOk, IfSome};
 ghost use Rattle.std.specs.Bool.{OnTrue};
 ghost use Rattle.std.specs.List.{AllByRecursion};
 ghost use Rattle.pg_list.specs.Flat.{end_of, is_same_place};
 ghost use Rattle.pg_rules.specs.IsState.{IsPlace};
+ghost use Rattle.pg_walk.specs.Rooms.{IsAsked};
 
 use anyhow::{Context, anyhow};
+use pg_column::TextRoom;
 use pg_list::{Galley, Place, items_around};
 use pg_scaled::{Front, read_scaled};
+use pg_style::Give;
 use std::alloc::Global;
 
 /// Columns from a place in several rooms.
 #[derive(Drop)]
 pub struct Columns {
     pub from: Place,
-    pub rooms: Vec<i64>,
+    pub rooms: Vec<TextRoom>,
 }
 
 // A number of points in scaled units.
-fn room_of(word: &str) -> Option<i64>
-    ensures { IfSome result (λ room. nat_abs room < 2 ^ 40) }
+fn points_of(word: &str) -> Option<i64>
+    ensures { IfSome result (λ points. nat_abs points < 2 ^ 40) }
 {
     match read_scaled(word.as_bytes()) {
         Front::Value { value, len } if len == word.len() => Some(i64::from(value)),
@@ -27,9 +30,39 @@ fn room_of(word: &str) -> Option<i64>
     }
 }
 
+// By how much the gaps beside a room may be stretched, and behind a `-` by how much they may be shrunk.
+fn give_of(words: &str) -> Option<Give>
+    ensures { IfSome result (λ give.
+        (nat_abs give.stretch < 2 ^ 40) × ((nat_abs give.shrink < 2 ^ 40) × (pos 0 ≤ℤ give.shrink))) }
+{
+    let (stretch, shrink) = cut(words, '-');
+    let stretch = points_of(stretch)?;
+    let shrink = points_of(shrink)?;
+    if shrink < 0 {
+        return None;
+    }
+    Some(Give { stretch, shrink })
+}
+
+// A room, and behind a `+` what the gaps beside it give.
+fn room_of(word: &str) -> Option<TextRoom>
+    ensures { IfSome result IsAsked }
+{
+    let (size, give) = cut(word, '+');
+    let size = points_of(size)?;
+    if give.is_empty() {
+        return Some(TextRoom {
+            size,
+            give: Give::none(),
+        });
+    }
+    let give = give_of(give)?;
+    Some(TextRoom { size, give })
+}
+
 // Rooms with a blank before each.
-fn rooms_of(alloc: Global, words: &str) -> anyhow::Result<Vec<i64>>
-    ensures { IfOk result (λ rooms. AllByRecursion (λ (room : ℤ). nat_abs room < 2 ^ 40) rooms.items) }
+fn rooms_of(alloc: Global, words: &str) -> anyhow::Result<Vec<TextRoom>>
+    ensures { IfOk result (λ rooms. AllByRecursion IsAsked rooms.items) }
 {
     let mut rooms = Vec::new(alloc);
     'words: for word in words.split_whitespace() {
@@ -60,7 +93,7 @@ fn place_of(words: &str) -> Option<Place> {
 
 /// The columns that a line names.
 pub fn columns_of(alloc: Global, line: &str) -> anyhow::Result<Columns>
-    ensures { IfOk result (λ columns. AllByRecursion (λ (room : ℤ). nat_abs room < 2 ^ 40) columns.rooms.items) }
+    ensures { IfOk result (λ columns. AllByRecursion IsAsked columns.rooms.items) }
 {
     let (place, rooms) = cut(line, ':');
     let from = place_of(place).context("a line has no place")?;

@@ -15,7 +15,7 @@ mod states;
 mod waiting;
 
 pub use builder::first_fit;
-pub use columns::{add_item, goal_in, judge_text};
+pub use columns::{add_item, area_give, cost_for, give_in, goal_in, judge_text};
 pub use glue::{badness, set_widths};
 pub use lines::break_lines;
 pub use making::make_galley;

@@ -1,10 +1,12 @@
 -- Answers that the clauses of what tells in words exclude.
 use Rattle.std.proofs.Common.{◌≡◌, ◌≢◌, ◌∙◌, refl, sym, ap, ap₂, subst, arith, ℕ, ◌+◌, Bool, true, false, List, [], ◌∷◌, length, codes, Option, Some, None}
-use Rattle.std.specs.Prelude.{ℤ, ◌||◌, slice_get}
+use Rattle.std.specs.Prelude.{◌||◌, slice_get}
 use Rattle.std.specs.declared.cmp.Ordering.TheVariants.{Less}
 use Rattle.pg_lemmas.proofs.Bools.{not_both}
 use Rattle.pg_alone.specs.Alone.{FindsAlone, IsAlone, has_no_place, is_above_all}
 use Rattle.pg_alone.specs.declared.alone.Alone.{Alone}
+use Rattle.pg_column.specs.Numbers.{text_room}
+use Rattle.pg_column.specs.declared.cost.TextRoom.{TextRoom}
 use Rattle.pg_command.specs.Lines.{status_of}
 use Rattle.pg_command.specs.declared.status.Status.TheVariants.{Done, Usage}
 use Rattle.pg_fault_lines.specs.Spots.{line_at, tells_of}
@@ -22,7 +24,7 @@ use Rattle.pg_plan.specs.declared.states.State.{State}
 use Rattle.pg_reasons.specs.Reasons.{TellsFault}
 use Rattle.pg_rules.specs.ColumnRules.{does_fit}
 use Rattle.pg_rules.specs.Legal.{Legal, document}
-use Rattle.pg_rules.specs.Room.{ColumnContext, Document, is_text, room}
+use Rattle.pg_rules.specs.Room.{ColumnContext, Document, is_text}
 use Rattle.pg_scan.specs.Lines.{joined, lines_of, trimmed}
 use Rattle.pg_style.specs.Values.{StyleValue}
 use Rattle.pg_table.specs.declared.table.Entry.{Entry}
@@ -40,11 +42,11 @@ module _ (galley : GalleyValue) (style : StyleValue) where
       (none it.slot it.number it.size alone.size)
 
   -- of a column that stands there one rule is told
-  no_other_rule : (from to : Place) (picks : List ℕ) (height : ℤ) (told other : Option ℕ) (it : ColumnContext) →
+  no_other_rule : (from to : Place) (picks : List ℕ) (held : TextRoom) (told other : Option ℕ) (it : ColumnContext) →
       it.document ≡ document galley style → it.column.from ≡ from → it.column.picks ≡ picks → it.column.to ≡ to →
-      room it ≡ height → does_fit it ≡ true → is_text it ≡ true → told ≢ other →
-      TellsFault galley style from picks to height told → TellsFault galley style from picks to height other → ⊥
-  no_other_rule from to picks height told other it doc starts picked ends high fits text differ one two =
+      text_room it ≡ held → does_fit it ≡ true → is_text it ≡ true → told ≢ other →
+      TellsFault galley style from picks to held told → TellsFault galley style from picks to held other → ⊥
+  no_other_rule from to picks held told other it doc starts picked ends high fits text differ one two =
       differ (sym (one it doc starts picked ends high fits text) ∙ two it doc starts picked ends high fits text)
 
   -- ---- pages, and how far beginnings come

@@ -1,10 +1,13 @@
 //! What forbids pages.
-ghost use Rattle.std.specs.Prelude.{◌≡◌, ◌<◌, ◌^◌, nat_abs};
+ghost use Rattle.std.specs.Prelude.{◌≡◌};
 ghost use Rattle.pg_alone.specs.Alone.{FindsAlone};
+ghost use Rattle.pg_alone.specs.Notes.{high_note as high_note_of};
+ghost use Rattle.pg_column.specs.Numbers.{IsRoom};
 ghost use Rattle.pg_floats.specs.AreFloats.{AreFloats};
 ghost use Rattle.pg_reasons.specs.Reasons.{TellsFault};
 
-use pg_alone::Alone;
+use pg_alone::{Alone, HighNote};
+use pg_column::TextRoom;
 use pg_floats::FloatList;
 use pg_list::{Galley, Place};
 use pg_style::Style;
@@ -17,6 +20,13 @@ pub fn first_alone(galley: &Galley, style: &Style, list: &FloatList) -> Option<A
     pg_alone::first_alone(galley, style, list)
 }
 
+/// The first note that is above the limit of its class.
+pub fn high_note(galley: &Galley, style: &Style) -> Option<HighNote>
+    ensures { result ≡ high_note_of galley.now style.now }
+{
+    pg_alone::high_note(galley, style)
+}
+
 /// The least rule on its text that a column breaks.
 pub fn rule_at(
     galley: &Galley,
@@ -24,10 +34,10 @@ pub fn rule_at(
     from: Place,
     picks: &[u32],
     to: Place,
-    room: i64,
+    room: &TextRoom,
 ) -> Option<u8>
-    requires { nat_abs room < 2 ^ 40 }
-    ensures { TellsFault galley.now style.now from picks.now to room result }
+    requires { IsRoom room.now }
+    ensures { TellsFault galley.now style.now from picks.now to room.now result }
 {
     pg_reasons::rule_at(galley, style, from, picks, to, room)
 }

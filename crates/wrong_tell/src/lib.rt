@@ -6,13 +6,15 @@
 #![tactic(auto)]
 
 mod causes;
+mod changes;
 mod lines;
 mod parts;
 mod pieces;
 mod searches;
 mod told;
 
-pub use causes::{first_alone, rule_at};
+pub use causes::{first_alone, high_note, rule_at};
+pub use changes::try_number;
 pub use lines::{key_line, line_text};
 pub use parts::{price_columns, sum_of};
 pub use pieces::print;

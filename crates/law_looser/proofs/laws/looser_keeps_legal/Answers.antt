@@ -1,3 +1,4 @@
+use Rattle.law_looser.proofs.Counts.{more_counts}
 use Rattle.law_looser.proofs.Looser.{less_text, more_looseness, more_tolerance}
 use Rattle.law_looser.proofs.laws.looser_keeps_legal.Goals as goal
 
@@ -9,3 +10,6 @@ returns-clause-looseness c = more_looseness c.args.galley.now c.args.style.now
 
 pub returns-clause-text : goal.returns-clause-text
 returns-clause-text c = less_text c.args.galley.now c.args.style.now
+
+pub returns-clause-counts : goal.returns-clause-counts
+returns-clause-counts c = more_counts c.args.galley.now c.args.style.now

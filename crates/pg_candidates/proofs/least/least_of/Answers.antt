@@ -1,4 +1,4 @@
-use Rattle.std.proofs.Common.{◌∙◌, ap, rules, w64, to_z, of_z, ℤ, ◌≡◌}
+use Rattle.std.proofs.Common.{◌∙◌, ap, rules, w64, to_z, of_z, ℤ}
 use Rattle.std.specs.Prelude.{int_le}
 use Rattle.std.proofs.lemmas.Int.{to_z-of_z}
 use Rattle.pg_rules.specs.Legal.{document}
@@ -6,15 +6,10 @@ use Rattle.pg_candidates.specs.View.{candidate_of}
 use Rattle.pg_candidates.proofs.TooLow.{least_is}
 use Rattle.pg_candidates.proofs.least.least_of.Goals as goal
 
-pub returns-clause-least : goal.returns-clause-least
-returns-clause-least c = λ g.
-    let from = to_z-of_z w64 c.from.result (record { sfits = search rules }) in
+pub returns : goal.returns
+returns c = λ g.
     let least = to_z-of_z w64 c.least_room.result (record { sfits = search rules }) in
-    let text = to_z-of_z w64 c.greater-text.result (record { sfits = search rules }) in
-    let min : c.from.result ≡ c.args.style.now.min_text = search rules in
     let own = to_z-of_z w64 c.raised.result (record { sfits = search rules }) in
     least_is (document g c.args.style.now) (candidate_of c.args.candidate.now) (to_z w64 (of_z w64 c.least_room.result))
-    (to_z w64 (of_z w64 c.from.result)) (to_z w64 (of_z w64 c.greater-text.result)) (to_z w64 (of_z w64 c.raised.result))
-    (least ∙ c.least_room.ensures.value) (from ∙ min)
-    (λ z. ap (λ (y : ℤ). int_le y z) text ∙ c.greater-text.ensures.both z)
+    (to_z w64 (of_z w64 c.raised.result)) (least ∙ c.least_room.ensures.value)
     (λ z. ap (λ (y : ℤ). int_le y z) own ∙ c.raised.ensures.both z)

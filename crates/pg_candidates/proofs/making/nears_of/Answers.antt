@@ -13,6 +13,7 @@ each-preserved c =
     let done = take c.each.it-index c.args.order.now in
     record {
       seen = subst (λ (is : List ℕ). AreSeen (document c.args.galley.now c.args.style.now)
+          c.args.most.now.stretch
           (map candidate_of c.args.candidates.now) is c.in_ok-first.first c.add_near.new.nears.items)
           (sym (ap (map at) (next_at c.args.order.now c.each.it-index
           (record { rank = 0; pick_demerits = pos 0; at = 0 }) c.each-test.true)
@@ -23,5 +24,6 @@ each-preserved c =
 pub returns : goal.returns
 returns c =
     subst (λ (its : List Ranked). AreServed (document c.args.galley.now c.args.style.now)
+    c.args.most.now.stretch
     (map candidate_of c.args.candidates.now) (map (λ (it : Ranked). it.at) its) c.each.nears.items)
     (take_all c.each.it-index c.args.order.now c.each-test.false) c.each.invariant.seen.served

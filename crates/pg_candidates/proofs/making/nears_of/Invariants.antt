@@ -7,6 +7,6 @@ use Rattle.pg_candidates.proofs.making.nears_of.Given as goal
 
 abbrev pub invariant-each : goal.invariant-each
 invariant-each l = record {
-  seen : AreSeen (document l.galley l.style) (map candidate_of l.candidates)
+  seen : AreSeen (document l.galley l.style) l.most.stretch (map candidate_of l.candidates)
       (map (λ (it : Ranked). it.at) (take l.it-index l.order)) l.first l.nears.items;
 }

@@ -13,6 +13,6 @@ returns c = λ g one there to kind worst.
     same_Some _ _ (sym (found_at c.args.candidates.now c.args.first.at c.in_ok-one.one.now
     c.in_ok-one.ensures.lookup.0 c.in_ok-one.ensures.lookup.1) ∙ there) in
     subst (λ (x : Candidate). IfSome c.until_beside.result
-    (IsServedFrom (document g c.args.style.now) x (candidate_of c.args.candidate.now))) is
+    (IsServedFrom (document g c.args.style.now) c.args.most.now.stretch x (candidate_of c.args.candidate.now))) is
     (c.until_beside.ensures g (ap (λ (x : Candidate). x.to) is ∙ to) kind
-    (subst (λ (x : Candidate). IfSome c.args.first.worst (IsWorst c.args.style.now x)) (sym is) worst))
+    (subst (λ (x : Candidate). IfSome c.args.first.worst (IsWorst c.args.style.now c.args.most.now.stretch x)) (sym is) worst))

@@ -1,6 +1,5 @@
-use Rattle.std.proofs.Common.{arith, sym, ap, subst, ◌∙◌, ◌≡◌, ◌<◌, ◌≤◌, ◌^◌, length, ℕ, List, w64, to_z, of_z}
+use Rattle.std.proofs.Common.{arith, refl, sym, ap, subst, ◌∙◌, ◌≡◌, ◌<◌, ◌≤◌, ◌^◌, length, ℕ, List}
 use Rattle.std.specs.List.{AllByRecursion}
-use Rattle.std.proofs.lemmas.Int.{to_z-of_z}
 use Rattle.pg_list.specs.declared.blocks.Block.{Block}
 use Rattle.pg_list.specs.declared.galley.Place.{Place}
 use Rattle.pg_list.specs.Counts.{item_count}
@@ -31,10 +30,10 @@ ahead-init c =
       style = c.start-walked.ensures.style;
       sums = omega (arith, few, count, c.blocks_of-blocks.ensures.count, c.start-walked.ensures.counts.0);
       notes = omega (arith, few, count, c.blocks_of-blocks.ensures.count, c.start-walked.ensures.counts.1);
-      same = ap (λ (w : Walked). walk_to (document c.args.galley.now c.args.style.now) (to_z w64 (of_z w64 c.args.room))
+      same = ap (λ (w : Walked). walk_to (document c.args.galley.now c.args.style.now) c.args.room.now
           c.is_end-is_end.result c.args.to w (flat_items_at bs c.settled-at.result c.args.picks.now))
           c.start-walked.ensures.value
-          ∙ ap (walk_to (document c.args.galley.now c.args.style.now) (to_z w64 (of_z w64 c.args.room))
+          ∙ ap (walk_to (document c.args.galley.now c.args.style.now) c.args.room.now
           c.is_end-is_end.result c.args.to started)
           (ap (λ (q : Place). flat_items_at bs q c.args.picks.now) c.settled-at.ensures
           ∙ settle bs c.args.start c.args.picks.now);
@@ -45,13 +44,13 @@ returns-then-is_reached c =
     let bs = c.blocks_of-blocks.result.now in
     let all = subst (AllByRecursion IsBlock) (sym c.blocks_of-blocks.ensures.blocks) c.blocks_of-blocks.ensures.shape in
     let doc = document c.args.galley.now c.args.style.now in
-    let room = to_z w64 (of_z w64 c.args.room) in
+    let room = c.args.room.now in
     walk_here bs all c.ahead.at c.ahead.left.now c.ahead.invariant.settled c.ahead.invariant.named doc room
     c.is_end-is_end.result c.args.to (view c.ahead.walked) c.in-Some.item.now (sym c.in-Some.ensures)
     (sym c.is_reached.ensures ∙ c.if-is_reached.true)
     ∙ (c.ahead.invariant.same
-    ∙ walk_last bs c.args.galley.now.blocks c.blocks_of-blocks.ensures.blocks doc room c.args.room
-    (to_z-of_z w64 c.args.room (record { sfits = c.ranges.room.sfits })) c.is_end-is_end.result c.args.to
+    ∙ walk_last bs c.args.galley.now.blocks c.blocks_of-blocks.ensures.blocks doc room room refl
+    c.is_end-is_end.result c.args.to
     c.args.start c.args.picks.now c.is_end-is_end.ensures started)
 
 pub pass-requires-clause-range : goal.pass-requires-clause-range
@@ -96,7 +95,7 @@ ahead-preserved c =
     let bs = c.blocks_of-blocks.result.now in
     let all = subst (AllByRecursion IsBlock) (sym c.blocks_of-blocks.ensures.blocks) c.blocks_of-blocks.ensures.shape in
     let doc = document c.args.galley.now c.args.style.now in
-    let room = to_z w64 (of_z w64 c.args.room) in
+    let room = c.args.room.now in
     let e = sym c.in-Some.ensures in
     let at : settled bs (next_index (item_place bs c.ahead.at c.ahead.left.now)) ≡ c.settled-at-in-Some.result =
     sym (c.settled-at-in-Some.ensures
@@ -135,10 +134,10 @@ returns c =
     let bs = c.blocks_of-blocks.result.now in
     let all = subst (AllByRecursion IsBlock) (sym c.blocks_of-blocks.ensures.blocks) c.blocks_of-blocks.ensures.shape in
     let doc = document c.args.galley.now c.args.style.now in
-    let room = to_z w64 (of_z w64 c.args.room) in
+    let room = c.args.room.now in
     walk_none bs all c.ahead.at c.ahead.left.now c.ahead.invariant.settled c.ahead.invariant.named doc room
     c.is_end-is_end.result c.args.to (view c.ahead.walked) (sym c.in_default.ensures)
     ∙ (c.ahead.invariant.same
-    ∙ walk_last bs c.args.galley.now.blocks c.blocks_of-blocks.ensures.blocks doc room c.args.room
-    (to_z-of_z w64 c.args.room (record { sfits = c.ranges.room.sfits })) c.is_end-is_end.result c.args.to
+    ∙ walk_last bs c.args.galley.now.blocks c.blocks_of-blocks.ensures.blocks doc room room refl
+    c.is_end-is_end.result c.args.to
     c.args.start c.args.picks.now c.is_end-is_end.ensures started)

@@ -1,12 +1,12 @@
 use Rattle.pg_outside.specs.Outside.{sent}
 use Rattle.std.proofs.Common.{rules}
 use Rattle.pg_command.specs.Words.{named}
-use Rattle.pg_command.specs.Lines.{status_of}
+use Rattle.pg_command.specs.Lines.{line_of, status_of}
 use Rattle.pg_course.specs.Counted.{CountsRun}
 use Rattle.pg_course.specs.Course.{opened, opened_style}
 use Rattle.pg_course.proofs.Checks.{all_told}
 use Rattle.pg_course.proofs.Counts.{still_run, read_counts, unless_memory, whatever}
-use Rattle.pg_course.proofs.Runs.{styled_begins}
+use Rattle.pg_course.proofs.Runs.{styled_begins, styled_ends}
 use Rattle.pg_course.specs.declared.product.Product.TheVariants.{Comparison}
 use Rattle.pg_course.proofs.compare.compare_course.Goals as goal
 
@@ -18,7 +18,12 @@ returns-in-Err-clause-counted g c =
 
 pub returns-in-Ok-clause-goes : goal.returns-in-Ok-clause-goes
 returns-in-Ok-clause-goes g c = record {
-  settled = search rules;
+  settled =
+      styled_ends (g.H.Shelf.held c.args.shelf.now) (g.H.Shelf.held c.open_style.new.shelf)
+      (named c.args.style.now) c.in-Ok.style c.args.galley.now Comparison c.args.wrap
+      (sent g.O.Sink.written g.O.Sink.writes c.args.out.now) (sent g.O.Sink.written g.O.Sink.writes c.run_file.new.out)
+      (status_of c.run_file.result) (line_of c.run_file.result) c.in-Ok.ensures.style c.open_style.ensures.same
+      c.run_file.ensures.goes.settled;
   read = search rules;
   read_keeps = search rules;
   write = search rules;

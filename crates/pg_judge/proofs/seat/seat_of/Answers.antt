@@ -1,8 +1,9 @@
 use Rattle.std.proofs.Common.{rules, sym, subst, ap, ◌∙◌, ◌<◌, ◌^◌, ℤ, w64}
 use Rattle.std.specs.Prelude.{nat_abs, not}
 use Rattle.std.proofs.lemmas.Int.{to_z-of_z}
+use Rattle.pg_style.specs.declared.style.Give.{Give}
 use Rattle.pg_floats.specs.Given.{IsAreaHeight}
-use Rattle.pg_judge.proofs.Seating.{bottom_height_is, is_seat, top_height_is, wide_is}
+use Rattle.pg_judge.proofs.Seating.{bottom_height_is, gives_small, is_seat, top_height_is, wide_is}
 use Rattle.pg_judge.proofs.seat.seat_of.Goals as goal
 
 pub returns-clause-heights : goal.returns-clause-heights
@@ -12,6 +13,14 @@ returns-clause-heights c =
     let wide = sym (to_z-of_z w64 c.unwrap_or.result (record { sfits = search rules })) in
     let top = sym (to_z-of_z w64 c.top_area.result (record { sfits = search rules })) in
     let bottom = sym (to_z-of_z w64 c.bottom_area.result (record { sfits = search rules })) in
+    let blocks = c.args.galley.now.blocks in
+    let gives = gives_small c.args.galley.now c.args.style.now c.args.list.now c.requires.list c.stays_in_range.ensures
+    (not c.is_same_place-is_text.result) c.is_top_allowed-is_top_allowed.result
+    c.is_bottom_allowed-is_bottom_allowed.result c.args.column.now c.args.before.now c.args.below.now
+    c.top_give-top_give.result c.bottom_give-bottom_give.result c.is_top_allowed-is_top_allowed.ensures
+    c.is_bottom_allowed-is_bottom_allowed.ensures (c.top_give-top_give.ensures.stretch blocks are)
+    (c.top_give-top_give.ensures.shrink blocks are) (c.bottom_give-bottom_give.ensures.stretch blocks are)
+    (c.bottom_give-bottom_give.ensures.shrink blocks are) in
     record {
       full = subst (λ (z : ℤ). nat_abs z < 2 ^ 33) full c.full_height.ensures.size;
       wide = subst IsAreaHeight (sym c.unwrap_or.ensures ∙ wide) (wide_is c.args.wide c.requires.wide);
@@ -23,6 +32,8 @@ returns-clause-heights c =
           c.requires.list c.stays_in_range.ensures (not c.is_same_place-is_text.result)
           c.is_bottom_allowed-is_bottom_allowed.result c.args.below.now c.args.column.now.bottom c.bottom_area.result
           c.is_bottom_allowed-is_bottom_allowed.ensures (c.bottom_area.ensures c.args.galley.now.blocks are));
+      stretch = subst (λ (give : Give). nat_abs give.stretch < 2 ^ 40) (sym c.plus.ensures.value) gives.0;
+      shrink = subst (λ (give : Give). nat_abs give.shrink < 2 ^ 40) (sym c.plus.ensures.value) gives.1;
     }
 
 pub returns-clause-seat : goal.returns-clause-seat
@@ -32,8 +43,17 @@ returns-clause-seat c = λ placed e f.
     let wide = to_z-of_z w64 c.unwrap_or.result (record { sfits = search rules }) in
     let top = to_z-of_z w64 c.top_area.result (record { sfits = search rules }) in
     let bottom = to_z-of_z w64 c.bottom_area.result (record { sfits = search rules }) in
+    let blocks = c.args.galley.now.blocks in
     is_seat c.args.galley.now c.args.style.now c.args.list.now c.requires.list c.stays_in_range.ensures c.args.column.now
-    c.args.run c.args.wide placed c.args.before.now c.args.below.now _ e f (ap not c.is_same_place-is_text.ensures)
+    c.args.run c.args.wide placed c.args.before.now c.args.below.now _ (record {
+      top = c.top_give-top_give.result;
+      bottom = c.bottom_give-bottom_give.result;
+      whole = c.plus.ensures.value;
+      top_stretch = c.top_give-top_give.ensures.stretch blocks are;
+      top_shrink = c.top_give-top_give.ensures.shrink blocks are;
+      bottom_stretch = c.bottom_give-bottom_give.ensures.stretch blocks are;
+      bottom_shrink = c.bottom_give-bottom_give.ensures.shrink blocks are;
+    }) e f (ap not c.is_same_place-is_text.ensures)
     c.is_top_allowed-is_top_allowed.ensures c.is_bottom_allowed-is_bottom_allowed.ensures c.is_some.ensures
     (full ∙ c.full_height.ensures.value) (wide ∙ c.unwrap_or.ensures)
     (top ∙ c.top_area.ensures c.args.galley.now.blocks are) (bottom ∙ c.bottom_area.ensures c.args.galley.now.blocks are)

@@ -1,10 +1,10 @@
 use Rattle.std.proofs.Common.{◌∙◌, ap, ℕ, subst, sym, List, map}
-use Rattle.std.specs.Prelude.{Contains, ◌≤ℤ◌}
+use Rattle.std.specs.Prelude.{Contains}
 use Rattle.std.specs.List.{AllByRecursion}
 use Rattle.pg_layouts.specs.Layouts.{text_layouts}
-use Rattle.law_walk.specs.Reached.{tallest}
 use Rattle.pg_sources.specs.Document.{doc_of}
 use Rattle.pg_rooms.specs.Laid.{HasSoMany, laid_of}
+use Rattle.pg_rooms.specs.PlaceEnds.{IsPageRoom}
 use Rattle.pg_rooms.specs.declared.laid.Laid.{Laid}
 use Rattle.pg_moves.proofs.AllSteps.{laid_own, text_steps_are}
 use Rattle.pg_moves.proofs.texts.text_steps.Goals as goal
@@ -21,7 +21,7 @@ add_all-requires-clause-laid g c = λ it m. laid_own (doc_of c.args.sources.now)
 pub returns-clause-steps : goal.returns-clause-steps
 returns-clause-steps g c = λ right.
     let now = c.in_ok-ask_all.ensures.right c.args.state.now.place
-    (subst (AllByRecursion (λ (it : Laid). it.room ≤ℤ tallest c.args.sources.now.style.now))
+    (subst (AllByRecursion (λ (it : Laid). IsPageRoom c.args.sources.now.style.now it.room))
     (sym c.as_slice-laid.ensures.value) c.in_ok-layouts.ensures.low) right in
     text_steps_are (doc_of c.args.sources.now) c.args.state.now c.args.ceiling.now c.ask_all.new.self
     c.as_slice-laid.result.now (g.W.Wants.spares c.args.wants.now) c.new-steps.result c.add_all.new.steps
@@ -32,5 +32,5 @@ returns-clause-steps g c = λ right.
 
 pub returns-clause-kept : goal.returns-clause-kept
 returns-clause-kept g c = c.in_ok-ask_all.ensures.right c.args.state.now.place
-    (subst (AllByRecursion (λ (it : Laid). it.room ≤ℤ tallest c.args.sources.now.style.now))
+    (subst (AllByRecursion (λ (it : Laid). IsPageRoom c.args.sources.now.style.now it.room))
     (sym c.as_slice-laid.ensures.value) c.in_ok-layouts.ensures.low)

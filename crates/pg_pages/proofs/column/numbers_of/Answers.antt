@@ -1,5 +1,4 @@
-use Rattle.std.proofs.Common.{refl, sym, ap, ◌∙◌, List, ℕ, w64}
-use Rattle.std.proofs.lemmas.Int.{to_z-of_z}
+use Rattle.std.proofs.Common.{refl, sym, ap, ◌∙◌, List, ℕ}
 use Rattle.pg_rules.specs.Legal.{document}
 use Rattle.pg_column.specs.Fits.{does_fit_from}
 use Rattle.pg_lemmas.proofs.Bools.{not_true}
@@ -18,7 +17,7 @@ judge_from-requires-clause-text c = not_true _ c.requires.text
 pub unreachable-requires : goal.unreachable-requires
 unreachable-requires c =
     let it = seated (document c.args.galley.now c.args.style.now) c.args.seat.now c.args.column.now in
-    let room = to_z-of_z w64 c.args.room (record { sfits = c.ranges.room.sfits }) ∙ c.requires.room in
+    let room = c.requires.room in
     judged it c.judge_from.result (fault_none it c.requires.shape c.stays_in_range.ensures c.requires.rules)
     (c.judge_from.ensures.column it refl refl refl (sym c.as_slice-picks.ensures) (sym room)) c.in-Err.field-0
     c.in-Err.is
@@ -26,6 +25,6 @@ unreachable-requires c =
 pub returns : goal.returns
 returns c =
     let it = seated (document c.args.galley.now c.args.style.now) c.args.seat.now c.args.column.now in
-    let room = to_z-of_z w64 c.args.room (record { sfits = c.ranges.room.sfits }) ∙ c.requires.room in
+    let room = c.requires.room in
     numbered it c.judge_from.result c.in-Ok.numbers
     (c.judge_from.ensures.column it refl refl refl (sym c.as_slice-picks.ensures) (sym room)) c.in-Ok.is

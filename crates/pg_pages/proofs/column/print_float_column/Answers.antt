@@ -1,20 +1,35 @@
-use Rattle.std.proofs.Common.{◌∙◌, ◌++◌, ap, ℕ}
+use Rattle.std.proofs.Common.{◌∙◌, ap, ℕ, ◌++◌}
 use Rattle.std.specs.Prelude.{codes, decimal}
 use Rattle.pg_words.specs.Written.{line}
-use Rattle.pg_pages.specs.PageText.{area}
-use Rattle.pg_pages.specs.Printed.{bare_text, dealt_text, lent}
-use Rattle.pg_pages.proofs.Grown.{on_ok, two_parts}
+use Rattle.pg_pages.specs.SetGlue.{own_sizes}
+use Rattle.pg_pages.specs.Printed.{lent}
+use Rattle.pg_pages.proofs.Grown.{on_ok}
+use Rattle.pg_pages.proofs.SetColumn.{bare_from, bottoms_printable, tops_printable}
 use Rattle.pg_pages.proofs.column.print_float_column.Goals as goal
 
+pub print_top_area-requires : goal.print_top_area-requires
+print_top_area-requires c =
+    tops_printable c.args.style.now (lent c.args.bodies.now) c.args.placed.now.before.now c.args.placed.now.below.now
+    c.args.column.now c.stays_in_range.ensures c.as_slice-3.result.now (c.as_slice-3.ensures.value ∙ c.in_ok-top.ensures
+    ∙ ap own_sizes (c.as_slice.ensures.value ∙ c.in_ok-above.ensures))
+
+pub print_bottom_area-requires : goal.print_bottom_area-requires
+print_bottom_area-requires c =
+    bottoms_printable c.args.style.now (lent c.args.bodies.now) c.args.placed.now.before.now c.args.placed.now.below.now
+    c.args.column.now c.stays_in_range.ensures c.as_slice-4.result.now (c.as_slice-4.ensures.value
+    ∙ c.in_ok-bottom.ensures ∙ ap own_sizes (c.as_slice-2.ensures.value ∙ c.in_ok-below.ensures))
+
 pub returns-clause-ok : goal.returns-clause-ok
-unfolding bare_text
 returns-clause-ok c =
-    let old = c.args.out.now.items in
-    let mid = c.print_number_line.new.out.items in
-    let front = line (codes "without text demerits " ++ decimal c.args.style.now.float_column.demerits) in
-    let first = c.in_ok-print_number_line.ensures.ok
-    ∙ ap (λ (n : ℕ). old ++ line (codes "without text demerits " ++ decimal n)) c.float_demerits.ensures in
-    let floats = area (codes "top") (dealt_text (lent c.args.bodies.now) c.args.placed.now.before.now c.args.column.now.top)
-    ++ area (codes "bottom") (dealt_text (lent c.args.bodies.now) c.args.placed.now.below.now c.args.column.now.bottom) in
-    on_ok c.print_areas.result _ _ (λ printed. two_parts old mid c.print_areas.new.out.items front floats first printed)
-    c.print_areas.ensures.ok
+    on_ok c.print_bottom_area.result _ _
+    (λ printed. bare_from c.args.style.now (lent c.args.bodies.now) c.args.placed.now.before.now
+    c.args.placed.now.below.now c.args.column.now c.args.out.now.items c.print_number_line.new.out.items
+    c.print_top_area.new.out.items c.print_bottom_area.new.out.items c.as_slice-3.result.now c.as_slice-4.result.now
+    (c.as_slice-3.ensures.value ∙ c.in_ok-top.ensures
+    ∙ ap own_sizes (c.as_slice.ensures.value ∙ c.in_ok-above.ensures))
+    (c.as_slice-4.ensures.value ∙ c.in_ok-bottom.ensures
+    ∙ ap own_sizes (c.as_slice-2.ensures.value ∙ c.in_ok-below.ensures))
+    (c.in_ok-print_number_line.ensures.ok
+    ∙ ap (λ (n : ℕ). c.args.out.now.items ++ line (codes "without text demerits " ++ decimal n))
+    c.float_demerits.ensures) c.in_ok-print_top_area.ensures.ok printed)
+    c.print_bottom_area.ensures.ok

@@ -1,10 +1,15 @@
 use Rattle.std.proofs.Common.{sym, ap, subst, ◌∙◌, ◌<◌, ◌^◌, ◌+◌, arith, List, ℕ, ℤ, map, length}
 use Rattle.std.specs.Prelude.{nat_abs, ◌-ℤ◌}
 use Rattle.std.specs.List.{AllByRecursion, range_with_len}
-use Rattle.pg_rules.specs.Floats.{entry}
+use Rattle.pg_rules.specs.Floats.{dealt_from, entry}
+use Rattle.pg_rules.specs.Room.{before_bottom}
 use Rattle.pg_list.specs.Ranges.{IsItemInRange}
 use Rattle.pg_rules.specs.ColumnRules.{text_goal}
 use Rattle.pg_rules.specs.Legal.{document}
+use Rattle.pg_column.specs.Numbers.{IsRoom}
+use Rattle.pg_pages.specs.PageText.{float_bodies}
+use Rattle.pg_pages.proofs.GapLists.{many}
+use Rattle.pg_pages.proofs.Rooms.{bottom_few, top_few}
 use Rattle.pg_pages.specs.Seated.{seated}
 use Rattle.pg_lemmas.proofs.Numbers.{eq_yes}
 use Rattle.pg_pages.proofs.Printed.{behind_long}
@@ -59,11 +64,42 @@ print_read-requires-clause-excess c =
     let rules = c.requires.may.rules in
     let size = sized it c.requires.floats.shape c.stays_in_range.ensures rules in
     let are = c.numbers_of-numbers.ensures size.0 size.1 in
-    let small = subst (λ (z : ℤ). nat_abs z < 2 ^ 40) c.room_of-room.ensures.value c.room_of-room.ensures.size in
+    let small = subst IsRoom c.room_of-room.ensures.value c.room_of-room.ensures.size in
     subst (λ (z : ℤ). nat_abs (z -ℤ c.numbers_of-numbers.result.total) < 2 ^ 52) (sym are.goal)
     (subst (λ (z : ℤ). nat_abs (text_goal it size.0 -ℤ z) < 2 ^ 52) (sym are.total)
     (excess_is_small it c.requires.floats.shape c.stays_in_range.ensures rules size.0 size.1
     c.blocks_of-blocks.ensures.count small c.requires.text))
+
+pub print_read-requires-clause-top : goal.print_read-requires-clause-top
+print_read-requires-clause-top c =
+    let doc = document c.args.galley.now c.args.style.now in
+    let it = seated doc c.args.seat.now c.args.column.now in
+    let counts = c.args.column.now.top in
+    let few = top_few it c.stays_in_range.ensures c.requires.may in
+    let same = many doc c.args.seat.now.before counts in
+    let bodies = ap (λ (xs : List (List (List ℕ))). length (dealt_from 0 xs c.as_slice-3.result.now counts))
+    c.requires.bodies in
+    let before = ap (λ (xs : List ℕ). length (dealt_from 0 (float_bodies doc) xs counts)) c.as_slice-3.ensures in
+    omega (arith, few, same, bodies, before)
+
+pub print_read-requires-clause-bottom : goal.print_read-requires-clause-bottom
+print_read-requires-clause-bottom c =
+    let doc = document c.args.galley.now c.args.style.now in
+    let it = seated doc c.args.seat.now c.args.column.now in
+    let counts = c.args.column.now.bottom in
+    let few = bottom_few it c.stays_in_range.ensures c.requires.may in
+    let below = c.as_slice-4.ensures ∙ c.in_ok-below.ensures
+    ∙ ap (λ (a : List ℕ). map (λ (slot : ℕ). entry a slot + entry c.as_slice-2.result.now slot)
+    (range_with_len 0 (length c.args.bodies.now))) c.as_slice.ensures
+    ∙ ap (λ (b : List ℕ). map (λ (slot : ℕ). entry c.args.seat.now.before slot + entry b slot)
+    (range_with_len 0 (length c.args.bodies.now))) c.as_slice-2.ensures
+    ∙ summed doc c.args.seat.now.before c.args.column.now.top (length c.args.bodies.now)
+    (bodies_long doc _ c.args.bodies.now c.requires.bodies) in
+    let same = many doc (before_bottom it) counts in
+    let bodies = ap (λ (xs : List (List (List ℕ))). length (dealt_from 0 xs c.as_slice-4.result.now counts))
+    c.requires.bodies in
+    let before = ap (λ (xs : List ℕ). length (dealt_from 0 (float_bodies doc) xs counts)) below in
+    omega (arith, few, same, bodies, before)
 
 pub returns-clause-ok : goal.returns-clause-ok
 returns-clause-ok c =

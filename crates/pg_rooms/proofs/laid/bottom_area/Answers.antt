@@ -1,6 +1,6 @@
 use Rattle.std.proofs.Common.{rules, ◌≡◌, ◌∙◌, ap, w64, true}
 use Rattle.std.proofs.lemmas.Int.{to_z-of_z}
-use Rattle.pg_style.specs.Values.{AreaRuleValue}
+use Rattle.pg_style.specs.Values.{AreaRuleValue, StyleValue}
 use Rattle.pg_rules.specs.Floats.{floats}
 use Rattle.pg_rules.specs.Room.{checked_height}
 use Rattle.pg_sources.specs.Document.{doc_of}
@@ -9,7 +9,8 @@ use Rattle.pg_rooms.proofs.laid.bottom_area.Goals as goal
 
 pub returns-clause-value : goal.returns-clause-value
 returns-clause-value c =
-    let rule : c.style.inside.bottom ≡ c.args.sources.now.style.now.bottom = search rules in
+    let rule : c.style.inside.bottom ≡ c.args.sources.now.style.now.bottom =
+    ap (λ (style : StyleValue). style.bottom) c.style.view_is in
     to_z-of_z w64 c.checked_area.result (record { sfits = search rules })
     ∙ height_is (doc_of c.args.sources.now) c.args.sources.now.style.now.bottom c.args.before.now c.args.counts.now
     c.checked_area.result c.requires
@@ -19,7 +20,8 @@ returns-clause-value c =
 
 pub returns-clause-size : goal.returns-clause-size
 returns-clause-size c =
-    let rule : c.style.inside.bottom ≡ c.args.sources.now.style.now.bottom = search rules in
+    let rule : c.style.inside.bottom ≡ c.args.sources.now.style.now.bottom =
+    ap (λ (style : StyleValue). style.bottom) c.style.view_is in
     height_small (doc_of c.args.sources.now) c.args.sources.now.style.now.bottom c.args.before.now c.args.counts.now _
     c.args.sources.now.in_range.blocks c.args.sources.now.in_range.style_in.bottom_in c.requires
     (to_z-of_z w64 c.checked_area.result (record { sfits = search rules })

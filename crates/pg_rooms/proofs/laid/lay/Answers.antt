@@ -1,5 +1,3 @@
-use Rattle.std.proofs.Common.{rules, ◌∙◌, of_z, to_z, w64}
-use Rattle.std.proofs.lemmas.Int.{to_z-of_z}
 use Rattle.pg_sources.specs.Document.{doc_of}
 use Rattle.pg_rooms.specs.Laid.{IsLaidBy}
 use Rattle.pg_rooms.proofs.LaidLemmas.{laid_is}
@@ -14,6 +12,5 @@ returns-clause-laid c =
       below_is = c.in_ok-below.ensures;
     } in
     laid_is (doc_of c.args.sources.now) c.args.state.now c.args.layout c.wide_height-wide.result c.in_ok-before.before
-    c.in_ok-below.below c.in_ok-after.after (to_z w64 (of_z w64 c.room-room.result)) by c.in_ok-after.ensures
-    (to_z-of_z w64 c.room-room.result (record { sfits = search rules })
-    ∙ c.room-room.ensures.value c.args.state.now by)
+    c.in_ok-below.below c.in_ok-after.after c.room-room.result by c.in_ok-after.ensures
+    (c.room-room.ensures.value c.args.state.now by)

@@ -1,15 +1,10 @@
-use Rattle.std.proofs.Common.{rules, ◌∙◌, of_z, to_z, w64}
+use Rattle.std.proofs.Common.{rules, ◌∙◌, w64}
 use Rattle.std.proofs.lemmas.Int.{to_z-of_z}
 use Rattle.pg_sources.specs.Document.{doc_of}
-use Rattle.pg_rooms.proofs.LaidLemmas.{room_is}
+use Rattle.pg_rooms.proofs.LaidLemmas.{whole_is}
 use Rattle.pg_rooms.proofs.laid.room.Goals as goal
 
 pub returns-clause-value : goal.returns-clause-value
-returns-clause-value c = λ u by. to_z-of_z w64 c.room_left.result (record { sfits = search rules })
-    ∙ (c.room_left.ensures.value ∙ room_is (doc_of c.args.sources.now) u c.args.layout.now c.args.wide c.args.before.now
-    c.args.below.now (to_z w64 (of_z w64 c.full_height.result)) (to_z w64 (of_z w64 c.height_or.result))
-    (to_z w64 (of_z w64 c.top_area.result)) (to_z w64 (of_z w64 c.bottom_area.result)) by
-    (to_z-of_z w64 c.full_height.result (record { sfits = search rules }) ∙ c.full_height.ensures.value)
-    (to_z-of_z w64 c.height_or.result (record { sfits = search rules }) ∙ c.height_or.ensures.value)
-    (to_z-of_z w64 c.top_area.result (record { sfits = search rules }) ∙ c.top_area.ensures.value)
-    (to_z-of_z w64 c.bottom_area.result (record { sfits = search rules }) ∙ c.bottom_area.ensures.value))
+returns-clause-value c = λ u by. whole_is (doc_of c.args.sources.now) u c.args.layout.now _ c.areas_give.result
+    (to_z-of_z w64 c.room_size.result (record { sfits = search rules }) ∙ c.room_size.ensures.value u by)
+    (c.areas_give.ensures.value u c.args.wide by)

@@ -1,8 +1,6 @@
-use Rattle.std.proofs.Common.{rules, ◌≡◌, sym, subst, true, ℤ, ◌≤ℤ◌, w64}
-use Rattle.std.proofs.lemmas.Int.{to_z-of_z}
+use Rattle.std.proofs.Common.{sym}
+use Rattle.pg_rooms.specs.PlaceEnds.{IsPageRoom}
 use Rattle.pg_rooms.specs.declared.laid.Laid.{Laid}
-use Rattle.law_walk.specs.Reached.{tallest}
-use Rattle.pg_rooms.specs.PlaceEnds.{has_room}
 use Rattle.pg_rooms.proofs.Kept.{all_contain, has_more}
 use Rattle.pg_rooms.proofs.place_ends.add_rooms.Goals as goal
 
@@ -12,15 +10,11 @@ loop-it-init c = record { has = tt; right = λ from near within calls are. are; 
 pub loop-it-preserved : goal.loop-it-preserved
 loop-it-preserved c = record {
   has = has_more c.loop-it.rooms.items c.add_room.new.rooms.items c.args.laid.now c.loop-it.it-index
-      c.it-item.result c.loop-it-test.true c.it-item.is c.loop-it.invariant.has
-      (subst (λ (z : ℤ). has_room c.add_room.new.rooms.items z ≡ true)
-      (to_z-of_z w64 c.it-item.result.room (record { sfits = search rules })) c.in_ok-add_room.ensures.has)
+      c.it-item.result c.loop-it-test.true c.it-item.is c.loop-it.invariant.has c.in_ok-add_room.ensures.has
       c.in_ok-add_room.ensures.keeps;
   right = λ from near within calls are. c.in_ok-add_room.ensures.right from near
-      (subst (λ (z : ℤ). z ≤ℤ tallest c.args.sources.now.style.now)
-      (sym (to_z-of_z w64 c.it-item.result.room (record { sfits = search rules })))
-      (all_contain (λ (it : Laid). it.room ≤ℤ tallest c.args.sources.now.style.now) c.args.laid.now c.it-item.result
-      within (c.loop-it.it-index, c.loop-it-test.true, sym c.it-item.is)))
+      (all_contain (λ (it : Laid). IsPageRoom c.args.sources.now.style.now it.room) c.args.laid.now c.it-item.result
+      within (c.loop-it.it-index, c.loop-it-test.true, sym c.it-item.is))
       (c.loop-it.invariant.calls calls) (c.loop-it.invariant.right from near within calls are);
   calls = λ calls. c.in_ok-add_room.ensures.calls (c.loop-it.invariant.calls calls);
 }

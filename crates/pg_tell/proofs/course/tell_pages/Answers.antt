@@ -13,6 +13,10 @@ tell_best-requires g c =
     (subst (λ (style : StyleValue). IsBestPages c.args.search.now.galley style c.in-Ok-Some.pages) (sym c.style.ensures)
     best)
 
+pub tell_none-requires : goal.tell_none-requires
+tell_none-requires g c =
+    subst (TellsBestPages c.args.search.now.galley c.args.search.now.style) c.in-Ok-None.field-0-is c.in-Ok-None.ensures
+
 pub returns-in-Ok-Some : goal.returns-in-Ok-Some
 returns-in-Ok-Some g c = told_pages c.args.form c.args.search.now.galley c.galley.result.now c.args.search.now.style
     c.style.result.now c.in-Ok-Some.pages _ _ _ c.galley.ensures c.style.ensures

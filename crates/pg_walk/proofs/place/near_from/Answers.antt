@@ -11,7 +11,8 @@ returns c =
     let doc = document c.args.galley.now c.args.style.now in
     let cs = c.in_ok-candidates.field-0 in
     let top = to_z-of_z w64 c.args.top (record { sfits = c.ranges.top.sfits }) in
-    IfOk-weaker c.into_near.result (AreNear doc cs) (AreNearFrom doc c.args.from c.args.top) (λ it near. record {
+    let most = c.args.most.now.stretch in
+    IfOk-weaker c.into_near.result (AreNear doc most cs) (AreNearFrom doc c.args.from c.args.top most) (λ it near. record {
       candidates = cs;
       found = subst (λ (z : ℤ). AreCandidates doc c.args.from z cs) top c.in_ok-candidates.ensures;
       near = near;

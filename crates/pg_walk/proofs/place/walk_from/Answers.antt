@@ -3,6 +3,7 @@ use Rattle.std.proofs.lemmas.Int.{to_z-of_z}
 use Rattle.pg_rules.specs.Legal.{document}
 use Rattle.law_walk.specs.Candidates.{AreCandidates}
 use Rattle.law_walk.specs.Reached.{quiet}
+use Rattle.pg_candidates.specs.Nears.{AreNear}
 use Rattle.pg_walk.specs.Blocks.{IsAlone}
 use Rattle.pg_walk.proofs.place.walk_from.Goals as goal
 
@@ -20,5 +21,6 @@ returns-clause-near c =
       candidates = c.collect_from.new.found;
       found = subst (λ (z : ℤ). AreCandidates doc c.args.from z c.collect_from.new.found) top
           c.in_ok-told.ensures.found;
-      near = c.in_ok-near.ensures;
+      near = subst (λ (most : ℤ). AreNear doc most c.collect_from.new.found c.in_ok-near.near) c.areas_give.ensures.stretch
+          c.in_ok-near.ensures;
     }

@@ -37,7 +37,8 @@ returns-clause-own c =
 
 pub returns-clause-quiet : goal.returns-clause-quiet
 returns-clause-quiet c =
-    first_quiet c.walk_on.result (document c.args.galley.now c.args.style.now) c.args.top _
+    first_quiet c.walk_on.result (document c.args.galley.now c.args.style.now)
+    c.has_classes.ensures c.args.top _
     (to_z-of_z w64 c.args.top (record { sfits = c.ranges.top.sfits })) c.args.from (view c.nothing.result)
     c.nothing.ensures.value _ c.first-ahead.ensures.items _ c.first-ahead.ensures.front c.walk_on.ensures.past
     c.walk_on.ensures.reach c.walk_on.ensures.quiet

@@ -1,4 +1,4 @@
-use Rattle.std.proofs.Common.{map, take}
+use Rattle.std.proofs.Common.{map, take, ℤ, ◌≤ℤ◌}
 use Rattle.std.specs.List.{AllByRecursion}
 use Rattle.pg_rules.specs.Legal.{document}
 use Rattle.law_walk.specs.Best.{AreBest}
@@ -10,9 +10,10 @@ use Rattle.pg_candidates.proofs.near.NearList.room_ends.Given as goal
 
 abbrev pub invariant-each : goal.invariant-each
 invariant-each l = record {
-  best : AllByRecursion (IsNearIn (document l.galley l.style) (map candidate_of l.candidates))
+  best : (most : ℤ) → l.room.give.stretch ≤ℤ most →
+      AllByRecursion (IsNearIn (document l.galley l.style) most (map candidate_of l.candidates))
       (take l.near-index l.near-items) →
       AreBest (kept_ends (document l.galley l.style) l.room
-      (needed_in l.room (map candidate_of l.candidates) (take l.near-index l.near-items)))
+      (needed_in l.room.size (map candidate_of l.candidates) (take l.near-index l.near-items)))
       (ends_of (map candidate_of l.candidates) l.ends.items);
 }

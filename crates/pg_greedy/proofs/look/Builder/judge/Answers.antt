@@ -2,6 +2,7 @@ use Rattle.std.proofs.Common.{◌≡◌, ◌∙◌, sym, ap, rules, Some, true, 
 use Rattle.std.proofs.lemmas.Int.{to_z-of_z}
 use Rattle.std.specs.List.{list_any}
 use Rattle.pg_list.specs.Shapes.{is_box}
+use Rattle.pg_rules.specs.Floats.{gap_shrink, gap_stretch}
 use Rattle.pg_greedy.specs.Looking.{items_from, style_of}
 use Rattle.pg_greedy.proofs.Places.{goal_here, some_read, spent_here}
 use Rattle.pg_greedy.proofs.Seen.{judged_seen, judged_unseen}
@@ -26,7 +27,7 @@ returns c =
     let box : list_any is_box (take count items) ≡ true =
     sym (c.has_box.ensures.sums style.topskip style.maxdepth (take count items) c.requires.read.sums)
     ∙ c.if-not-has_box.false in
-    judged_seen style items count _ _ c.is_spent-is_spent.result c.judge_break.result
+    judged_seen style items count _ _ c.is_spent-is_spent.result c.give-give.result c.judge_break.result
     (ap Some (to_z-of_z w64 c.in_ok-penalty.penalty (record { sfits = search rules }))
     ∙ c.in_ok-penalty.ensures.value (some_read items count box))
     box
@@ -39,5 +40,9 @@ returns c =
     c.minus-goal.ensures.value)
     (spent_here c.args.self.now c.requires.builder c.args.from count c.requires.within c.place_at.result
     c.place_at.ensures c.is_spent-is_spent.result c.is_spent-is_spent.ensures.column)
+    (c.give-give.ensures.stretch (take count items) c.requires.read.notes
+    ∙ sym (c.front_has_no_notes.ensures.skips gap_stretch style (take count items)))
+    (c.give-give.ensures.shrink (take count items) c.requires.read.notes
+    ∙ sym (c.front_has_no_notes.ensures.skips gap_shrink style (take count items)))
     (c.judge_break.ensures.cost style.topskip style.maxdepth (take count items) c.requires.read.sums)
     (c.judge_break.ensures.stops style.topskip style.maxdepth (take count items) c.requires.read.sums)

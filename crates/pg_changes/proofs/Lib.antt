@@ -1,0 +1,6 @@
+mod Halved
+mod InOrder
+mod Least
+mod Longer
+mod Own
+mod Ranges
