@@ -1,9 +1,10 @@
 -- The steps of a command, by what was found for its galley.
-use Rattle.std.proofs.Common.{◌≡◌, ◌≤◌, ◌^◌, refl, sym, subst, ℕ, List, [], ◌∷◌, true}
-use Rattle.std.specs.Prelude.{Option, None, Result, Ok, Err, IfSome, OnOk, nat_le}
+use Rattle.std.proofs.Common.{◌≡◌, ◌≤◌, ◌^◌, refl, sym, subst, arith, ℕ, List, [], ◌∷◌, Bool, true, false}
+use Rattle.std.specs.Prelude.{Option, None, Some, Result, Ok, Err, IfSome, OnOk, MatchBool, MatchOption, nat_le}
 use Rattle.pg_list.specs.GalleyValue.{GalleyValue}
 use Rattle.pg_style.specs.Values.{StyleValue}
 use Rattle.pg_floats.specs.AreFloats.{float_total, unknown_class}
+use Rattle.pg_labels.specs.declared.output.Output.{Output}
 use Rattle.pg_edits.specs.declared.script.ScriptStep.{ScriptStep}
 use Rattle.pg_session.specs.SessionValue.{SessionValue}
 use Rattle.pg_session.specs.Sessions.{IsNew}
@@ -13,7 +14,8 @@ use Rattle.pg_outside.specs.Outside.{Held}
 use Rattle.pg_command.specs.declared.status.Status.{Status}
 use Rattle.pg_command.specs.declared.status.Status.TheVariants.{Done, NoLegal, Usage, Refused, ReadFault, WriteFault}
 use Rattle.pg_command.specs.declared.status.Status.TheVariants.{Memory, NotProved}
-use Rattle.pg_course.specs.Counted.{CountsEdit, CountsRun, CountsScript, IsShown, UnlessMemory, made_shows, taken_shows}
+use Rattle.pg_course.specs.Counted.{CountsCheck, CountsEdit, CountsRun, CountsScript, CountsTaken, CountsText, IsShown}
+use Rattle.pg_course.specs.Counted.{UnlessMemory, made_shows, taken_shows}
 use Rattle.pg_greedy.specs.Faults.{greedy_fault}
 use Rattle.pg_course.specs.declared.product.Product.{Product}
 use Rattle.pg_course.specs.declared.product.Product.TheVariants.{Comparison}
@@ -65,6 +67,29 @@ still_edit (Err stop) galley script n = refl
 still_edit (Ok style) (Err stop) script n = refl
 still_edit (Ok style) (Ok galley) script n = still_script style (unseen galley) script n
 
+pub still_text : (output : Result Output Stop) (n : ℕ) → CountsText output n n
+still_text (Err stop) n = refl
+still_text (Ok output) n = omega arith
+
+-- a fact of a galley that is taken, and one of a galley that is not
+either : {A : Type 0} → (class : Option A) (few : Bool) (P Q : Type 0) → P → Q →
+    MatchOption class (MatchBool few P Q) (λ other. Q)
+either (Some other) few P Q p q = q
+either None true P Q p q = p
+either None false P Q p q = q
+
+pub still_taken : (style : StyleValue) (galley : GalleyValue) (output : Result Output Stop) (n : ℕ) →
+    CountsTaken style galley output n n
+still_taken style galley output n =
+    either (unknown_class galley.blocks style) (nat_le (float_total galley.blocks style) (2 ^ 12))
+    (CountsText output n n) (n ≡ n) (still_text output n) refl
+
+pub still_check : (style : Result StyleValue Stop) (galley : Result GalleyValue Stop) (output : Result Output Stop)
+    (n : ℕ) → CountsCheck style galley output n n
+still_check (Err stop) galley output n = refl
+still_check (Ok style) (Err stop) output n = refl
+still_check (Ok style) (Ok galley) output n = still_taken style galley output n
+
 -- ---- a file that was read
 
 -- what is counted behind what was read is counted of what the shelf tells
@@ -91,6 +116,15 @@ pub taken_counted : (style : StyleValue) (galley : GalleyValue) (shown : List Sh
     AreCounted style shown before after → AreCounted style (taken_shows style galley shown) before after
 taken_counted style galley shown before after known few counted =
     subst (λ (xs : List Show). AreCounted style xs before after) (sym (taken_all style galley shown known few)) counted
+
+-- what is counted of an output text that is tested against it
+pub text_counted : (style : StyleValue) (galley : GalleyValue) (output : Result Output Stop) (before after : ℕ) →
+    unknown_class galley.blocks style ≡ None → float_total galley.blocks style ≤ 2 ^ 12 →
+    CountsText output before after → CountsTaken style galley output before after
+text_counted style galley output before after known few counted =
+    let test : nat_le (float_total galley.blocks style) (2 ^ 12) ≡ true =
+    true_le (float_total galley.blocks style) (2 ^ 12) few in
+    rw (known, test) counted
 
 -- a session that was solved or paginated for its galley as it stands showed it
 pub shown_counted : (old new : SessionValue) (before after : ℕ) → IsShown old new before after →

@@ -1,10 +1,11 @@
--- How many steps the solving of a command's galleys may take.
-use Rattle.std.specs.Prelude.{◌≡◌, ◌+◌, ◌≤◌, ◌^◌, ℕ, List, [], nat_le, ⊤, Option, Some, None, Result, Ok, Err, IfSome}
-use Rattle.std.specs.Prelude.{if◌then◌else◌}
+-- How many steps the solving of a command's galleys, and the check of an output text, may take.
+use Rattle.std.specs.Prelude.{◌≡◌, ◌+◌, ◌≤◌, ◌^◌, ℕ, List, [], length, nat_le, ⊤, Option, Some, None, Result, Ok, Err}
+use Rattle.std.specs.Prelude.{IfSome, MatchBool, MatchOption, if◌then◌else◌}
 use Rattle.std.specs.Option.{option_map_or}
 use Rattle.pg_list.specs.GalleyValue.{GalleyValue}
 use Rattle.pg_style.specs.Values.{StyleValue}
 use Rattle.pg_floats.specs.AreFloats.{unknown_class, float_total}
+use Rattle.pg_labels.specs.declared.output.Output.{Output}
 use Rattle.pg_edits.specs.declared.script.ScriptStep.{ScriptStep}
 use Rattle.pg_session.specs.SessionValue.{SessionValue}
 use Rattle.pg_session.specs.Sessions.{above_all}
@@ -19,7 +20,7 @@ use Rattle.pg_command.specs.Words.{lines, heads, compare, fold}
 use Rattle.pg_greedy.specs.Faults.{greedy_fault}
 use Rattle.pg_course.specs.declared.product.Product.{Product}
 use Rattle.pg_course.specs.declared.product.Product.TheVariants.{Pages, Heads, Comparison, Sheets}
-use Rattle.pg_course.specs.Course.{Stop, opened, opened_script, opened_style}
+use Rattle.pg_course.specs.Course.{Stop, opened, opened_output, opened_script, opened_style}
 
 -- the shows of a galley that is taken; one that is refused is not shown
 abbrev pub taken_shows : StyleValue → GalleyValue → List Show → List Show
@@ -51,8 +52,25 @@ CountsEdit (Err stop) galley script before after = after ≡ before
 CountsEdit (Ok style) (Err stop) script before after = after ≡ before
 CountsEdit (Ok style) (Ok galley) script before after = CountsScript style (unseen galley) script before after
 
--- the steps rise by at most the numbers of the command's shows, where the bytes are told; for `make` whatever is told,
--- and for a command that solves no galley they do not rise
+-- an output text that is read takes at most a step for each of its labels
+abbrev pub CountsText : Result Output Stop → ℕ → ℕ → Type 0
+CountsText (Err stop) before after = after ≡ before
+CountsText (Ok output) before after = after ≤ before + length output.labels
+
+-- it is read behind a galley that is taken; one that is refused takes no step
+abbrev pub CountsTaken : StyleValue → GalleyValue → Result Output Stop → ℕ → ℕ → Type 0
+CountsTaken style galley output before after = MatchOption (unknown_class galley.blocks style)
+    (MatchBool (nat_le (float_total galley.blocks style) (2 ^ 12)) (CountsText output before after) (after ≡ before))
+    (λ class. after ≡ before)
+
+-- a check opens each label of its output text at most once, where style, galley and text are read
+abbrev pub CountsCheck : Result StyleValue Stop → Result GalleyValue Stop → Result Output Stop → ℕ → ℕ → Type 0
+CountsCheck (Err stop) galley output before after = after ≡ before
+CountsCheck (Ok style) (Err stop) output before after = after ≡ before
+CountsCheck (Ok style) (Ok galley) output before after = CountsTaken style galley output before after
+
+-- the steps rise by at most the numbers of the command's shows, and of `check` by at most the number of labels that are
+-- tested, where the bytes are told; for `make` whatever is told, and for any other command they do not rise
 abbrev pub IsCounted : Option Command → Option Held → ℕ → ℕ → Type 0
 IsCounted None told before after = after ≡ before
 IsCounted (Some (run style galley labels wrap)) told before after = IfSome told (λ held.
@@ -62,7 +80,9 @@ IsCounted (Some (edit style galley script labels wrap)) told before after = IfSo
     (opened_script script (held script)) before after)
 IsCounted (Some (show galley wrap)) told before after = after ≡ before
 IsCounted (Some (make count)) told before after = AreCounted made_style (one_show (made_galley count)) before after
-IsCounted (Some (check style galley output wrap)) told before after = after ≡ before
+IsCounted (Some (check style galley output wrap)) told before after = IfSome told (λ held.
+    CountsCheck (opened_style (named style) held) (opened galley wrap (held galley))
+    (opened_output output (held output)) before after)
 IsCounted (Some (lines width tolerance around file)) told before after = after ≡ before
 IsCounted (Some (heads style galley wrap)) told before after = IfSome told (λ held.
     CountsRun Heads (opened_style (named style) held) (opened galley wrap (held galley)) before after)

@@ -7,8 +7,8 @@
 //! (`specs/Counted`); `make` tells of the galley that it makes how many pages and
 //! labels it has and what they cost (`specs/Made`); `lines` writes the galley of the variants of a file's paragraphs, and
 //! what it writes reads back to that galley; a yes of `check` shows that what the output text tells is true, and
-//! a no names the first test that fails (`specs/Verdict`); a check of what `run --labels` writes ends with a yes
-//! (`specs/Complete`).
+//! a no names the first test that fails (`specs/Verdict`); a check opens each label of its output text at most once
+//! (`specs/Counted`), and a check of what `run --labels` writes ends with a yes (`specs/Complete`).
 //!
 //! The courses are one (`specs/OneCourse`): for the same words and the same bytes of the files the texts, the ending and the
 //! line are the same; and at each show of an edit the text is that of a run for the galley as it stands, labels too.

@@ -1,5 +1,5 @@
 //! The check of an output text.
-ghost use Rattle.std.specs.Prelude.{◌≡◌, IfOk};
+ghost use Rattle.std.specs.Prelude.{◌≡◌, ◌≤◌, ◌+◌, length, IfOk};
 ghost use Rattle.pg_floats.specs.AreFloats.{AreFloats};
 ghost use Rattle.pg_labels.specs.Reading.{IsFew};
 ghost use Rattle.law_check.specs.Faults.{Checked, IsYesOrMemory};
@@ -12,24 +12,27 @@ use pg_floats::FloatList;
 use pg_labels::Output;
 use pg_list::Galley;
 use pg_style::Style;
+use pg_table::Steps;
 use std::alloc::Global;
 use std::marker::Brand;
-use std::sync::ledger::Blank;
+use std::sync::ledger::Ledger;
 
 // The eight tests in their order, and the answer.
-fn test_all(
+fn test_all<L: Ledger>(
     alloc: Global,
     galley: &Galley,
     style: &Style,
     floats: &FloatList,
     output: &Output,
+    steps: &mut Steps<L>,
 ) -> Result<Proved, No>
     requires floats { AreFloats galley.now.blocks style.now floats.now }
     requires few { IsFew output.now }
-    ensures { Checked galley.now style.now output.now result }
+    ensures checked { Checked galley.now style.now output.now result }
+    ensures bounded { steps.new ≤ steps.old + length output.now.labels }
 {
     test_shown(alloc, galley, style, floats, output)?;
-    test_labels::<Brand, Brand>(alloc, galley, style, floats, output, Blank::new(1))?;
+    test_labels::<Brand, L>(alloc, galley, style, floats, output, steps)?;
     Ok(Proved {
         cost: shown_cost(&output.shown),
         labels: output.labels.as_slice().len() as u32,
@@ -44,20 +47,24 @@ fn test_all(
 /// that stand there, and no legal pagination costs less; or no pagination is legal. What solving the galley tells, with
 /// the labels of the frontier, gets a yes unless memory runs out.
 ///
+/// Whatever the answer, each label is opened at most once, and counted as a step.
+///
 /// Conditions: the list is that of the galley's floats, as `FloatList::of` makes it, and the output has fewer than 2^31
 /// pages, columns and labels.
-pub fn check(
+pub fn check<L: Ledger>(
     alloc: Global,
     galley: &Galley,
     style: &Style,
     floats: &FloatList,
     output: &Output,
+    steps: &mut Steps<L>,
 ) -> Result<Proved, No>
     requires floats { AreFloats galley.now.blocks style.now floats.now }
     requires few { IsFew output.now }
     ensures checked { Checked galley.now style.now output.now result }
     ensures truth { IfOk result (λ proved. ShowsTruth galley.now style.now output.now proved.cost) }
     ensures solved { ShowsSolution galley.now style.now output.now → IsYesOrMemory result }
+    ensures bounded { steps.new ≤ steps.old + length output.now.labels }
 {
     style.stays_in_range();
     // hands on the ranges of the blocks
@@ -65,5 +72,5 @@ pub fn check(
     passed_tests_prove(galley, style);
     frontier_passes(galley, style);
     faults_fail(galley, style);
-    test_all(alloc, galley, style, floats, output)
+    test_all(alloc, galley, style, floats, output, steps)
 }

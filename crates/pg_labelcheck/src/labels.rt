@@ -1,6 +1,6 @@
 //! The tests of the labels: each is a state, they are closed from the start on, and none of them undercuts what is
 //! shown.
-ghost use Rattle.std.specs.Prelude.{◌≡◌, ◌<◌, ◌+◌, ◌^◌};
+ghost use Rattle.std.specs.Prelude.{◌≡◌, ◌<◌, ◌≤◌, ◌+◌, ◌^◌, length};
 ghost use Rattle.pg_floats.specs.AreFloats.{AreFloats};
 ghost use Rattle.pg_labels.specs.Reading.{IsFew};
 ghost use Rattle.law_check.specs.Faults.{shown_cost as shown_cost_of};
@@ -19,7 +19,7 @@ use pg_space::{Document, KeptPages, PageSpace};
 use pg_style::Style;
 use pg_table::Steps;
 use std::alloc::Global;
-use std::sync::ledger::{Blank, Ledger};
+use std::sync::ledger::Ledger;
 
 // The number, from 1, of the label at an index.
 fn number_of(index: usize) -> u32
@@ -70,8 +70,10 @@ fn test_steps<D: Document, L: Ledger>(
     requires labels { labels.now ≡ output.now.labels }
     requires few { IsFew output.now }
     requires before { PassesStart space.now.pages.sources.galley.now space.now.pages.sources.style.now output.now }
-    ensures { Tested (PassesSteps space.now.pages.sources.galley.now space.now.pages.sources.style.now output.now)
+    ensures tested { Tested
+        (PassesSteps space.now.pages.sources.galley.now space.now.pages.sources.style.now output.now)
         space.now.pages.sources.galley.now space.now.pages.sources.style.now output.now result }
+    ensures bounded { steps.new ≤ steps.old + length labels.now }
 {
     best_picks_decide(space.pages.sources.galley, space.pages.sources.style);
     match first_open(alloc, space, labels, steps) {
@@ -132,8 +134,10 @@ fn test_closed<D: Document, L: Ledger>(
     requires labels { labels.now ≡ output.now.labels }
     requires few { IsFew output.now }
     requires before { PassesStates space.now.pages.sources.galley.now space.now.pages.sources.style.now output.now }
-    ensures { Tested (PassesSteps space.now.pages.sources.galley.now space.now.pages.sources.style.now output.now)
+    ensures tested { Tested
+        (PassesSteps space.now.pages.sources.galley.now space.now.pages.sources.style.now output.now)
         space.now.pages.sources.galley.now space.now.pages.sources.style.now output.now result }
+    ensures bounded { steps.new ≤ steps.old + length labels.now }
 {
     test_start(&space.pages, labels, output)?;
     test_steps(alloc, space, labels, output, steps)
@@ -150,8 +154,9 @@ fn test_small<D: Document, L: Ledger>(
     requires labels { labels.now ≡ output.now.labels }
     requires few { IsFew output.now }
     requires before { PassesStates space.now.pages.sources.galley.now space.now.pages.sources.style.now output.now }
-    ensures { Tested (PassesAll space.now.pages.sources.galley.now space.now.pages.sources.style.now output.now)
+    ensures tested { Tested (PassesAll space.now.pages.sources.galley.now space.now.pages.sources.style.now output.now)
         space.now.pages.sources.galley.now space.now.pages.sources.style.now output.now result }
+    ensures bounded { steps.new ≤ steps.old + length labels.now }
 {
     test_closed(alloc, space, labels, output, steps)?;
     test_final(&space.pages, labels, output)
@@ -166,8 +171,9 @@ fn test_in<D: Document, L: Ledger>(
 ) -> Result<(), No>
     requires few { IsFew output.now }
     requires before { PassesText space.now.pages.sources.galley.now space.now.pages.sources.style.now output.now }
-    ensures { Tested (PassesAll space.now.pages.sources.galley.now space.now.pages.sources.style.now output.now)
+    ensures tested { Tested (PassesAll space.now.pages.sources.galley.now space.now.pages.sources.style.now output.now)
         space.now.pages.sources.galley.now space.now.pages.sources.style.now output.now result }
+    ensures bounded { steps.new ≤ steps.old + length output.now.labels }
 {
     test_states(&space.pages, output)?;
     match small_labels(alloc, output.labels.as_slice()) {
@@ -176,27 +182,24 @@ fn test_in<D: Document, L: Ledger>(
     }
 }
 
-/// Tests 4 to 8 of an output, of which the first three pass, with a counter of steps of its own.
+/// Tests 4 to 8 of an output, of which the first three pass. Each label is opened at most once.
 pub(crate) fn test_labels<D: Document, L: Ledger>(
     alloc: Global,
     galley: &Galley,
     style: &Style,
     floats: &FloatList,
     output: &Output,
-    blank: Blank,
+    steps: &mut Steps<L>,
 ) -> Result<(), No>
     requires floats { AreFloats galley.now.blocks style.now floats.now }
     requires galley { galley.now ≡ D.galley }
     requires style { style.now ≡ D.style }
-    requires name { blank.name ≡ L.name }
-    requires parts { blank.parts ≡ L.parts }
-    requires one { blank.parts ≡ 1 }
     requires few { IsFew output.now }
     requires before { PassesText galley.now style.now output.now }
-    ensures { Tested (PassesAll galley.now style.now output.now) galley.now style.now output.now result }
+    ensures tested { Tested (PassesAll galley.now style.now output.now) galley.now style.now output.now result }
+    ensures bounded { steps.new ≤ steps.old + length output.now.labels }
 {
     let index = BreakIndex::of(alloc, galley, style);
     let space = KeptPages::<D>::new(alloc, galley, style, floats, &index);
-    let mut steps = Steps::<L>::new(blank);
-    test_in(alloc, &space, output, &mut steps)
+    test_in(alloc, &space, output, steps)
 }

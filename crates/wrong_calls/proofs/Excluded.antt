@@ -1,12 +1,18 @@
 -- Ends, steps and writes that the clauses of a command and of the program exclude.
 use Rattle.std.proofs.Common.{◌≡◌, ◌≢◌, ◌∙◌, refl, sym, ap, subst, arith, ℕ, zero, suc, ◌+◌, ◌<◌, ◌≤◌, ◌^◌, List, [], length, take, Option, Some, None}
+use Rattle.std.proofs.Common.{Bool, true, false}
+use Rattle.std.specs.Prelude.{MatchBool, MatchOption, Err, Ok, nat_le}
 use Rattle.std.proofs.lemmas.List.{take_all}
 use Rattle.pg_command.specs.Words.{Command, command_of}
 use Rattle.pg_command.specs.declared.status.Status.{Status}
 use Rattle.pg_command.specs.declared.status.Status.TheVariants.{Usage}
 use Rattle.pg_course.specs.Calls.{OverShelf}
-use Rattle.pg_course.specs.Course.{Course}
+use Rattle.pg_course.specs.Counted.{CountsTaken, CountsText}
+use Rattle.pg_course.specs.Course.{Course, Stop}
 use Rattle.pg_course.specs.OneCourse.{CoursesAreOne}
+use Rattle.pg_floats.specs.AreFloats.{float_total, unknown_class}
+use Rattle.pg_labels.specs.declared.output.Output.{Output}
+use Rattle.pg_list.specs.GalleyValue.{GalleyValue}
 use Rattle.pg_outside.specs.Outside.{Held, OverOutput, OverSink, Sends, SendsFront, Sent, advanced, next_number}
 use Rattle.pg_session.specs.Shows.{AreAllCounted, AreCounted, Show}
 use Rattle.pg_style.specs.Values.{StyleValue}
@@ -55,6 +61,26 @@ no_step_where_none_is_shown style before counted = by all.sums all.bounded
 
     by : all.total ≡ 0 → before + 1 ≤ before + all.total → ⊥
     by e low = omega (arith, e, low)
+
+-- nor one by a check, where no output text is read
+no_step_without_a_text : (galley : GalleyValue) (style : StyleValue) (stop : Stop) (before : ℕ) →
+    CountsTaken style galley (Err stop) before (before + 1) → ⊥
+no_step_without_a_text galley style stop before =
+    in_each (unknown_class galley.blocks style) (nat_le (float_total galley.blocks style) (2 ^ 12))
+  where
+    more : before + 1 ≡ before → ⊥
+    more e = omega (arith, e)
+
+    in_each : {A : Type 0} → (class : Option A) (few : Bool) →
+        MatchOption class (MatchBool few (before + 1 ≡ before) (before + 1 ≡ before)) (λ other. before + 1 ≡ before) → ⊥
+    in_each (Some other) few e = more e
+    in_each None true e = more e
+    in_each None false e = more e
+
+-- and none behind those for its labels, as where a label is opened twice
+no_step_more_than_labels : (output : Output) (before : ℕ) →
+    CountsText (Ok output) before (before + length output.labels + 1) → ⊥
+no_step_more_than_labels output before low = omega (arith, low)
 
 -- ---- writes, below the last number that a count can show
 

@@ -60,7 +60,7 @@ pub fn edit_course<'a, H: Shelf, O: Sink, L: Ledger>(
 }
 
 /// The command `check`.
-pub fn check_course<'a, H: Shelf, O: Sink>(
+pub fn check_course<'a, H: Shelf, O: Sink, L: Ledger>(
     alloc: Global,
     style: &'a str,
     galley: &'a str,
@@ -68,13 +68,17 @@ pub fn check_course<'a, H: Shelf, O: Sink>(
     wrap: Option<u32>,
     shelf: &mut H,
     out: &mut O,
+    steps: &mut Steps<L>,
 ) -> Ending<'a>
     ensures goes { Goes (Some (check_command style.now galley.now output.now wrap))
         (over_shelf (H.held shelf.old) (H.faults shelf.old) (H.faults shelf.new) (H.last_failed shelf.new))
         (over_output O.written O.writes O.faults out.old out.new) result }
+    ensures counted { UnlessMemory (status_of result)
+        (IsCounted (Some (check_command style.now galley.now output.now wrap)) (H.held shelf.old)
+        steps.old steps.new) }
     ensures complete { IsComplete (Some (check_command style.now galley.now output.now wrap))
         (over_shelf (H.held shelf.old) (H.faults shelf.old) (H.faults shelf.new) (H.last_failed shelf.new))
         (over_output O.written O.writes O.faults out.old out.new) (status_of result) }
 {
-    pg_course::check_course(alloc, style, galley, output, wrap, shelf, out)
+    pg_course::check_course(alloc, style, galley, output, wrap, shelf, out, steps)
 }

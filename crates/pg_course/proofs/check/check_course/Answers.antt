@@ -1,13 +1,23 @@
 use Rattle.std.proofs.Common.{◌≡◌, subst, sym}
-use Rattle.std.specs.Prelude.{IfSome, Ok, Option, Some}
+use Rattle.std.specs.Prelude.{IfSome, Ok, Option, Result, Some}
+use Rattle.pg_style.specs.Values.{StyleValue}
 use Rattle.pg_outside.specs.Outside.{Held, output_over, sent}
 use Rattle.pg_command.specs.Lines.{status_of}
 use Rattle.pg_command.specs.Words.{check, named}
 use Rattle.pg_course.specs.Calls.{over_shelf}
-use Rattle.pg_course.specs.Course.{opened_style}
-use Rattle.pg_course.proofs.Checks.{goes_earlier}
+use Rattle.pg_course.specs.Counted.{CountsCheck}
+use Rattle.pg_course.specs.Course.{Stop, opened, opened_output, opened_style}
+use Rattle.pg_course.proofs.Checks.{all_told, goes_earlier}
 use Rattle.pg_course.proofs.Complete.{complete_earlier, no_style_complete}
+use Rattle.pg_course.proofs.Counts.{read_counts, still_check, whatever}
 use Rattle.pg_course.proofs.check.check_course.Goals as goal
+
+pub returns-in-Err-clause-counted : goal.returns-in-Err-clause-counted
+returns-in-Err-clause-counted g c =
+    whatever (status_of c.in-Err.ending) (all_told (g.H.Shelf.held c.args.shelf.now) (λ held.
+    still_check (opened_style (named c.args.style.now) held)
+    (opened c.args.galley.now c.args.wrap (held c.args.galley.now))
+    (opened_output c.args.output.now (held c.args.output.now)) c.args.steps.now))
 
 pub returns-in-Err-clause-complete : goal.returns-in-Err-clause-complete
 returns-in-Err-clause-complete g c =
@@ -31,6 +41,16 @@ returns-in-Ok-clause-goes g c =
     (c.check_styled.ensures.goes c.args.style.now
     (subst (λ (t : Option Held). IfSome t (λ held. opened_style (named c.args.style.now) held ≡ Ok c.in-Ok.style))
     (sym c.open_style.ensures.same) c.in-Ok.ensures.style))
+
+pub returns-in-Ok-clause-counted : goal.returns-in-Ok-clause-counted
+returns-in-Ok-clause-counted g c =
+    whatever (status_of c.check_styled.result)
+    (read_counts (g.H.Shelf.held c.args.shelf.now) (g.H.Shelf.held c.open_style.new.shelf)
+    (λ held. opened_style (named c.args.style.now) held) c.in-Ok.style
+    (λ (said : Result StyleValue Stop) (held : Held). CountsCheck said
+    (opened c.args.galley.now c.args.wrap (held c.args.galley.now))
+    (opened_output c.args.output.now (held c.args.output.now)) c.args.steps.now c.check_styled.new.steps)
+    c.open_style.ensures.same c.in-Ok.ensures.style c.check_styled.ensures.counted)
 
 pub returns-in-Ok-clause-complete : goal.returns-in-Ok-clause-complete
 returns-in-Ok-clause-complete g c =

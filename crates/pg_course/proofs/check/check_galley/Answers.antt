@@ -4,8 +4,10 @@ use Rattle.pg_outside.specs.Outside.{output_over, sent}
 use Rattle.pg_command.specs.declared.ending.Ending.{Ending}
 use Rattle.pg_command.specs.Words.{check}
 use Rattle.pg_course.specs.Calls.{Goes, over_shelf}
-use Rattle.pg_course.proofs.Checks.{refused_goes, taken_goes}
+use Rattle.pg_course.specs.Course.{opened_output}
+use Rattle.pg_course.proofs.Checks.{all_told, if_some, refused_goes, taken_goes}
 use Rattle.pg_course.proofs.Complete.{goes_complete}
+use Rattle.pg_course.proofs.Counts.{still_taken, text_counted}
 use Rattle.pg_course.proofs.check.check_galley.Goals as goal
 
 pub returns-in-Err-clause-goes : goal.returns-in-Err-clause-goes
@@ -19,6 +21,11 @@ returns-in-Err-clause-goes g c = λ style galley wrap are.
     (over_shelf told before before last) (output_over old old faults faults) end) (sym c.float_ending.ensures)
     (refused_goes style galley c.args.name.now wrap c.args.style.now c.args.galley.now told before last old faults
     c.in-Err.fault c.in-Err.ensures are)
+
+pub returns-in-Err-clause-counted : goal.returns-in-Err-clause-counted
+returns-in-Err-clause-counted g c = all_told (g.H.Shelf.held c.args.shelf.now) (λ held.
+    still_taken c.args.style.now c.args.galley.now (opened_output c.args.name.now (held c.args.name.now))
+    c.args.steps.now)
 
 pub returns-in-Err-clause-complete : goal.returns-in-Err-clause-complete
 returns-in-Err-clause-complete g c = λ style galley wrap are.
@@ -38,6 +45,12 @@ returns-in-Ok-clause-goes g c = λ style galley wrap are.
     (output_over (sent g.O.Sink.written g.O.Sink.writes c.args.out.now) (sent g.O.Sink.written g.O.Sink.writes c.check_file.new.out)
     (g.O.Sink.faults c.args.out.now) (g.O.Sink.faults c.check_file.new.out)) c.check_file.result
     c.in-Ok.ensures.1 c.in-Ok.ensures.2 are c.check_file.ensures.goes
+
+pub returns-in-Ok-clause-counted : goal.returns-in-Ok-clause-counted
+returns-in-Ok-clause-counted g c =
+    if_some (g.H.Shelf.held c.args.shelf.now) (λ held counted.
+    text_counted c.args.style.now c.args.galley.now (opened_output c.args.name.now (held c.args.name.now))
+    c.args.steps.now c.check_file.new.steps c.in-Ok.ensures.1 c.in-Ok.ensures.2 counted) c.check_file.ensures.counted
 
 pub returns-in-Ok-clause-complete : goal.returns-in-Ok-clause-complete
 returns-in-Ok-clause-complete g c = λ style galley wrap are.

@@ -11,8 +11,8 @@ test_in-requires-clause-before g c = of_equal
     (λ (galley : GalleyValue) (style : StyleValue). PassesText galley style c.args.output.now) c.args.galley.now _
     c.args.style.now _ (sym c.new-space.ensures.galley) (sym c.new-space.ensures.style) c.requires.before
 
-pub returns : goal.returns
-returns g c = of_equal
+pub returns-clause-tested : goal.returns-clause-tested
+returns-clause-tested g c = of_equal
     (λ (galley : GalleyValue) (style : StyleValue). Tested (PassesAll galley style c.args.output.now) galley style
     c.args.output.now c.test_in.result) _ c.args.galley.now _ c.args.style.now c.new-space.ensures.galley
-    c.new-space.ensures.style c.test_in.ensures
+    c.new-space.ensures.style c.test_in.ensures.tested

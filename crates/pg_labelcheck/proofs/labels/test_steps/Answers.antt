@@ -14,11 +14,11 @@ number_of-requires g c = open_few c.args.space.now.pages.sources.galley.now
     c.in-Ok-Some.open.to c.requires.labels c.requires.few.labels
     (c.in-Ok-Some.ensures.some c.in-Ok-Some.open c.in-Ok-Some.field-0-is)
 
-pub returns-in-Ok-None : goal.returns-in-Ok-None
-returns-in-Ok-None g c = steps_pass _ _ c.args.output.now c.args.labels.now c.requires.labels c.requires.before
-    c.best_picks_decide.ensures.pass (c.in-Ok-None.ensures.none c.in-Ok-None.field-0-is)
+pub returns-in-Ok-None-clause-tested : goal.returns-in-Ok-None-clause-tested
+returns-in-Ok-None-clause-tested g c = steps_pass _ _ c.args.output.now c.args.labels.now c.requires.labels
+    c.requires.before c.best_picks_decide.ensures.pass (c.in-Ok-None.ensures.none c.in-Ok-None.field-0-is)
 
-pub returns-in-Ok-Some : goal.returns-in-Ok-Some
-returns-in-Ok-Some g c = steps_fail _ _ c.args.output.now c.args.labels.now c.in-Ok-Some.open.index
+pub returns-in-Ok-Some-clause-tested : goal.returns-in-Ok-Some-clause-tested
+returns-in-Ok-Some-clause-tested g c = steps_fail _ _ c.args.output.now c.args.labels.now c.in-Ok-Some.open.index
     c.number_of.result c.in-Ok-Some.open.to c.requires.labels c.number_of.ensures c.requires.before
     c.best_picks_decide.ensures.fault (c.in-Ok-Some.ensures.some c.in-Ok-Some.open c.in-Ok-Some.field-0-is)
