@@ -193,4 +193,36 @@ function pg.difference(galley, file)
   return ""
 end
 
+---------------------------------------------------------------- the columns measured
+-- What TeX's page builder makes of a column that was taken apart, without a copy of it: how high the text and its notes
+-- are, in TeX's units, and how many inserts of each class there are. As many of the items dropped behind it as pg@contribute
+-- takes off are left out, or all of them.
+function pg.measure(number, taken_off, topskip, maxdepth, notes)
+  local out = { text = 0, notes = 0, calls = {} }
+  local depth, is_begun, is_over = 0, false, false
+  local function add(n)
+    if is_box(n) then
+      if is_over then out.text = -1 end
+      if not is_begun then out.text = math.max(0, topskip - n.height) end
+      out.text, depth, is_begun = out.text + depth + n.height, n.depth, true
+    elseif n.id == INSERT and n.subtype == notes then out.notes = out.notes + n.height
+    elseif n.id == INSERT then out.calls[n.subtype] = (out.calls[n.subtype] or 0) + 1
+    elseif not is_begun or is_over then return
+    elseif n.id == GLUE then out.text, depth = out.text + depth + n.width, 0
+    elseif n.id == KERN then out.text, depth = out.text + depth + n.kern, 0
+    elseif n.id == PENALTY and n.penalty <= -10000 then is_over = true end
+  end
+  local text = tex.box[number].list
+  for n in node.traverse(text.list) do add(n) end
+  local dropped = {}
+  for n in node.traverse(node.tail(text).list) do dropped[#dropped + 1] = n end
+  local last = taken_off < 0 and 0 or #dropped
+  for _ = 1, taken_off do
+    if last > 0 and is_discardable(dropped[last]) then last = last - 1 end
+  end
+  for k = 1, last do add(dropped[k]) end
+  out.text = out.text + math.max(0, depth - maxdepth)
+  pg.measured = out
+end
+
 return pg

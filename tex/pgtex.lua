@@ -6,6 +6,8 @@
 -- A part ends where no float may go on: at \clearpage, \cleardoublepage, a chapter. The parts are paginated one by
 -- one and joined.
 
+collectgarbage("setpause", 400) -- time is dearer here than memory
+
 local VERSION = "1.0"
 local DATE = "2026-11-30"
 local FORMAT = 3 -- of NAME.pgx
@@ -81,12 +83,15 @@ local function write_file(file, text)
 end
 
 ---------------------------------------------------------------- numbers, as TeX prints them
+local known = {}
 local function units(word) -- of a number of points
+  if known[word] then return known[word] end
   local sign, whole, fraction = word:match("^(-?)(%d+)%.(%d+)$")
   local a = 0
   for i = math.min(#fraction, 17), 1, -1 do a = (a + (fraction:byte(i) - 48) * 131072) // 10 end
   local value = 65536 * math.tointeger(tonumber(whole)) + (a + 1) // 2
-  return sign == "-" and -value or value
+  known[word] = sign == "-" and -value or value
+  return known[word]
 end
 local function integer(word) return math.tointeger(tonumber(word)) end
 local function points(value) return string.format("%.2fpt", value / 65536) end
@@ -571,21 +576,56 @@ local function text_of_floats(pages, log)
   end
   return table.concat(out, "\n") .. "\n"
 end
--- styles like the document's, but for the side of the first page, the columns, and how long floats may wait
-local function new_styles(style)
-  local files = {}
-  return function(first, columns, is_longer)
-    if first == style.first and columns == style.columns and not is_longer then return style.file end
-    local which = first .. columns .. (is_longer and " longer" or "")
-    if not files[which] then
-      files[which] = temporary_name()
-      local text = style.text:gsub("(\n%s*first%s*=%s*)\"%a+\"", "%1\"" .. first .. "\"", 1)
-      text = text:gsub("(\n%s*columns%s*=%s*)%d+", "%1" .. columns, 1)
-      if is_longer then text = text:gsub("(distance = %[0, [%d, ]+)", "%1" .. string.rep(", 100000000", 5)) end
-      write_file(files[which], text)
+-- the style for a part: its text, or another one, but for the side of the first page and the columns
+local function style_for(style, text, first, columns)
+  if text == style.text and first == style.first and columns == style.columns then return style.file end
+  local file = temporary_name()
+  text = text:gsub("(\n%s*first%s*=%s*)\"%a+\"", "%1\"" .. first .. "\"", 1)
+  write_file(file, (text:gsub("(\n%s*columns%s*=%s*)%d+", "%1" .. columns, 1)))
+  return file
+end
+-- in a style of pg.sty a float may wait three pages; where many come together, eight
+local function longer(text) return (text:gsub("(distance = %[0, [%d, ]+)", "%1" .. string.rep(", 100000000", 5))) end
+-- A text of pg.sty without the classes of floats that are not called, and without the waits of a float that cost more than
+-- `most`, so that pg takes less time. With it come the classes that are left, and what the least of the other waits costs.
+local function shorter(text, style, called, most)
+  local used, least, out = {}, math.huge, {}
+  local function waits(list)
+    local kept = {}
+    for digits in list:gmatch("%d+") do
+      local cost = integer(digits)
+      if cost > most then least = math.min(least, cost) break end
+      kept[#kept + 1] = digits
     end
-    return files[which]
+    return "distance = [" .. table.concat(kept, ", ") .. "]"
   end
+  local from = text:find("[[classes]]", 1, true)
+  out[1] = text:sub(1, from - 1)
+  while from do
+    local behind = text:find("[[classes]]", from + 1, true)
+    local class = text:sub(from, behind and behind - 1)
+    local number = integer(class:match("\nnumber = (%d+)"))
+    if not style.is_float[number] then out[#out + 1] = class
+    elseif called[number] then
+      used[number] = true
+      out[#out + 1] = class:gsub("distance = %[(.-)%]", waits)
+    end
+    from = behind
+  end
+  return table.concat(out), used, least
+end
+-- the page text of such a style with the counts of all classes
+local function with_all_classes(text, style, used)
+  local function all(front, word)
+    local given, list, n = counts(word), {}, 0
+    for k, class in ipairs(style.floats) do
+      if used[class.number] then n = n + 1 end
+      list[k] = used[class.number] and given[n] or 0
+    end
+    return front .. (#list > 0 and table.concat(list, ",") or "-")
+  end
+  return (("\n" .. text):gsub("(\npage [^\n]* wide )(%S+)", all)
+    :gsub("(\ncolumn [^\n]* top )(%S+)", all):gsub("(\ncolumn [^\n]* bottom )(%S+)", all):sub(2))
 end
 local function tell_illegal(part, which, blocks, style, style_file, log)
   for _, line in ipairs(explain(part, blocks, style, log)) do complain("%s", line) end
@@ -594,29 +634,45 @@ local function tell_illegal(part, which, blocks, style, style_file, log)
   stop("no legal pagination%s: %d pages can be made, and nothing behind %s:%d%s", which, pages, log.file, item and item.at or 0,
     item and " [" .. item.line .. "]" or "")
 end
+-- What pg writes of a part by a text of pg.sty, or nothing where it refuses or no pagination is legal. No cost of such a
+-- style is below 0. So what costs less than the waits that are left out is best by the whole text as well, and what costs
+-- more says which of them are wanted.
+local WAITS = 1000000
+local function best_of(text, part, first, blocks, style, galley)
+  local called, output = {}, temporary_name()
+  for _, b in ipairs(part.shown) do
+    for _, item in ipairs(blocks[b].versions and blocks[b].versions[1] or { blocks[b].item }) do
+      if item.class then called[item.class] = true end
+    end
+  end
+  local most, cost, least, out, used, other = WAITS, nil, nil, nil, nil, nil
+  repeat
+    other, used, least = shorter(text, style, called, most)
+    out = run_pg("run " .. quoted(style_for(style, other, first, part.columns)) .. " " .. quoted(galley), output) or ""
+    cost = integer(out:match("^pages %d+ cost (%d+)") or "")
+    if cost and cost < least then return with_all_classes(out, style, used) end
+    most = cost or math.huge
+  until least == math.huge
+end
 -- what pg writes of a part that has text
-local function text_of_part(part, which, number, blocks, style, styles, log)
+local function text_of_part(part, which, number, blocks, style, log)
   local galley, output = temporary_name(), temporary_name()
-  local text, read = galley_text(part.shown, blocks, log.root)
-  write_file(galley, text)
+  write_file(galley, part.lines)
   local first = style.first ~= "single" and (number % 2 == 1 and "right" or "left") or style.first
-  local function run(style_file)
-    local out, said = run_pg("run " .. quoted(style_file) .. " " .. quoted(galley), output)
-    if not out then stop("%s", in_words(said, style.file, log, read, told_of(said, style_file, galley))) end
-    return out
+  local texts = style.text:match("^# written by pg.sty") and { style.text, longer(style.text) } or {}
+  for _, text in ipairs(texts) do
+    local out = best_of(text, part, first, blocks, style, galley)
+    if out then return out end
   end
-  local out = run(styles(first, part.columns))
-  -- in a style of pg.sty a float may wait three pages; where many come together, eight
-  if out:match("^no legal pagination") and style.text:match("^# written by pg.sty") then
-    out = run(styles(first, part.columns, true))
-  end
-  if out:match("^no legal pagination") then tell_illegal(part, which, blocks, style, styles(first, part.columns), log) end
+  local style_file = style_for(style, style.text, first, part.columns)
+  local out, said = run_pg("run " .. quoted(style_file) .. " " .. quoted(galley), output)
+  if not out then stop("%s", in_words(said, style.file, log, part.read, told_of(said, style_file, galley))) end
+  if out:match("^no legal pagination") then tell_illegal(part, which, blocks, style, style_file, log) end
   return out
 end
 local function paginate(parts, blocks, style, log)
-  local number, styles = integer(log.page or "1"), new_styles(style)
+  local number = integer(log.page or "1")
   for k, part in ipairs(parts) do
-    show_to_pg(part, blocks)
     number = number_at(part, blocks, number)
     if part.floats_alone then
       local pages, item = pages_of_floats(part, blocks, style)
@@ -625,7 +681,7 @@ local function paginate(parts, blocks, style, log)
       end
       part.pages, part.text = pages, text_of_floats(pages, log)
     else
-      part.text = text_of_part(part, #parts > 1 and " of part " .. k or "", number, blocks, style, styles, log)
+      part.text = text_of_part(part, #parts > 1 and " of part " .. k or "", number, blocks, style, log)
       part.pages = read_pages(part.text)
     end
     number = number + #part.pages
@@ -932,7 +988,7 @@ local function keep_texts(parts, blocks, log)
   local all = {}
   for k, part in ipairs(parts) do
     for _, b in ipairs(part.shown) do all[#all + 1] = b end
-    write_file(name .. "-" .. k .. ".pgg", (galley_text(part.shown, blocks, log.root)))
+    write_file(name .. "-" .. k .. ".pgg", part.lines)
     write_file(name .. "-" .. k .. ".pages", part.text)
   end
   local more = #parts + 1
@@ -1093,7 +1149,8 @@ if #parts == 0 then stop("%s.log: the galley is empty", name) end
 local galley = {}
 for _, part in ipairs(parts) do
   show_to_pg(part, blocks)
-  galley[#galley + 1] = (part.before or "") .. part.columns .. "\n" .. galley_text(part.shown, blocks, log.root)
+  part.lines, part.read = galley_text(part.shown, blocks, log.root)
+  galley[#galley + 1] = (part.before or "") .. part.columns .. "\n" .. part.lines
 end
 galley = table.concat(galley)
 local sum = md5.sumhexa(VERSION .. FORMAT .. (log.bottom or "") .. style.text .. galley)

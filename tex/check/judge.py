@@ -156,7 +156,7 @@ def judge(document, engine, tools, top, prepare=lambda folder: None):
     if document.is_off:
         return judge_off(row, tools, alone, paged)
     is_settled = set_alone(row, tools, alone, prepare)
-    return judge_paged(row, tools, alone, paged, is_settled)
+    return row if row.faults else judge_paged(row, tools, alone, paged, is_settled)
 
 
 def set_alone(row, tools, folder, prepare):
@@ -169,8 +169,10 @@ def set_alone(row, tools, folder, prepare):
         shutil.rmtree(folder, ignore_errors=True)
         runs.write(folder, f"{document.name}.tex", text)
         prepare(folder)
-        _, is_settled = runs.settle(tools, folder, row.engine, document.name)
-        if is_settled:
+        last, is_settled = runs.settle(tools, folder, row.engine, document.name)
+        if not os.path.exists(pdf):
+            row.faults.append(f"LaTeX alone makes no PDF: {last.text.strip()[-200:]}")
+        elif is_settled:
             runs.write(folder, "settled.tex", text)
     row.numbers["alone"] = pages_of(folder, document.name)
     row.own_errors = errors(runs.read(folder, f"{document.name}.log") or "")
