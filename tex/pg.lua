@@ -225,4 +225,12 @@ function pg.measure(number, taken_off, topskip, maxdepth, notes)
   pg.measured = out
 end
 
+---------------------------------------------------------------- room for the galley
+-- LuaTeX goes through all holes of the size of a box for each box that it frees, and a galley has as many boxes as lines. So
+-- they are not freed: a copy of each page is shipped out.
+function pg.spare(number)
+  local page = tex.box[number]
+  if page then page.list = node.copy_list(page.list) end
+end
+
 return pg
