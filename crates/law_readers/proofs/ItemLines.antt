@@ -17,7 +17,8 @@ use Rattle.law_readers.proofs.Joined.{none_joined}
 use Rattle.law_readers.proofs.Listed.{Holds, HoldsBlocks, holds_step}
 use Rattle.law_readers.proofs.Readable.{blocks_go}
 use Rattle.law_readers.proofs.Sound.{ended_blocks, whole}
-use Rattle.law_readers.proofs.Through.{Through, at_inside, run_through, then_inside, through_run}
+use Rattle.pg_showbox.proofs.ShownLemmas.{then_is}
+use Rattle.law_readers.proofs.Through.{Through, at_inside, run_through, through_run}
 
 -- line by line all of them are said
 holds_all : (width : Option ℤ) (old : List Block) (before lines : List (List ℕ)) (s t : ReaderState) →
@@ -36,9 +37,9 @@ blocks_inside s blocks e = cc
 pub reads_items : ReadsItsItemLines
 unfolding blocks_at
 reads_items first lines blocks e =
-    let (last, all, made) = then_inside (then_ok (run false (started Listing) (joined None first lines))
+    let (last, all, made) = then_is (then_ok (run false (started Listing) (joined None first lines))
     (λ (s : ReaderState). at_line (first + length lines) (ended s s.within))) (λ (s : ReaderState). Ok s.blocks) blocks e in
-    let (t, read, ends) = then_inside (run false (started Listing) (joined None first lines))
+    let (t, read, ends) = then_is (run false (started Listing) (joined None first lines))
     (λ (s : ReaderState). at_line (first + length lines) (ended s s.within)) last all in
     let end = at_inside (first + length lines) (ended t t.within) last ends in
     let through = subst (λ (l : List (List ℕ)). Through false (started Listing) l t) (none_joined first lines)

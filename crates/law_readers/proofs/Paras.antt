@@ -34,7 +34,8 @@ use Rattle.law_readers.specs.Paragraphs.{IsDeeper, Paragraph, ParagraphFaultsSta
 use Rattle.law_readers.proofs.Joined.{From, ends_whole, joined_both, joined_from, texts}
 use Rattle.law_readers.proofs.Listed.{if_said, ok_said, said_inside}
 use Rattle.law_readers.proofs.Ordered.{further_more, in_order_more, taken_more, taken_none}
-use Rattle.law_readers.proofs.Through.{at_inside, fault_line, then_inside}
+use Rattle.pg_showbox.proofs.ShownLemmas.{then_is}
+use Rattle.law_readers.proofs.Through.{at_inside, fault_line}
 
 -- each line leads from one draft to the next
 abbrev pub Leads : Draft → List (List ℕ) → Draft → Type 0
@@ -55,7 +56,7 @@ run_leads : (s t : Draft) (lines : List Line) → run s lines ≡ Ok t → Leads
 unfolding run
 run_leads s t [] e = cc
 run_leads s t (line ∷ lines) e =
-    let (u, is, rest) = then_inside (at_line line.number (line_read s line.text)) (λ (x : Draft). run x lines) t e in
+    let (u, is, rest) = then_is (at_line line.number (line_read s line.text)) (λ (x : Draft). run x lines) t e in
     (u, at_inside line.number (line_read s line.text) u is, run_leads u t lines rest)
 
 leads_run : (s t : Draft) (lines : List Line) → Leads s (texts lines) t → run s lines ≡ Ok t
@@ -79,7 +80,7 @@ paras_lead : (text : List ℕ) (paras : List (List HItem)) → paras_of text ≡
     LeadsTo (lines_read None text) paras
 unfolding paras_of
 paras_lead text paras e =
-    let (last, read, some) = then_inside (run empty (joined None 1 (raw_lines text)))
+    let (last, read, some) = then_is (run empty (joined None 1 (raw_lines text)))
     (λ (s : Draft). some_paras (closed s).paras) paras e in
     record { last = last; through = run_leads empty last (joined None 1 (raw_lines text)) read; some = some }
 

@@ -7,6 +7,7 @@ use Rattle.pg_list.specs.declared.blocks.Block.{Block}
 use Rattle.pg_list.specs.GalleyValue.{GalleyValue}
 use Rattle.pg_scan.specs.Lines.{Line, joined, raw_lines}
 use Rattle.pg_scan.specs.Parts.{after, on}
+use Rattle.pg_showbox.proofs.ShownLemmas.{then_is}
 use Rattle.pg_showbox.specs.ParsedLine.{galley_line, listing_line, root_at}
 use Rattle.pg_showbox.specs.Parts.{◌>>=◌}
 use Rattle.pg_showbox.specs.Reading.{all_read, at_line, galley_from, galley_of, in_listing, line_read, run, said_in, then_ok}
@@ -43,11 +44,6 @@ through_cut is_file s t (line ∷ lines) more (next, is, rest) =
 
 -- ---- answers
 
-pub then_inside : {A B : Type 0} (r : Result A ListFault) (f : A → Result B ListFault) (y : B) → then_ok r f ≡ Ok y →
-    (x : A) × (r ≡ Ok x) × (f x ≡ Ok y)
-then_inside (Ok x) f y e = (x, refl, e)
-then_inside (Err fault) f y e = absurd cc
-
 pub at_inside : {A : Type 0} (n : ℕ) (r : Result A ListKind) (x : A) → at_line n r ≡ Ok x → r ≡ Ok x
 at_inside n (Ok y) x e = let same : y ≡ x = cc in ap (λ (z : _). Ok z) same
 at_inside n (Err kind) x e = absurd cc
@@ -57,7 +53,7 @@ pub run_through : (is_file : Bool) (s t : ReaderState) (lines : List Line) → r
 unfolding run
 run_through is_file s t [] e = cc
 run_through is_file s t (line ∷ lines) e =
-    let (u, is, rest) = then_inside (at_line line.number (line_read is_file s line.text))
+    let (u, is, rest) = then_is (at_line line.number (line_read is_file s line.text))
     (λ (x : ReaderState). run is_file x lines) t e in
     (u, at_inside line.number (line_read is_file s line.text) u is, run_through is_file u t lines rest)
 
@@ -91,10 +87,10 @@ pub galley_leads : (wrap : Option ℕ) (text : List ℕ) (galley : GalleyValue) 
     LeadsTo (lines_read wrap text) galley
 unfolding galley_of all_read
 galley_leads wrap text galley e =
-    let (last, all, made) = then_inside (then_ok (run true (started Outside) (joined wrap 1 (raw_lines text)))
+    let (last, all, made) = then_is (then_ok (run true (started Outside) (joined wrap 1 (raw_lines text)))
     (λ (t : ReaderState). at_line (1 + length (raw_lines text)) (ended t t.within)))
     (λ (s : ReaderState). galley_from s.blocks s.width) galley e in
-    let (state, read, ends) = then_inside (run true (started Outside) (joined wrap 1 (raw_lines text)))
+    let (state, read, ends) = then_is (run true (started Outside) (joined wrap 1 (raw_lines text)))
     (λ (t : ReaderState). at_line (1 + length (raw_lines text)) (ended t t.within)) last all in
     let inside = galley_inside last.blocks last.width galley made in
     record {

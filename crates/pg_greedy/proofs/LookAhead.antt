@@ -3,6 +3,7 @@ use Rattle.std.proofs.Common.{◌≡◌, ◌∙◌, refl, sym, subst, arith, ℕ
 use Rattle.std.specs.Prelude.{◌⊎◌, if◌then◌else◌, ℤ, ◌≤ℤ◌, ◌<ℤ◌, int_le, unwrap_or, T}
 use lib.Signed.{le_z_yes}
 use Rattle.std.proofs.Math.Nat.{eq-or-lt_of_le}
+use Rattle.std.specs.Int.Signed.{≤ℤ_refl}
 use Rattle.std.proofs.lemmas.Bool.{cases_lt}
 use borrow.Author.Differences.{ints}
 use Rattle.pg_list.specs.declared.item.Item.{Item}
@@ -11,9 +12,6 @@ use Rattle.pg_greedy.specs.Breaks.{break_cost, is_seen, stops_at}
 use Rattle.pg_greedy.specs.FirstFit.{IsBestBreak, IsLookedAt, Takes}
 use Rattle.pg_greedy.specs.Ahead.{better, look, taken}
 use Rattle.law_places.proofs.Tests.{int_le_trans, not_le_int, le_int, both_same}
-
-same_most : (a b : ℤ) → a ≡ b → a ≤ℤ b
-same_most a b e = omega (arith, ints, e)
 
 less_most : (a b : ℤ) → a <ℤ b → a ≤ℤ b
 less_most a b h = omega (arith, ints, h)
@@ -54,7 +52,7 @@ module _ (style : StyleValue) (items : List Item) where
     below = omega arith;
     seen = seen;
     least = λ j l s. below_or_at (λ i. is_seen items i ≡ true → at k ≤ℤ at i) j k l
-        (λ m t. absurd (true≢false (sym t ∙ so_far j m))) (λ t. same_most (at k) (at k) refl) s;
+        (λ m t. absurd (true≢false (sym t ∙ so_far j m))) (λ t. ≤ℤ_refl (at k)) s;
     last = λ j l s e. omega (arith, l);
   }
   with_break k (Some best) seen so_far = by (int_le (at k) (at best)) refl
@@ -65,7 +63,7 @@ module _ (style : StyleValue) (items : List Item) where
         seen = seen;
         least = λ j l s. below_or_at (λ i. is_seen items i ≡ true → at k ≤ℤ at i) j k l
             (λ m t. int_le_trans (at k) (at best) (at j) (le_int (at k) (at best) e) (so_far.least j m t))
-            (λ t. same_most (at k) (at k) refl) s;
+            (λ t. ≤ℤ_refl (at k)) s;
         last = λ j l s f. omega (arith, l);
       }
       by false e = record {

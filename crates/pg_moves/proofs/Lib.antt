@@ -3,3 +3,4 @@ pub mod Added
 pub mod Standing
 pub mod Stepped
 pub mod Built
+pub mod NoFloats

@@ -1,7 +1,7 @@
 //! All columns that may follow a state.
-ghost use Rattle.std.specs.Prelude.{◌≡◌, ◌++◌, length, min, IfOk, OnOk};
+ghost use Rattle.std.specs.Prelude.{◌≡◌, ◌++◌, false, length, min, IfOk, None, OnOk};
 ghost use Rattle.pg_hops.specs.Index.{AreHops};
-ghost use Rattle.pg_rules.specs.Floats.{called};
+ghost use Rattle.pg_rules.specs.Floats.{called, float_numbers};
 ghost use Rattle.pg_rules.specs.IsState.{IsPlace, IsState};
 ghost use Rattle.law_space.specs.ReachAt.{reach_at};
 ghost use Rattle.law_space.specs.PageSpace.{page_meaning};
@@ -64,6 +64,14 @@ fn ceiling(sources: &Sources<'_>, from: Place, reach: u32) -> Result<Counts, All
     })
 }
 
+// Whether a column without text may have a float, or a wide area above it.
+fn may_have_floats(sources: &Sources<'_>, state: &State) -> bool
+    ensures { result ≡ false →
+        (length (float_numbers sources.now.style.now) ≡ 0) × (state.now.wide ≡ None) }
+{
+    sources.slots() > 0 || state.wide.is_some()
+}
+
 // Adds the steps of the columns without text.
 fn add_floats(
     sources: &Sources<'_>,
@@ -75,6 +83,9 @@ fn add_floats(
     requires known { known.now ≡ known_of (doc_of sources.now) state.now }
     ensures { OnOk result (steps.new ≡ steps.old ++ listed_floats (doc_of sources.now) state.now) }
 {
+    if !may_have_floats(sources, state) {
+        return Ok(());
+    }
     let layouts = lay_floats(sources, state, known.called.as_slice())?;
     let laid = layouts.as_slice();
     add_stays(sources, state, known, laid, steps)

@@ -1,5 +1,5 @@
 -- The items ahead up to a place, one after another.
-use Rattle.std.proofs.Common.{◌≡◌, refl, sym, ap, ◌∙◌, ℕ, List, [], ◌∷◌, ◌++◌, append_assoc, append-nil, Bool, true, false, Some, None}
+use Rattle.std.proofs.Common.{◌≡◌, sym, ap, ◌∙◌, ℕ, List, [], ◌∷◌, ◌++◌, append_assoc, append-nil, Bool, true, false, Some, None}
 use Rattle.std.specs.Prelude.{◌&&◌, not}
 use Rattle.std.specs.List.{AllByRecursion}
 use Rattle.pg_list.specs.declared.item.Item.{Item}
@@ -7,7 +7,7 @@ use Rattle.pg_list.specs.declared.blocks.Block.{Block}
 use Rattle.pg_list.specs.declared.galley.Place.{Place}
 use Rattle.pg_list.specs.Places.{item_at}
 use Rattle.pg_list.specs.Shapes.{IsBlock}
-use Rattle.pg_list.specs.Flat.{end_of, flat_items_at, is_same_place}
+use Rattle.pg_list.specs.Flat.{flat_items_at, is_same_place}
 use Rattle.pg_column.specs.Ahead.{item_place}
 use Rattle.pg_column.proofs.Ahead.{IsSettled, Named, stop}
 use Rattle.pg_column.proofs.Spans.{behind as later, opened}

@@ -1,5 +1,5 @@
 -- The gaps of areas: as many as floats are dealt out, and each within its range.
-use Rattle.std.proofs.Common.{◌≡◌, refl, sym, ap, ◌∙◌, ℕ, zero, suc, ◌+◌, ◌≤◌, ◌<◌, ◌^◌, arith, append_assoc, append-nil, List, [], ◌∷◌, ◌++◌, length, length-append, map, take, drop, replicate, Bool, true, false, Some, None}
+use Rattle.std.proofs.Common.{◌≡◌, refl, sym, ap, ◌∙◌, ℕ, zero, suc, ◌+◌, ◌≤◌, ◌<◌, arith, append_assoc, append-nil, List, [], ◌∷◌, ◌++◌, length, length-append, map, take, drop, replicate, Bool, true, false, Some, None}
 use Rattle.std.specs.Prelude.{◌==◌, codes, if◌then◌else◌, not, ℤ}
 use Rattle.std.specs.List.{AllByRecursion, cons_option, flat_map}
 use Rattle.std.proofs.lemmas.Bool.Decides.{nat_tests}

@@ -1,31 +1,23 @@
 -- How the printer goes along items is what the definitions say.
 use Rattle.std.proofs.Common.{◌≡◌, ◌∙◌, refl, sym, ap, ℕ, zero, suc, ◌+◌, ◌≤◌, ◌-◌, arith, subst, get_or, append_assoc, List, [], ◌∷◌, ◌++◌, take, drop, map, length, Bool, true, false, Option, Some, None}
 use Rattle.std.specs.Prelude.{◌&&◌, ◌||◌, not, if◌then◌else◌}
-use Rattle.std.specs.List.{flat_map, position, prefix_len, range_with_len}
+use Rattle.std.specs.List.{flat_map, prefix_len, range_with_len}
 use Rattle.std.specs.Borrow.{Bor}
 use Rattle.pg_glue.specs.declared.Sense.{Sense}
 use Rattle.pg_glue.specs.declared.Sense.TheVariants.{Stretch, Shrink}
 use Rattle.pg_list.specs.declared.item.Item.{Item}
 use Rattle.pg_list.specs.declared.item.Item.TheVariants.{BoxItem, Rule, Glue, Kern, Penalty, Insert, Carry}
-use Rattle.pg_list.specs.declared.blocks.Block.{Block}
-use Rattle.pg_list.specs.declared.galley.Place.{Place}
 use Rattle.pg_list.specs.Shapes.{is_box, is_discardable}
-use Rattle.pg_list.specs.Flat.{FlatItem, end_of, is_same_place, steps_to}
 use Rattle.pg_list.specs.Totals.{trimmed}
-use Rattle.pg_column.proofs.Leads.{is_at, position_here, position_later}
 use Rattle.std.proofs.lemmas.List.Elements.{filter_map-append}
 use Rattle.pg_pages.specs.Bodies.{plain_text}
 use Rattle.pg_pages.specs.SetGlue.{elastic}
-use Rattle.pg_pages.specs.PageText.{inserted, inserted_body, set_items}
-use Rattle.pg_pages.specs.Printed.{box_on, front_of, kept_from, set_item, widths_behind}
-use Rattle.pg_lemmas.proofs.Bools.{by_bool, if_false, if_true}
+use Rattle.pg_pages.specs.PageText.{inserted, inserted_body}
+use Rattle.pg_pages.specs.Printed.{box_on, front_of, kept_from}
 use Rattle.std.specs.Prelude.{ℤ, pos}
 use Rattle.std.proofs.lemmas.List.{map-append, take_all}
 use Rattle.pg_lemmas.proofs.Lists.{range_more}
-use Rattle.std.specs.Prelude.{option_map}
-use Rattle.pg_column.specs.Between.{behind, items_to}
-
--- ---- items up to a place
+use Rattle.pg_column.specs.Between.{behind}
 
 -- ---- items that are kept
 
@@ -45,8 +37,6 @@ pub kept_trimmed : (items : List Item) → kept_from false items ≡ trimmed ite
 kept_trimmed [] = refl
 kept_trimmed (item ∷ items) =
     kept_step (is_box item) (is_discardable item) item items (kept_all items) (kept_trimmed items)
-
--- ---- items that are set
 
 -- ---- what is behind references
 

@@ -1,18 +1,15 @@
 -- Set widths and the excess of a text are small.
-use Rattle.std.proofs.Common.{◌≡◌, ◌∙◌, ap, ℕ, suc, ◌+◌, ◌*◌, ◌^◌, ◌≤◌, ◌<◌, arith, List, [], ◌∷◌, ◌++◌, length, length-append, map, Bool, true, false}
-use Rattle.std.specs.Prelude.{◌==◌, if◌then◌else◌, nat_abs, ℤ, pos, negsuc, ◌+ℤ◌, ◌-ℤ◌, ◌*ℤ◌}
+use Rattle.std.proofs.Common.{◌≡◌, ◌∙◌, ap, ◌+◌, ◌^◌, ◌≤◌, ◌<◌, arith, List, [], ◌∷◌, ◌++◌, length, length-append, map, Bool, true, false}
+use Rattle.std.specs.Prelude.{if◌then◌else◌, nat_abs, ℤ, ◌-ℤ◌}
 use Rattle.std.specs.List.{AllByRecursion, flat_map}
-use Rattle.std.proofs.Math.Nat.{div-le_self, mul-le-mul}
-use Rattle.std.proofs.lemmas.Int.{ints, unsigned_abs-mul}
+use Rattle.std.proofs.lemmas.Int.{ints}
 use Rattle.pg_list.specs.Ranges.{IsItemInRange}
 use Rattle.pg_list.specs.declared.item.Item.{Item}
 use Rattle.pg_list.specs.declared.item.Item.TheVariants.{BoxItem, Rule, Glue, Kern, Penalty, Insert, Carry}
-use Rattle.pg_list.specs.declared.item.Order.{Order}
-use Rattle.pg_list.specs.Totals.{is_same_order}
 use Rattle.pg_glue.specs.declared.Elastic.{Elastic}
 use Rattle.pg_glue.specs.declared.Sense.{Sense}
 use Rattle.pg_glue.specs.declared.Sense.TheVariants.{Stretch, Shrink}
-use Rattle.pg_glue.specs.Widths.{amounts, chosen, floor_by, set_width, set_widths, share, widths_from, IsPrintable}
+use Rattle.pg_glue.specs.Widths.{amounts, chosen, set_widths, IsPrintable}
 use Rattle.pg_lemmas.proofs.Lists.{all_append}
 use Rattle.pg_pages.specs.SetGlue.{elastic, gap_elastic, glue_between, own_sizes, own_width, stays_short, widths_by}
 use Rattle.pg_style.specs.Ranges.{IsGap}
@@ -23,8 +20,6 @@ use Rattle.std.proofs.lemmas.List.{length-map}
 use Rattle.pg_pages.proofs.Printed.{elastics_few}
 use Rattle.std.specs.Prelude.{◌&&◌, not, int_lt}
 use Rattle.pg_glue.proofs.Small.{IsEntry, widths_small}
-
--- ---- shares
 
 -- ---- widths
 

@@ -1,15 +1,13 @@
 -- How the printer goes along items, floats, columns and pages. It is proved to print the page text; nobody need believe
 -- what stands here.
-use Rattle.std.specs.Prelude.{◌<◌, ◌+◌, codes, decimal, ℕ, Bool, ◌&&◌, ◌||◌, not, if◌then◌else◌, List, [], ◌∷◌, ◌++◌, length, map, drop, Vec, ℤ, pos, neg_ℤ, ◌-ℤ◌, ◌<ℤ◌, ◌^◌, int_lt}
+use Rattle.std.specs.Prelude.{◌<◌, ◌+◌, codes, decimal, ℕ, Bool, ◌||◌, not, if◌then◌else◌, List, [], ◌∷◌, ◌++◌, length, map, drop, Vec, ℤ, ◌^◌}
 use Rattle.std.specs.Borrow.{Bor}
 use Rattle.std.specs.declared.alloc.Global.{Global}
 use Rattle.std.specs.List.{flat_map, take_while}
 use Rattle.pg_list.specs.declared.item.Item.{Item}
 use Rattle.pg_list.specs.declared.item.Item.TheVariants.{Glue}
-use Rattle.pg_list.specs.declared.galley.Place.{Place}
 use Rattle.pg_list.specs.declared.blocks.Block.{Block}
 use Rattle.pg_list.specs.Shapes.{is_box, is_discardable}
-use Rattle.pg_list.specs.Flat.{FlatItem, is_same_place}
 use Rattle.pg_style.specs.Classes.{is_float_class}
 use Rattle.pg_style.specs.declared.style.Class.{Class}
 use Rattle.pg_floats.specs.Callouts.{first_items}

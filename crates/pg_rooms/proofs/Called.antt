@@ -32,6 +32,16 @@ pub all_like : (doc : Document) (before : Before) (like : Place) (ends : List Ro
 all_like doc before like [] e all = tt
 all_like doc before like (end ∷ ends) e all = (e ∙ all.0.same, all_like doc before like ends e all.1)
 
+-- one call more among them
+pub with_call : (doc : Document) (calls : List Call) (at : ℕ) (call : Call) → AreCalls doc calls →
+    IsLike doc call.like call.at → AreCalls doc (insert calls at call)
+with_call doc calls at call are like =
+    let P : Call → Type 0 = λ it. IsLike doc it.like it.at in
+    record {
+      all = all_append P (take at calls) (call ∷ drop at calls) (all_take P at calls are.all)
+          (like, all_drop P at calls are.all);
+    }
+
 -- nothing is called
 abbrev pub no_before : Before
 no_before = record { called = []; flushed = [] }

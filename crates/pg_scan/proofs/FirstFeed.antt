@@ -3,15 +3,11 @@ use Rattle.std.proofs.Common.{◌≡◌, refl, ◌<◌, inl, inr, arith, ℕ, Li
 use Rattle.std.specs.Prelude.{◌==◌, not, slice_index}
 use Rattle.std.specs.List.{prefix_len}
 use Rattle.std.specs.Option.{unwrap_or}
-use Rattle.std.proofs.lemmas.Bool.{cases_lt}
+use Rattle.std.proofs.lemmas.Bool.{cases_lt, not-false}
 use Rattle.std.proofs.lemmas.List.Sums.{prefix_len-le-length, prefix_len_passes, prefix_len_stops}
 use Rattle.memchr.specs.Find.{IsFirstByte, NoneBefore, Nowhere, Passes, is_byte}
 use Rattle.pg_lemmas.proofs.Bools.{not_both, not_true}
 use Rattle.pg_scan.specs.Lines.{is_no_feed}
-
-is_feed : (b : Bool) → not b ≡ false → b ≡ true
-is_feed true e = refl
-is_feed false e = absurd cc
 
 -- no feed stands in front of the end of the first line, and one stands at it
 passes : (text : List ℕ) (k : ℕ) → k < prefix_len is_no_feed text → Passes (is_byte 10) text k → ⊥
@@ -21,7 +17,7 @@ passes text k less here =
 
 stops : (text : List ℕ) → prefix_len is_no_feed text < length text → Passes (is_byte 10) text (prefix_len is_no_feed text)
 stops text less =
-    is_feed (slice_index text (prefix_len is_no_feed text) == 10) (prefix_len_stops is_no_feed text 0 less)
+    not-false (slice_index text (prefix_len is_no_feed text) == 10) (prefix_len_stops is_no_feed text 0 less)
 
 at_feed : (text : List ℕ) (k : ℕ) → NoneBefore (Passes (is_byte 10) text) 0 (length text) k →
     Passes (is_byte 10) text k → k ≡ prefix_len is_no_feed text

@@ -388,7 +388,7 @@ line_shown is_file s t line clean h e =
     let p = said_ok (said_in is_file s.within line) (λ what. step s what line) t e in
     step_shown s t p.0 line clean (said_pointed is_file s.within line p.0 p.1) h p.2
 
-then_is : {A B : Type 0} (r : Result A ListFault) (f : A → Result B ListFault) (y : B) → then_ok r f ≡ Ok y
+pub then_is : {A B : Type 0} (r : Result A ListFault) (f : A → Result B ListFault) (y : B) → then_ok r f ≡ Ok y
     → (x : A) × (r ≡ Ok x) × (f x ≡ Ok y)
 then_is (Ok x) f y e = (x, refl, e)
 then_is (Err fault) f y e = absurd (cc)

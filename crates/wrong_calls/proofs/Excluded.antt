@@ -3,6 +3,7 @@ use Rattle.std.proofs.Common.{◌≡◌, ◌≢◌, ◌∙◌, refl, sym, ap, su
 use Rattle.std.proofs.Common.{Bool, true, false}
 use Rattle.std.specs.Prelude.{MatchBool, MatchOption, Err, Ok, nat_le}
 use Rattle.std.proofs.lemmas.List.{take_all}
+use Rattle.std.proofs.lemmas.Option.{none-some}
 use Rattle.pg_command.specs.Words.{Command, command_of}
 use Rattle.pg_command.specs.declared.status.Status.{Status}
 use Rattle.pg_command.specs.declared.status.Status.TheVariants.{Usage}
@@ -39,13 +40,10 @@ no_other_status : (words : List (List ℕ)) (shelf : OverShelf) (out : OverOutpu
     command_of words ≡ None → status ≢ Usage → Headline words shelf out say status → ⊥
 no_other_status words shelf out say status none other headline = other (headline.usage.1 none)
 
-none_some : {A : Type 0} {x : A} → None ≡ Some x → ⊥
-none_some e = absurd cc
-
 -- and no command ends so
 no_usage_of_a_command : (words : List (List ℕ)) (shelf : OverShelf) (out : OverOutput) (say : OverSink)
     (command : Command) → command_of words ≡ Some command → Headline words shelf out say Usage → ⊥
-no_usage_of_a_command words shelf out say command is headline = none_some (sym (headline.usage.0 refl) ∙ is)
+no_usage_of_a_command words shelf out say command is headline = none-some _ (sym (headline.usage.0 refl) ∙ is)
 
 -- ---- steps
 

@@ -2,6 +2,7 @@
 use Rattle.std.proofs.Common.{◌≡◌, ◌∙◌, ◌⊎◌, inl, inr, refl, sym, ap, arith, ℕ, List, Some, None, Option, Ok, Err}
 use Rattle.std.specs.Prelude.{Contains, ℤ, Result, ◌<ℤ◌}
 use Rattle.std.proofs.lemmas.Int.{ints}
+use Rattle.std.proofs.lemmas.Option.{none-some}
 use Rattle.pg_cover.specs.Covered.{CoveredBy}
 use Rattle.pg_list.specs.GalleyValue.{GalleyValue}
 use Rattle.pg_plan.specs.declared.pages.Pagination.{Pagination}
@@ -25,18 +26,15 @@ answers_are galley style plan (Err (Broken rule column)) is = inr
     (sym (ap (λ (found : Option (ℕ × ℕ)). answered found (cost galley style plan)) is))
 answers_are galley style plan (Err Memory) is = inl refl
 
-none_some : {A : Type 0} {x : A} → None ≡ Some x → ⊥
-none_some e = absurd cc
-
 -- a pagination that breaks a rule, as one that leaves a float behind its last page, has no cost
 no_cost_at_a_breach : (galley : GalleyValue) (style : StyleValue) (plan : Pagination) (rule column : ℕ) (paid : ℤ) →
     breach galley style plan ≡ Some (rule, column) → JudgesPlan galley style plan (Ok paid) → ⊥
-no_cost_at_a_breach galley style plan rule column paid broken is = none_some (sym is.0 ∙ broken)
+no_cost_at_a_breach galley style plan rule column paid broken is = none-some _ (sym is.0 ∙ broken)
 
 -- a pagination that breaks none is not refused
 no_breach_where_there_is_none : (galley : GalleyValue) (style : StyleValue) (plan : Pagination) (rule column : ℕ) →
     breach galley style plan ≡ None → JudgesPlan galley style plan (Err (Broken rule column)) → ⊥
-no_breach_where_there_is_none galley style plan rule column legal is = none_some (sym legal ∙ is)
+no_breach_where_there_is_none galley style plan rule column legal is = none-some _ (sym legal ∙ is)
 
 -- what every label costs more than is covered by none, whatever its cost comes to in 128 bits
 none_covers_at_less : {M K : Type 0} (sp : Meaning State M K) (labels : List Label) (state : State) (paid : ℤ) →

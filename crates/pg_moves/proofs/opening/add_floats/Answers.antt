@@ -1,4 +1,5 @@
 use Rattle.std.proofs.Common.{◌≡◌, ◌++◌, ◌∙◌, ap, subst, sym, List}
+use Rattle.std.proofs.lemmas.List.{append-nil}
 use Rattle.std.specs.Prelude.{Contains, OnOk}
 use Rattle.pg_plan.specs.declared.pages.PageMove.{PageMove}
 use Rattle.pg_plan.specs.declared.states.State.{State}
@@ -8,6 +9,7 @@ use Rattle.pg_rooms.specs.Laid.{HasSoMany}
 use Rattle.pg_rooms.specs.declared.laid.Laid.{Laid}
 use Rattle.pg_states.specs.declared.settling.Known.{Known}
 use Rattle.pg_moves.proofs.AllSteps.{at_err, floats_are}
+use Rattle.pg_moves.proofs.NoFloats.{no_columns}
 use Rattle.pg_rooms.proofs.Dealt.{called_has}
 use Rattle.pg_moves.proofs.opening.add_floats.Goals as goal
 
@@ -30,3 +32,9 @@ returns c = subst (λ (more : List (Step State PageMove)). OnOk c.add_stays.resu
 
 pub returns-in_err-layouts : goal.returns-in_err-layouts
 returns-in_err-layouts c = at_err _ c.from_residual.result c.from_residual.ensures.0
+
+pub returns-then-not-may_have_floats : goal.returns-then-not-may_have_floats
+returns-then-not-may_have_floats c =
+    let none = c.may_have_floats.ensures c.if-not-may_have_floats.true in
+    sym (ap (λ (more : List (Step State PageMove)). c.args.steps.now ++ more)
+    (no_columns (doc_of c.args.sources.now) c.args.state.now none.0 none.1) ∙ append-nil c.args.steps.now)

@@ -1,4 +1,4 @@
-use Rattle.std.proofs.Common.{◌≡◌, ◌∙◌, rules, sym, ap, subst, ℤ, ◌+◌, ◌≤◌, ◌^◌, arith, List, ◌++◌, length, vec_len, w64, to_z, of_z}
+use Rattle.std.proofs.Common.{◌≡◌, ◌∙◌, rules, sym, ap, subst, ℤ, ◌≤◌, ◌^◌, arith, List, ◌++◌, length, vec_len, w64, to_z, of_z}
 use Rattle.std.specs.List.{AllByRecursion}
 use Rattle.pg_glue.specs.Widths.{IsPrintable}
 use Rattle.pg_column.specs.Between.{behind}

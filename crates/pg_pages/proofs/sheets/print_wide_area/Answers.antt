@@ -1,6 +1,5 @@
 use Rattle.std.proofs.Common.{◌≡◌, ◌∙◌, rules, sym, ap, ℕ, List, [], length, vec_len}
 use Rattle.std.specs.Prelude.{if◌then◌else◌}
-use Rattle.pg_column.specs.Between.{behind}
 use Rattle.pg_style.specs.Values.{StyleValue}
 use Rattle.pg_rules.specs.Floats.{dealt_from}
 use Rattle.pg_pages.specs.Gaps.{hung_gaps, shows_gaps}

@@ -1,11 +1,21 @@
 use Rattle.std.proofs.Common.{refl, sym, subst, ◌∙◌, ◌+◌, ◌++◌, rules, arith, List, get_or}
 use Rattle.std.proofs.lemmas.List.{take_rest}
+use Rattle.std.proofs.lemmas.Result.{IfOk-weaker}
 use Rattle.pg_sources.specs.Document.{doc_of}
 use Rattle.pg_rooms.specs.PlaceEnds.{AreGroups}
 use Rattle.pg_rooms.specs.declared.grouping.Group.{Group}
 use Rattle.pg_rooms.proofs.Called.{all_like}
 use Rattle.pg_rooms.proofs.Grouped.{all_grouped, no_end, one_group, split_read, still_few}
 use Rattle.pg_rooms.proofs.grouping.group_ends.Goals as goal
+
+pub group_all-requires : goal.group_all-requires
+group_all-requires c = sym c.slots.ensures.value ∙ c.has_no_class.ensures c.if-has_no_class.true
+
+pub returns-then-has_no_class-clause-groups : goal.returns-then-has_no_class-clause-groups
+returns-then-has_no_class-clause-groups c = IfOk-weaker c.group_all.result _ _ (λ groups are kept. are) c.group_all.ensures
+
+pub returns-then-has_no_class-clause-calls : goal.returns-then-has_no_class-clause-calls
+returns-then-has_no_class-clause-calls c = IfOk-weaker c.group_all.result _ _ (λ groups are kept. kept) c.group_all.ensures
 
 pub groups-init : goal.groups-init
 groups-init c = record {
@@ -41,3 +51,6 @@ returns-clause-groups c = λ all.
 
 pub returns-clause-calls : goal.returns-clause-calls
 returns-clause-calls c = λ all. c.groups.invariant.calls all
+
+pub count_same-requires : goal.count_same-requires
+count_same-requires c = c.in_ok-before.ensures

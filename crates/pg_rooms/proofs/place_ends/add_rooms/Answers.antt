@@ -1,4 +1,5 @@
 use Rattle.std.proofs.Common.{sym}
+use Rattle.pg_column.specs.Numbers.{IsRoom}
 use Rattle.pg_rooms.specs.PlaceEnds.{IsPageRoom}
 use Rattle.pg_rooms.specs.declared.laid.Laid.{Laid}
 use Rattle.pg_rooms.proofs.Kept.{all_contain, has_more}
@@ -18,3 +19,13 @@ loop-it-preserved c = record {
       (c.loop-it.invariant.calls calls) (c.loop-it.invariant.right from near within calls are);
   calls = λ calls. c.in_ok-add_room.ensures.calls (c.loop-it.invariant.calls calls);
 }
+
+pub add_room-requires : goal.add_room-requires
+add_room-requires c = all_contain (λ (it : Laid). IsRoom it.room) c.args.laid.now c.it-item.result c.requires.small
+    (c.loop-it.it-index, c.loop-it-test.true, sym c.it-item.is)
+
+pub returns-clause-right : goal.returns-clause-right
+returns-clause-right c = c.loop-it.invariant.right
+
+pub returns-clause-calls : goal.returns-clause-calls
+returns-clause-calls c = c.loop-it.invariant.calls
