@@ -9,7 +9,7 @@ use mir.Val.{SFits, of_z, to_z}
 use Rattle.pg_plan.specs.declared.states.Label.{Label}
 use Rattle.pg_plan.specs.declared.states.State.{State}
 use Rattle.pg_table.specs.Space.{Meaning}
-use Rattle.pg_table.proofs.Costs.{not_false}
+use Rattle.std.proofs.lemmas.Bool.{not-false}
 use Rattle.pg_lemmas.proofs.Bools.{both, both_of, true_of}
 use Rattle.pg_cover.specs.Covered.{CoveredBy, has_cover}
 
@@ -45,4 +45,4 @@ pub unwanted_spared : {M K : Type 0} (sp : Meaning State M K) (labels : List Lab
     (r : Bool) → SFits w128 b → (r ≡ true → CoveredBy sp labels state (a +ℤ to_z w128 (of_z w128 b))) → not r ≡ false →
     has_cover sp labels state (a +ℤ b) ≡ true
 unwanted_spared sp labels state a b r fits f h =
-    of_cover sp labels state (a +ℤ b) (rw (to_z-of_z w128 b fits) at (f (not_false r h)))
+    of_cover sp labels state (a +ℤ b) (rw (to_z-of_z w128 b fits) at (f (not-false r h)))
