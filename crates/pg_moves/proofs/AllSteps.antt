@@ -26,12 +26,11 @@ use Rattle.law_moves.specs.Laws.{ListedAreMoves, ReachIsCeiling}
 use Rattle.law_moves.specs.Listed.{beyond, listed_floats, listed_stay, listed_text, stays_on}
 use Rattle.law_moves.specs.Steps.{IsCeiling, text_room}
 use Rattle.pg_rooms.specs.Laid.{laid_of}
-use Rattle.pg_candidates.specs.RoomEnds.{ends_of}
-use Rattle.law_walk.specs.Candidates.{Candidate}
-use Rattle.pg_rooms.specs.PlaceEnds.{ArePlaceEnds, ends_in, has_room}
+use Rattle.law_walk.specs.Laws.{CandidatesGiveEnds}
+use Rattle.pg_rooms.specs.PlaceEnds.{ArePlaceEnds, all_ends, has_behind, has_room}
 use Rattle.pg_rooms.specs.declared.place_ends.PlaceEnds.{PlaceEnds}
 use Rattle.pg_rooms.proofs.Kept.{room_right}
-use Rattle.pg_moves.specs.Stepping.{AreTextSteps, stay_in, steps_in}
+use Rattle.pg_moves.specs.Stepping.{AreTextSteps, all_steps_in, stay_in}
 use Rattle.pg_rooms.specs.declared.laid.Laid.{Laid}
 use Rattle.pg_moves.specs.Thinned.{Adds, Thins}
 use Rattle.pg_moves.proofs.Added.{thinned_moves, thins_all, thins_append}
@@ -43,29 +42,29 @@ pub laid_own : (doc : Document) (u : State) (layouts : List Layout) (it : Laid) 
 laid_own doc u layouts it c = of_map (laid_of doc u) layouts it (contains_among (map (laid_of doc u) layouts) it c)
     (λ layout a e. sym e ∙ ap (λ (x : Laid). laid_of doc u x.layout) e)
 
-pub text_steps_are : (doc : Document) (u : State) (ceiling : List ℕ) (kept : PlaceEnds) (laid : List Laid)
-    (spared : State → ℤ → Bool) (old steps : List (Step State PageMove)) →
+pub text_steps_are : (doc : Document) → CandidatesGiveEnds doc → (u : State) (ceiling : List ℕ) (kept : PlaceEnds)
+    (laid : List Laid) (spared : State → ℤ → Bool) (old steps : List (Step State PageMove)) →
     laid ≡ map (laid_of doc u) (text_layouts doc u ceiling) →
-    ((it : Laid) → Contains laid it → has_room kept.rooms.items it.room ≡ true) → ArePlaceEnds doc u.place kept →
-    old ≡ [] → Adds spared old (flat_map (steps_in doc u kept.walk.near.candidates kept.rooms.items) laid) steps →
+    ((it : Laid) → Contains laid it → has_room kept.rooms.items it.room ≡ true) →
+    ((it : Laid) → Contains laid it → has_behind kept.behind it.room ≡ true) → ArePlaceEnds doc u.place kept →
+    old ≡ [] → Adds spared old (flat_map (all_steps_in doc u kept) laid) steps →
     AreTextSteps doc u ceiling spared steps
-text_steps_are doc u ceiling kept laid spared old steps e held right none adds = record {
-  ends = λ layout. ends_of cs (ends_in kept.rooms.items (text_room doc u layout));
-  are = λ layout c. room_right doc u.place kept (text_room doc u layout) right
-      (held (laid_of doc u layout) (subst (λ (xs : List Laid). Contains xs (laid_of doc u layout)) (sym e)
-      (among_contains (map (laid_of doc u) (text_layouts doc u ceiling)) (laid_of doc u layout)
-      (in_map (laid_of doc u) (text_layouts doc u ceiling) layout
-      (contains_among (text_layouts doc u ceiling) layout c)))));
+text_steps_are doc law u ceiling kept laid spared old steps e held behind right none adds = record {
+  ends = λ layout. all_ends kept (text_room doc u layout);
+  are = λ layout c. room_right doc law u.place kept (text_room doc u layout) right
+      (held (laid_of doc u layout) (among layout c)) (behind (laid_of doc u layout) (among layout c));
   thins = subst (Thins spared steps)
-      (ap (flat_map (steps_in doc u cs kept.rooms.items)) e
-      ∙ laid_steps doc u cs kept.rooms.items (text_layouts doc u ceiling))
+      (ap (flat_map (all_steps_in doc u kept)) e ∙ laid_steps doc u kept (text_layouts doc u ceiling))
       (subst (λ (these : List (Step State PageMove)).
-      Thins spared these (flat_map (steps_in doc u cs kept.rooms.items) laid))
+      Thins spared these (flat_map (all_steps_in doc u kept) laid))
       (sym (adds.is ∙ ap (λ (front : List (Step State PageMove)). front ++ adds.kept) none)) adds.thins);
 }
   where
-    cs : List Candidate
-    cs = kept.walk.near.candidates
+    among : (layout : Layout) → Contains (text_layouts doc u ceiling) layout → Contains laid (laid_of doc u layout)
+    among layout c = subst (λ (xs : List Laid). Contains xs (laid_of doc u layout)) (sym e)
+        (among_contains (map (laid_of doc u) (text_layouts doc u ceiling)) (laid_of doc u layout)
+        (in_map (laid_of doc u) (text_layouts doc u ceiling) layout
+        (contains_among (text_layouts doc u ceiling) layout c)))
 
 -- the steps of laid columns without text are those that are listed
 laid_stays : (doc : Document) (u : State) (layouts : List Layout) →

@@ -1,5 +1,5 @@
 -- The steps to the ends of a layout.
-use Rattle.std.proofs.Common.{◌≡◌, refl, sym, ap, subst, ◌∙◌, ℕ, ◌+◌, ◌<◌, zero, suc, arith, List, [], ◌∷◌, ◌++◌, append_assoc, length, take, drop, get_or, true, false, Bool, map, Option, Some, None, ℤ}
+use Rattle.std.proofs.Common.{◌≡◌, refl, sym, ap, subst, ◌∙◌, ℕ, ◌+◌, ◌<◌, zero, suc, arith, List, [], ◌∷◌, ◌++◌, append_assoc, length, take, drop, get_or, true, false, Bool, map, Option, Some, None, IfSome, ℤ}
 use Rattle.std.specs.Prelude.{◌&&◌, not, if◌then◌else◌}
 use Rattle.std.specs.List.{AllByRecursion, filter, flat_map}
 use Rattle.std.proofs.lemmas.List.{append-nil, get_or_default, map-append, take-append-drop}
@@ -24,15 +24,16 @@ use Rattle.pg_sources.specs.Document.{before_of}
 use Rattle.pg_sources.specs.declared.calls.Before.{Before}
 use Rattle.pg_rooms.specs.Laid.{laid_of}
 use Rattle.pg_rooms.specs.declared.laid.Laid.{Laid}
-use Rattle.pg_rooms.specs.PlaceEnds.{AreGroups, ArePlaceEnds, ends_in, groups_in}
+use Rattle.pg_rooms.specs.PlaceEnds.{AreFrontEnds, AreGroups, AreRoomEnds, all_ends, behind_candidates, behind_rooms, ends_in, groups_in}
 use Rattle.pg_rooms.specs.declared.grouping.Group.{Group}
+use Rattle.pg_rooms.specs.declared.place_ends.FrontEnds.{FrontEnds}
 use Rattle.pg_rooms.specs.declared.place_ends.PlaceEnds.{PlaceEnds}
 use Rattle.pg_rooms.specs.declared.place_ends.RoomEnds.{RoomEnds}
 use Rattle.pg_rooms.proofs.Kept.{groups_right}
 use Rattle.pg_states.specs.Settling.{Settles}
 use Rattle.pg_states.specs.declared.settling.Settled.{Settled}
 use Rattle.pg_layouts.proofs.OneMore.{flat_next}
-use Rattle.pg_moves.specs.Stepping.{IsOpenAt, steps_in}
+use Rattle.pg_moves.specs.Stepping.{IsOpenAt, all_steps_in, steps_in}
 use Rattle.pg_moves.specs.Thinned.{Adds}
 use Rattle.pg_moves.proofs.Added.{adds_more, adds_none, adds_one, adds_same, adds_spared}
 
@@ -197,15 +198,36 @@ steps_more doc u spared cs layout ends i d old mid new less h k = adds_same spar
     end : RoomEnd
     end = get_or ends i d
 
--- the steps of laid layouts are those of the layouts, by the ends in their rooms
-pub laid_steps : (doc : Document) (u : State) (cs : List Candidate) (rooms : List RoomEnds) (layouts : List Layout) →
-    flat_map (steps_in doc u cs rooms) (map (laid_of doc u) layouts)
-    ≡ flat_map (listed_with doc u (λ layout. ends_of cs (ends_in rooms (text_room doc u layout)))) layouts
-laid_steps doc u cs rooms [] = refl
-laid_steps doc u cs rooms (layout ∷ layouts) =
+-- the steps to the ends of two lists are those to the one and those to the other
+both_lists : (doc : Document) (u : State) (layout : Layout) (es fs : List End) →
+    listed_with doc u (λ _. es) layout ++ listed_with doc u (λ _. fs) layout
+    ≡ listed_with doc u (λ _. es ++ fs) layout
+both_lists doc u layout [] fs = refl
+both_lists doc u layout (e ∷ es) fs = by (goes_on doc u layout e) (both_lists doc u layout es fs)
+  where
+    by : (b : Bool) → map (listed_end doc u layout) (filter (goes_on doc u layout) es)
+        ++ listed_with doc u (λ _. fs) layout ≡ listed_with doc u (λ _. es ++ fs) layout →
+        map (listed_end doc u layout)
+        (if b then e ∷ filter (goes_on doc u layout) es else filter (goes_on doc u layout) es)
+        ++ listed_with doc u (λ _. fs) layout
+        ≡ map (listed_end doc u layout)
+        (if b then e ∷ filter (goes_on doc u layout) (es ++ fs) else filter (goes_on doc u layout) (es ++ fs))
+    by true h = ap (λ (steps : List (Step State PageMove)). listed_end doc u layout e ∷ steps) h
+    by false h = h
+
+-- the steps of laid layouts are those of the layouts, by all ends in their rooms
+pub laid_steps : (doc : Document) (u : State) (kept : PlaceEnds) (layouts : List Layout) →
+    flat_map (all_steps_in doc u kept) (map (laid_of doc u) layouts)
+    ≡ flat_map (listed_with doc u (λ layout. all_ends kept (text_room doc u layout))) layouts
+laid_steps doc u kept [] = refl
+laid_steps doc u kept (layout ∷ layouts) =
     ap (λ (steps : List (Step State PageMove)).
-    listed_of doc u cs layout (ends_in rooms (text_room doc u layout)) ++ steps)
-    (laid_steps doc u cs rooms layouts)
+    steps ++ flat_map (all_steps_in doc u kept) (map (laid_of doc u) layouts))
+    (both_lists doc u layout (ends_of kept.walk.near.candidates (ends_in kept.rooms.items (text_room doc u layout)))
+    (ends_of (behind_candidates kept.behind) (ends_in (behind_rooms kept.behind) (text_room doc u layout))))
+    ∙ ap (λ (steps : List (Step State PageMove)).
+    listed_with doc u (λ _. all_ends kept (text_room doc u layout)) layout ++ steps)
+    (laid_steps doc u kept layouts)
 
 -- what holds of each of a list holds at an index
 pub all_at : {X : Type 0} (P : X → Type 0) (xs : List X) (i : ℕ) (d : X) → i < length xs → AllByRecursion P xs →
@@ -280,20 +302,32 @@ groups_done doc u spared cs layout groups (group ∷ left) ends rest old new les
     absurd (omega (arith, less))
 
 -- the steps to the ends that are kept of the room of a layout
-pub in_room : (doc : Document) (u : State) (spared : State → ℤ → Bool) (it : Laid) (kept : PlaceEnds)
-    (groups : List Group) (ends : List RoomEnd) (old new : List (Step State PageMove)) →
-    groups ≡ groups_in kept.rooms.items it.room → ends ≡ ends_in kept.rooms.items it.room →
-    (AreGroups doc groups ends → Adds spared old (listed_of doc u kept.walk.near.candidates it.layout ends) new) →
-    ArePlaceEnds doc u.place kept →
-    Adds spared old (steps_in doc u kept.walk.near.candidates kept.rooms.items it) new
-in_room doc u spared it kept groups ends old new g e step right =
-    subst (λ (xs : List RoomEnd). Adds spared old (of_these xs) new) e
+pub in_room : (doc : Document) (u : State) (spared : State → ℤ → Bool) (it : Laid) (cs : List Candidate)
+    (rooms : List RoomEnds) (groups : List Group) (ends : List RoomEnd) (old new : List (Step State PageMove)) →
+    groups ≡ groups_in rooms it.room → ends ≡ ends_in rooms it.room →
+    (AreGroups doc groups ends → Adds spared old (listed_of doc u cs it.layout ends) new) →
+    AllByRecursion (AreRoomEnds doc cs) rooms → Adds spared old (steps_in doc u cs rooms it) new
+in_room doc u spared it cs rooms groups ends old new g e step right =
+    subst (λ (xs : List RoomEnd). Adds spared old (listed_of doc u cs it.layout xs) new) e
     (step (subst (λ (gs : List Group). AreGroups doc gs ends) (sym g)
-    (subst (AreGroups doc (groups_in kept.rooms.items it.room)) (sym e)
-    (groups_right doc u.place kept it.room right))))
-  where
-    of_these : List RoomEnd → List (Step State PageMove)
-    of_these = listed_of doc u kept.walk.near.candidates it.layout
+    (subst (AreGroups doc (groups_in rooms it.room)) (sym e) (groups_right doc cs rooms it.room right))))
+
+-- none are added where nothing is kept behind the front
+pub none_behind : (doc : Document) (u : State) (spared : State → ℤ → Bool) (it : Laid) (o : Option FrontEnds)
+    (old : List (Step State PageMove)) → o ≡ None →
+    Adds spared old (steps_in doc u (behind_candidates o) (behind_rooms o) it) old
+none_behind doc u spared it o old e = subst (λ (o : Option FrontEnds).
+    Adds spared old (steps_in doc u (behind_candidates o) (behind_rooms o) it) old) (sym e) (adds_none spared old)
+
+-- those of what is kept there
+pub some_behind : (doc : Document) (u : State) (spared : State → ℤ → Bool) (it : Laid) (o : Option FrontEnds)
+    (ends : FrontEnds) (old new : List (Step State PageMove)) → o ≡ Some ends → IfSome o (AreFrontEnds doc) →
+    (AllByRecursion (AreRoomEnds doc ends.walk.near.candidates) ends.rooms.items →
+    Adds spared old (steps_in doc u ends.walk.near.candidates ends.rooms.items it) new) →
+    Adds spared old (steps_in doc u (behind_candidates o) (behind_rooms o) it) new
+some_behind doc u spared it o ends old new e are step = subst (λ (o : Option FrontEnds).
+    Adds spared old (steps_in doc u (behind_candidates o) (behind_rooms o) it) new) (sym e)
+    (step (subst (λ (o : Option FrontEnds). IfSome o (AreFrontEnds doc)) e are).rooms)
 
 -- the steps of one layout more
 pub layouts_more : {X : Type 0} (f : X → List (Step State PageMove)) (spared : State → ℤ → Bool)

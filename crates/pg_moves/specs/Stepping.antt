@@ -1,5 +1,5 @@
 -- The parts of a step to an end, from what is settled there.
-use Rattle.std.specs.Prelude.{◌≡◌, ℕ, ◌+◌, ◌*◌, ◌^◌, ◌≤◌, nat_abs, Bool, true, ◌==◌, ◌&&◌, ◌||◌, nat_lt, if◌then◌else◌, is_some, List, [], ◌∷◌, Option, Some, None, ℤ, pos, ◌+ℤ◌}
+use Rattle.std.specs.Prelude.{◌≡◌, ℕ, ◌+◌, ◌*◌, ◌^◌, ◌≤◌, nat_abs, Bool, true, ◌==◌, ◌&&◌, ◌||◌, nat_lt, if◌then◌else◌, is_some, List, [], ◌∷◌, ◌++◌, Option, Some, None, ℤ, pos, ◌+ℤ◌}
 use Rattle.pg_list.specs.declared.galley.Place.{Place}
 use Rattle.pg_plan.specs.declared.states.State.{State}
 use Rattle.pg_style.specs.Values.{StyleValue}
@@ -17,7 +17,8 @@ use Rattle.pg_candidates.specs.RoomEnds.{ends_of}
 use Rattle.pg_candidates.specs.declared.room_end.RoomEnd.{RoomEnd}
 use Rattle.law_moves.specs.Laws.{AreEndsOf}
 use Rattle.law_moves.specs.Listed.{column_fits, listed_stay, listed_text, listed_with, opens, stays_on}
-use Rattle.pg_rooms.specs.PlaceEnds.{ends_in}
+use Rattle.pg_rooms.specs.PlaceEnds.{behind_candidates, behind_rooms, ends_in}
+use Rattle.pg_rooms.specs.declared.place_ends.PlaceEnds.{PlaceEnds}
 use Rattle.pg_rooms.specs.declared.place_ends.RoomEnds.{RoomEnds}
 use Rattle.pg_states.specs.Settling.{Settles}
 use Rattle.pg_states.specs.declared.settling.Settled.{Settled}
@@ -69,6 +70,12 @@ IsOpenAt doc u laid settled at =
 -- the steps to the ends in the room of a layout, with the picks of these candidates
 abbrev pub steps_in : Document → State → List Candidate → List RoomEnds → Laid → List (Step State PageMove)
 steps_in doc u cs rooms it = listed_with doc u (λ layout. ends_of cs (ends_in rooms it.room)) it.layout
+
+-- the steps to all ends that a place keeps in that room
+abbrev pub all_steps_in : Document → State → PlaceEnds → Laid → List (Step State PageMove)
+all_steps_in doc u kept it =
+    steps_in doc u kept.walk.near.candidates kept.rooms.items it
+    ++ steps_in doc u (behind_candidates kept.behind) (behind_rooms kept.behind) it
 
 -- the steps of the columns of text with counts up to a ceiling, by the ends of each layout, but for some that are spared
 pub record AreTextSteps (doc : Document) (u : State) (ceiling : List ℕ) (spared : State → ℤ → Bool)

@@ -1,5 +1,5 @@
 -- What is kept of a place.
-use Rattle.std.proofs.Common.{Ok, Err, Result, ◌≡◌, refl, sym, ap, subst, ◌∙◌, ℕ, zero, suc, ◌+◌, ◌<◌, true, false, Bool, ℤ, arith, get_or}
+use Rattle.std.proofs.Common.{Ok, Err, Result, ◌≡◌, refl, sym, ap, subst, ◌∙◌, ℕ, zero, suc, ◌+◌, ◌<◌, true, false, Bool, ℤ, arith, get_or, append-nil, Option, Some, None, IfSome}
 use Rattle.std.specs.Prelude.{◌&&◌, List, [], ◌∷◌, ◌++◌, length, take, if◌then◌else◌, Contains, OnOk}
 use Rattle.std.specs.List.{AllByRecursion}
 use Rattle.std.specs.Ordering.{int_eq}
@@ -7,21 +7,33 @@ use Rattle.std.proofs.Math.Seq.{take-length}
 use Rattle.std.proofs.lemmas.Bool.Decides.{Decides-int_eq}
 use Rattle.pg_column.specs.Ends.{AreEnds}
 use Rattle.pg_column.specs.declared.cost.TextRoom.{TextRoom}
+use Rattle.pg_column.specs.declared.end.End.{End}
 use Rattle.pg_lemmas.proofs.Bools.{both, both_of, by_bool, if_false, if_true}
 use Rattle.pg_lemmas.proofs.Lists.{all_append, none_among}
 use Rattle.pg_rooms.specs.declared.laid.Laid.{Laid}
 use Rattle.pg_list.specs.declared.galley.Place.{Place}
+use Rattle.pg_rules.specs.Floats.{gap_stretch}
+use Rattle.pg_rules.specs.Reach.{greatest_areas}
 use Rattle.pg_rules.specs.Room.{Document}
+use Rattle.pg_walk.specs.Fronts.{AreApart, ComesTo, IsFrontWalk, Serves}
+use Rattle.pg_walk.specs.declared.front.Front.{Front}
+use Rattle.pg_walk.specs.declared.front.FrontWalk.{FrontWalk}
 use Rattle.pg_walk.specs.declared.place.PlaceWalk.{PlaceWalk}
-use Rattle.law_walk.specs.Candidates.{Candidate}
-use Rattle.pg_candidates.specs.Nears.{AreNearOnPages}
+use Rattle.law_walk.specs.Best.{AreBest, IsAmong}
+use Rattle.law_walk.specs.Candidates.{AreCandidates, Candidate, kept_ends}
+use Rattle.law_walk.specs.Laws.{CandidatesGiveEnds}
+use Rattle.law_walk.specs.Reached.{tallest}
+use Rattle.law_walk.proofs.BestLaws.{none_best}
+use Rattle.pg_candidates.specs.Nears.{AreNear, AreNearOnPages, NearsValue}
 use Rattle.pg_candidates.specs.RoomEnds.{ends_of}
 use Rattle.pg_candidates.specs.declared.room_end.RoomEnd.{RoomEnd}
 use Rattle.pg_rooms.proofs.Grouped.{all_more}
 use Rattle.pg_rooms.specs.Calls.{AreCalls}
-use Rattle.pg_rooms.specs.PlaceEnds.{AreGroups, ArePlaceEnds, AreRoomEnds, ends_in, groups_in, has_room, is_same_room}
+use Rattle.pg_rooms.proofs.Joined.{best_append, kept_apart, kept_append}
+use Rattle.pg_rooms.specs.PlaceEnds.{AreFrontEnds, AreGroups, ArePlaceEnds, AreRoomEnds, IsNearOnPages, IsPageRoom, all_ends, behind_candidates, behind_rooms, ends_in, groups_in, has_behind, has_room, is_same_room}
 use Rattle.pg_rooms.specs.declared.calls.Calls.{Calls}
 use Rattle.pg_rooms.specs.declared.grouping.Group.{Group}
+use Rattle.pg_rooms.specs.declared.place_ends.FrontEnds.{FrontEnds}
 use Rattle.pg_rooms.specs.declared.place_ends.PlaceEnds.{PlaceEnds}
 use Rattle.pg_rooms.specs.declared.place_ends.RoomEnds.{RoomEnds}
 
@@ -80,11 +92,11 @@ has_still rooms now it room push h =
     subst (λ (xs : List RoomEnds). has_room xs room ≡ true) (sym push) (has_front rooms (it ∷ []) room h)
 
 -- with it all ends are right
-pub rooms_added : (doc : Document) (from : Place) (cs : List Candidate) (old now : List RoomEnds) (it : RoomEnds) →
-    now ≡ old ++ it ∷ [] → AllByRecursion (AreRoomEnds doc from cs) old → AreRoomEnds doc from cs it →
-    AllByRecursion (AreRoomEnds doc from cs) now
-rooms_added doc from cs old now it push are own = subst (AllByRecursion (AreRoomEnds doc from cs)) (sym push)
-    (all_append (AreRoomEnds doc from cs) old (it ∷ []) are (own, tt))
+pub rooms_added : (doc : Document) (cs : List Candidate) (old now : List RoomEnds) (it : RoomEnds) →
+    now ≡ old ++ it ∷ [] → AllByRecursion (AreRoomEnds doc cs) old → AreRoomEnds doc cs it →
+    AllByRecursion (AreRoomEnds doc cs) now
+rooms_added doc cs old now it push are own = subst (AllByRecursion (AreRoomEnds doc cs)) (sym push)
+    (all_append (AreRoomEnds doc cs) old (it ∷ []) are (own, tt))
 
 -- ---- the rooms of layouts
 
@@ -108,55 +120,140 @@ has_more rooms now laid i it less is all own keeps =
     still [] a = tt
     still (x ∷ xs) a = (keeps x.room a.0, still xs a.1)
 
--- a walk with no room asked for is kept of its place, with the calls of any places
+-- ---- what is kept of a place before any room is asked for
+
+-- a walk is, with the calls of any places
 pub begun : (doc : Document) (from : Place) (it : PlaceEnds) (walk : PlaceWalk) (calls : Calls) → it.walk ≡ walk →
-    it.rooms.items ≡ [] → it.calls ≡ calls → AreNearOnPages doc from walk.near →
+    it.rooms.items ≡ [] → it.calls ≡ calls → it.behind ≡ None → AreNearOnPages doc from walk.near →
     AreCalls doc calls.items.items → ArePlaceEnds doc from it
-begun doc from it walk calls w r k near are = record {
-  near = subst (λ (x : PlaceWalk). AreNearOnPages doc from x.near) (sym w) near;
-  rooms = subst (AllByRecursion (AreRoomEnds doc from it.walk.near.candidates)) (sym r) tt;
+begun doc from it walk calls w r k b near are = record {
+  near = subst (λ (x : PlaceWalk). IsNearOnPages doc x.near) (sym w) own;
+  candidates = subst (λ (o : Option FrontEnds).
+      AreCandidates doc from (tallest doc.style) (it.walk.near.candidates ++ behind_candidates o)) (sym b)
+      (subst (AreCandidates doc from (tallest doc.style)) (sym (append-nil it.walk.near.candidates))
+      (subst (λ (x : PlaceWalk). AreCandidates doc from (tallest doc.style) x.near.candidates) (sym w)
+      (subst (AreCandidates doc from (tallest doc.style)) (sym near.near.same) near.found)));
+  apart = λ c d a e. absurd (subst (λ (o : Option FrontEnds). IsAmong d (behind_candidates o)) b e);
+  rooms = subst (AllByRecursion (AreRoomEnds doc it.walk.near.candidates)) (sym r) tt;
+  behind = subst (λ (o : Option FrontEnds). IfSome o (AreFrontEnds doc)) (sym b) tt;
+  calls = subst (λ (kept : Calls). AreCalls doc kept.items.items) (sym k) are;
+}
+  where
+    own : IsNearOnPages doc walk.near
+    own = subst (λ (cs : List Candidate). AreNear doc (greatest_areas gap_stretch doc.style) cs walk.near)
+        (sym near.near.same) near.near
+
+-- a first stretch is, with what is kept behind the front there
+pub before : (doc : Document) (from : Place) (it : PlaceEnds) (near : NearsValue) (front : Front) (behind : FrontEnds)
+    (calls : Calls) → it.walk.near ≡ near → it.rooms.items ≡ [] → it.calls ≡ calls → it.behind ≡ Some behind →
+    ComesTo doc from near front → AreFrontEnds doc behind → Serves doc from near behind.walk →
+    AreCalls doc calls.items.items → ArePlaceEnds doc from it
+before doc from it near front behind calls n r k b comes ends serves are = record {
+  near = subst (IsNearOnPages doc) (sym n) comes.near;
+  candidates = subst (λ (o : Option FrontEnds).
+      AreCandidates doc from (tallest doc.style) (it.walk.near.candidates ++ behind_candidates o)) (sym b)
+      (subst (λ (x : NearsValue).
+      AreCandidates doc from (tallest doc.style) (x.candidates ++ behind.walk.near.candidates)) (sym n)
+      serves.candidates);
+  apart = subst (λ (o : Option FrontEnds). AreApart it.walk.near.candidates (behind_candidates o)) (sym b)
+      (subst (λ (x : NearsValue). AreApart x.candidates behind.walk.near.candidates) (sym n) serves.apart);
+  rooms = subst (AllByRecursion (AreRoomEnds doc it.walk.near.candidates)) (sym r) tt;
+  behind = subst (λ (o : Option FrontEnds). IfSome o (AreFrontEnds doc)) (sym b) ends;
   calls = subst (λ (kept : Calls). AreCalls doc kept.items.items) (sym k) are;
 }
 
--- the ends in a room that is kept
-pub room_right : (doc : Document) (from : Place) (it : PlaceEnds) (room : TextRoom) → ArePlaceEnds doc from it →
-    has_room it.rooms.items room ≡ true →
-    AreEnds doc from room (ends_of it.walk.near.candidates (ends_in it.rooms.items room))
-room_right doc from it room are h = by it.rooms.items are.rooms h
+-- a walk behind a front is
+pub front_begun : (doc : Document) (it : FrontEnds) (walk : FrontWalk) → it.walk ≡ walk → it.rooms.items ≡ [] →
+    IsFrontWalk doc walk → AreFrontEnds doc it
+front_begun doc it walk w r is = record {
+  walk = subst (IsFrontWalk doc) (sym w) is;
+  rooms = subst (AllByRecursion (AreRoomEnds doc it.walk.near.candidates)) (sym r) tt;
+}
+
+-- with rooms asked for there is still the same behind the front
+pub still_kept : (doc : Document) (from : Place) (old new : PlaceEnds) → new.walk ≡ old.walk →
+    behind_candidates new.behind ≡ behind_candidates old.behind → ArePlaceEnds doc from old →
+    AllByRecursion (AreRoomEnds doc old.walk.near.candidates) new.rooms.items →
+    IfSome new.behind (AreFrontEnds doc) → AreCalls doc new.calls.items.items → ArePlaceEnds doc from new
+still_kept doc from old new w b are rooms behind calls = record {
+  near = subst (λ (x : PlaceWalk). IsNearOnPages doc x.near) (sym w) are.near;
+  candidates = subst (λ (ds : List Candidate).
+      AreCandidates doc from (tallest doc.style) (new.walk.near.candidates ++ ds)) (sym b)
+      (subst (λ (x : PlaceWalk). AreCandidates doc from (tallest doc.style)
+      (x.near.candidates ++ behind_candidates old.behind)) (sym w) are.candidates);
+  apart = subst (AreApart new.walk.near.candidates) (sym b)
+      (subst (λ (x : PlaceWalk). AreApart x.near.candidates (behind_candidates old.behind)) (sym w) are.apart);
+  rooms = subst (λ (x : PlaceWalk). AllByRecursion (AreRoomEnds doc x.near.candidates) new.rooms.items) (sym w) rooms;
+  behind = behind;
+  calls = calls;
+}
+
+-- ---- the ends in a room
+
+-- those of the one list in front of those of the other, where all of the one are before all of the other
+joined : (doc : Document) (room : TextRoom) (cs ds : List Candidate) (bs es : List End) → AreApart cs ds →
+    AreBest (kept_ends doc room cs) bs → AreBest (kept_ends doc room ds) es →
+    AreBest (kept_ends doc room (cs ++ ds)) (bs ++ es)
+joined doc room cs ds bs es apart first rest =
+    subst (λ (all : List End). AreBest all (bs ++ es)) (sym (kept_append doc room cs ds))
+    (best_append (kept_ends doc room cs) (kept_ends doc room ds) bs es first rest
+    (kept_apart doc room cs ds apart))
+
+-- in a room that is kept of some candidates
+pub room_best : (doc : Document) (cs : List Candidate) (rooms : List RoomEnds) (room : TextRoom) →
+    AllByRecursion (AreRoomEnds doc cs) rooms → has_room rooms room ≡ true →
+    IsPageRoom doc.style room × AreBest (kept_ends doc room cs) (ends_of cs (ends_in rooms room))
+room_best doc cs [] room all h = absurd cc
+room_best doc cs (first ∷ rooms) room all h = by_bool (is_same_room first.room room)
+    (λ t. let same = same_is first.room room t in (
+      subst (IsPageRoom doc.style) same all.0.page,
+      subst AreOf (sym (if_true (is_same_room first.room room) first.ends.items (ends_in rooms room) t))
+          (subst (λ (z : TextRoom). AreBest (kept_ends doc z cs) (ends_of cs first.ends.items)) same all.0.best),
+    ))
+    (λ f. let more = room_best doc cs rooms room all.1
+    (sym (if_false (is_same_room first.room room) true (has_room rooms room) f) ∙ h) in (
+      more.0,
+      subst AreOf (sym (if_false (is_same_room first.room room) first.ends.items (ends_in rooms room) f)) more.1,
+    ))
   where
-    cs : List Candidate
-    cs = it.walk.near.candidates
-
     AreOf : List RoomEnd → Type 0
-    AreOf ends = AreEnds doc from room (ends_of cs ends)
+    AreOf ends = AreBest (kept_ends doc room cs) (ends_of cs ends)
 
-    by : (rooms : List RoomEnds) → AllByRecursion (AreRoomEnds doc from cs) rooms → has_room rooms room ≡ true →
-        AreOf (ends_in rooms room)
-    by [] all h = absurd cc
-    by (first ∷ rooms) all h = by_bool (is_same_room first.room room)
-        (λ t. subst AreOf (sym (if_true (is_same_room first.room room) first.ends.items (ends_in rooms room) t))
-        (subst (λ (z : TextRoom). AreEnds doc from z (ends_of cs first.ends.items)) (same_is first.room room t)
-        all.0.ends))
-        (λ f. subst AreOf (sym (if_false (is_same_room first.room room) first.ends.items (ends_in rooms room) f))
-        (by rooms all.1 (sym (if_false (is_same_room first.room room) true (has_room rooms room) f) ∙ h)))
+behind_best : (doc : Document) (o : Option FrontEnds) (room : TextRoom) → IfSome o (AreFrontEnds doc) →
+    has_behind o room ≡ true →
+    AreBest (kept_ends doc room (behind_candidates o)) (ends_of (behind_candidates o) (ends_in (behind_rooms o) room))
+behind_best doc None room are h = none_best
+behind_best doc (Some it) room are h = (room_best doc it.walk.near.candidates it.rooms.items room are.rooms h).1
 
--- their groups, also where it is not
-pub groups_right : (doc : Document) (from : Place) (it : PlaceEnds) (room : TextRoom) → ArePlaceEnds doc from it →
-    AreGroups doc (groups_in it.rooms.items room) (ends_in it.rooms.items room)
-groups_right doc from it room are = by it.rooms.items are.rooms
+-- all ends in a room that was asked for
+pub room_right : (doc : Document) → CandidatesGiveEnds doc → (from : Place) (it : PlaceEnds) (room : TextRoom) →
+    ArePlaceEnds doc from it → has_room it.rooms.items room ≡ true → has_behind it.behind room ≡ true →
+    AreEnds doc from room (all_ends it room)
+room_right doc law from it room are h b =
+    let first = room_best doc it.walk.near.candidates it.rooms.items room are.rooms h in
+    law from (tallest doc.style) room (it.walk.near.candidates ++ behind_candidates it.behind) (all_ends it room)
+    first.0.low are.candidates
+    (joined doc room it.walk.near.candidates (behind_candidates it.behind) _ _ are.apart first.1
+    (behind_best doc it.behind room are.behind b))
+
+-- the groups of ends, also where the room is not kept
+pub groups_right : (doc : Document) (cs : List Candidate) (rooms : List RoomEnds) (room : TextRoom) →
+    AllByRecursion (AreRoomEnds doc cs) rooms → AreGroups doc (groups_in rooms room) (ends_in rooms room)
+groups_right doc cs [] room all = refl
+groups_right doc cs (first ∷ rooms) room all = either (is_same_room first.room room) first.groups.items
+    (groups_in rooms room) first.ends.items (ends_in rooms room) all.0.groups (groups_right doc cs rooms room all.1)
   where
     either : (b : Bool) (gs hs : List Group) (xs ys : List RoomEnd) → AreGroups doc gs xs → AreGroups doc hs ys →
         AreGroups doc (if b then gs else hs) (if b then xs else ys)
     either true gs hs xs ys p q = p
     either false gs hs xs ys p q = q
 
-    by : (rooms : List RoomEnds) → AllByRecursion (AreRoomEnds doc from it.walk.near.candidates) rooms →
-        AreGroups doc (groups_in rooms room) (ends_in rooms room)
-    by [] all = refl
-    by (first ∷ rooms) all = either (is_same_room first.room room) first.groups.items (groups_in rooms room) first.ends.items
-        (ends_in rooms room) all.0.groups (by rooms all.1)
-
 -- two clauses of an answer as one
 pub on_both : {T E P Q R : Type 0} (r : Result T E) → (P → Q → R) → OnOk r P → OnOk r Q → OnOk r R
 on_both (Ok x) f p q = f p q
 on_both (Err e) f p q = tt
+
+-- and three
+pub on_three : {T E P Q R S : Type 0} (r : Result T E) → (P → Q → R → S) → OnOk r P → OnOk r Q → OnOk r R → OnOk r S
+on_three (Ok x) f p q r = f p q r
+on_three (Err e) f p q r = tt

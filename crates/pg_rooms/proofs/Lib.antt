@@ -1,3 +1,4 @@
+pub mod Joined
 pub mod Dealt
 pub mod FloatLaid
 pub mod LaidLemmas

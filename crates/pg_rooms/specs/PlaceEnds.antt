@@ -1,23 +1,26 @@
 -- The ends of columns of text from a place, room by room.
-use Rattle.std.specs.Prelude.{◌≡◌, ◌&&◌, ◌≤ℤ◌, Bool, true, false, if◌then◌else◌, List, [], ◌∷◌, take, drop}
+use Rattle.std.specs.Prelude.{◌≡◌, ◌&&◌, ◌≤ℤ◌, Bool, true, false, if◌then◌else◌, List, [], ◌∷◌, ◌++◌, take, drop, Option, Some, None, IfSome}
 use Rattle.std.specs.List.{AllByRecursion}
 use Rattle.std.specs.Ordering.{int_eq}
 use Rattle.pg_list.specs.declared.galley.Place.{Place}
-use Rattle.pg_column.specs.Ends.{AreEnds}
 use Rattle.pg_column.specs.Numbers.{most_room}
 use Rattle.pg_column.specs.declared.cost.TextRoom.{TextRoom}
+use Rattle.pg_column.specs.declared.end.End.{End}
 use Rattle.pg_rules.specs.Floats.{gap_stretch}
 use Rattle.pg_rules.specs.Reach.{greatest_areas}
 use Rattle.pg_rules.specs.Room.{Document}
 use Rattle.pg_style.specs.Values.{StyleValue}
-use Rattle.law_walk.specs.Candidates.{Candidate}
+use Rattle.law_walk.specs.Best.{AreBest}
+use Rattle.law_walk.specs.Candidates.{AreCandidates, Candidate, kept_ends}
 use Rattle.law_walk.specs.Reached.{tallest}
-use Rattle.pg_candidates.specs.Nears.{AreNearOnPages, IsWithin}
+use Rattle.pg_candidates.specs.Nears.{AreNear, IsWithin, NearsValue}
 use Rattle.pg_candidates.specs.RoomEnds.{ends_of}
 use Rattle.pg_candidates.specs.declared.room_end.RoomEnd.{RoomEnd}
 use Rattle.pg_sources.specs.Document.{before_of}
+use Rattle.pg_walk.specs.Fronts.{AreApart, IsFrontWalk}
 use Rattle.pg_rooms.specs.Calls.{AreCalls}
 use Rattle.pg_rooms.specs.declared.grouping.Group.{Group}
+use Rattle.pg_rooms.specs.declared.place_ends.FrontEnds.{FrontEnds}
 use Rattle.pg_rooms.specs.declared.place_ends.PlaceEnds.{PlaceEnds}
 use Rattle.pg_rooms.specs.declared.place_ends.RoomEnds.{RoomEnds}
 
@@ -34,15 +37,39 @@ AreGroups doc (group ∷ groups) ends =
     AllByRecursion (λ (end : RoomEnd). group.before ≡ before_of doc end.to) (take group.count ends)
     × AreGroups doc groups (drop group.count ends)
 
--- all ends in one room, of these candidates, and their groups
-pub record AreRoomEnds (doc : Document) (from : Place) (cs : List Candidate) (it : RoomEnds) : Type 0 where
-  pub ends : AreEnds doc from it.room (ends_of cs it.ends.items)
+-- what no room changes of a list's candidates, for the rooms of all pages
+abbrev pub IsNearOnPages : Document → NearsValue → Type 0
+IsNearOnPages doc near = AreNear doc (greatest_areas gap_stretch doc.style) near.candidates near
+
+-- the best ends of these candidates in a room of a page, and their groups
+pub record AreRoomEnds (doc : Document) (cs : List Candidate) (it : RoomEnds) : Type 0 where
+  pub page : IsPageRoom doc.style it.room
+  pub best : AreBest (kept_ends doc it.room cs) (ends_of cs it.ends.items)
   pub groups : AreGroups doc it.groups.items it.ends.items
 
--- what a place keeps: its candidates, the ends in some rooms, and what is called before them
+-- what is kept behind a front: its walk, and the ends in some rooms
+pub record AreFrontEnds (doc : Document) (it : FrontEnds) : Type 0 where
+  pub walk : IsFrontWalk doc it.walk
+  pub rooms : AllByRecursion (AreRoomEnds doc it.walk.near.candidates) it.rooms.items
+
+-- the candidates there
+abbrev pub behind_candidates : Option FrontEnds → List Candidate
+behind_candidates None = []
+behind_candidates (Some it) = it.walk.near.candidates
+
+-- and the ends in rooms
+abbrev pub behind_rooms : Option FrontEnds → List RoomEnds
+behind_rooms None = []
+behind_rooms (Some it) = it.rooms.items
+
+-- what a place keeps: candidates that suffice, those behind the front last, the ends in some rooms, and what is called
+-- before them
 pub record ArePlaceEnds (doc : Document) (from : Place) (it : PlaceEnds) : Type 0 where
-  pub near : AreNearOnPages doc from it.walk.near
-  pub rooms : AllByRecursion (AreRoomEnds doc from it.walk.near.candidates) it.rooms.items
+  pub near : IsNearOnPages doc it.walk.near
+  pub candidates : AreCandidates doc from (tallest doc.style) (it.walk.near.candidates ++ behind_candidates it.behind)
+  pub apart : AreApart it.walk.near.candidates (behind_candidates it.behind)
+  pub rooms : AllByRecursion (AreRoomEnds doc it.walk.near.candidates) it.rooms.items
+  pub behind : IfSome it.behind (AreFrontEnds doc)
   pub calls : AreCalls doc it.calls.items.items
 
 -- the same size, beside gaps that give the same
@@ -64,3 +91,14 @@ ends_in (first ∷ rooms) room = if is_same_room first.room room then first.ends
 abbrev pub groups_in : List RoomEnds → TextRoom → List Group
 groups_in [] room = []
 groups_in (first ∷ rooms) room = if is_same_room first.room room then first.groups.items else groups_in rooms room
+
+-- a room is among those that were asked for behind a front, if something is kept there
+abbrev pub has_behind : Option FrontEnds → TextRoom → Bool
+has_behind None room = true
+has_behind (Some it) room = has_room it.rooms.items room
+
+-- all ends in a room: those along the first stretch, and those behind the front
+abbrev pub all_ends : PlaceEnds → TextRoom → List End
+all_ends it room =
+    ends_of it.walk.near.candidates (ends_in it.rooms.items room)
+    ++ ends_of (behind_candidates it.behind) (ends_in (behind_rooms it.behind) room)

@@ -18,4 +18,4 @@ pub use calls::{Call, Calls};
 pub use grouping::Group;
 pub use laid::{Laid, has_floats};
 pub use laying::{lay_floats, lay_texts};
-pub use place_ends::{PlaceEnds, RoomEnds};
+pub use place_ends::{FrontEnds, PlaceEnds, RoomEnds, ends_in, groups_in};

@@ -1,5 +1,5 @@
 //! The ends in the rooms of a place.
-ghost use Rattle.std.specs.Prelude.{◌≡◌, [], true, is_some, Contains, IfOk, MatchOption, OnOk};
+ghost use Rattle.std.specs.Prelude.{◌≡◌, [], true, is_some, Contains, IfOk, IfSome, MatchOption, None, OnOk, Some};
 ghost use Rattle.std.specs.List.{AllByRecursion};
 ghost use Rattle.pg_list.specs.declared.galley.Place.{Place as APlace};
 ghost use Rattle.pg_column.specs.Numbers.{IsRoom};
@@ -7,8 +7,7 @@ ghost use Rattle.pg_column.specs.declared.cost.TextRoom.{TextRoom as ATextRoom};
 ghost use Rattle.pg_rooms.specs.declared.laid.Laid.{Laid as ALaid};
 ghost use Rattle.pg_sources.specs.Document.{doc_of};
 ghost use Rattle.pg_rooms.specs.Calls.{AreCalls};
-ghost use Rattle.pg_candidates.specs.Nears.{AreNearOnPages};
-ghost use Rattle.pg_rooms.specs.PlaceEnds.{ArePlaceEnds, AreRoomEnds, IsPageRoom, ends_in, groups_in, has_room, is_same_room};
+ghost use Rattle.pg_rooms.specs.PlaceEnds.{AreFrontEnds, ArePlaceEnds, AreRoomEnds, IsNearOnPages, IsPageRoom, behind_candidates, ends_in as ends_in_of, groups_in as groups_in_of, has_behind, has_room, is_same_room};
 
 use crate::Laid;
 use crate::calls::Calls;
@@ -16,7 +15,7 @@ use crate::grouping::{Group, group_ends};
 use pg_candidates::{NearList, RoomEnd};
 use pg_column::TextRoom;
 use pg_sources::Sources;
-use pg_walk::PlaceWalk;
+use pg_walk::{FrontWalk, PlaceWalk};
 use std::alloc::{AllocError, Global};
 
 /// The ends in a room, of the candidates of a place, and their groups.
@@ -43,21 +42,31 @@ impl RoomEnds {
     }
 }
 
-/// What is kept of a place: its walk, the ends in the rooms that were asked for, and what is called before them.
+/// What is kept behind the front of a choice: its walk, and the ends in the rooms that were asked for. It serves each place
+/// whose columns come to the front alike.
+#[derive(Drop)]
+pub struct FrontEnds {
+    pub walk: FrontWalk,
+    pub rooms: Vec<RoomEnds>,
+}
+
+/// What is kept of a place: its walk, the ends in the rooms that were asked for, what is called before them, and what is kept
+/// behind the front up to which the walk goes, where it does not go on itself.
 #[derive(Drop)]
 pub struct PlaceEnds {
     pub walk: PlaceWalk,
     pub rooms: Vec<RoomEnds>,
     pub calls: Calls,
+    pub behind: Option<FrontEnds>,
 }
 
 // What is kept of a room.
 fn kept<'a>(rooms: &'a [RoomEnds], room: &TextRoom) -> Option<&'a RoomEnds>
     ensures has { has_room rooms.now room.now ≡ is_some result }
-    ensures ends { MatchOption result (ends_in rooms.now room.now ≡ [])
-        (λ it. ends_in rooms.now room.now ≡ it.now.ends.items) }
-    ensures groups { MatchOption result (groups_in rooms.now room.now ≡ [])
-        (λ it. groups_in rooms.now room.now ≡ it.now.groups.items) }
+    ensures ends { MatchOption result (ends_in_of rooms.now room.now ≡ [])
+        (λ it. ends_in_of rooms.now room.now ≡ it.now.ends.items) }
+    ensures groups { MatchOption result (groups_in_of rooms.now room.now ≡ [])
+        (λ it. groups_in_of rooms.now room.now ≡ it.now.groups.items) }
 {
     let mut rest = rooms;
     'rooms: while let [first, after @ ..] = rest {
@@ -78,10 +87,9 @@ fn room_ends(
 ) -> Result<RoomEnds, AllocError>
     requires { IsRoom room.now }
     ensures room { IfOk result (λ it. it.room ≡ room.now) }
-    ensures right { IfOk result (λ it. (from : APlace) →
-        AreNearOnPages (doc_of sources.now) from near.now →
+    ensures right { IfOk result (λ it. IsNearOnPages (doc_of sources.now) near.now →
         IsPageRoom sources.now.style.now room.now → AreCalls (doc_of sources.now) calls.old.items.items →
-        AreRoomEnds (doc_of sources.now) from near.now.candidates it) }
+        AreRoomEnds (doc_of sources.now) near.now.candidates it) }
     ensures calls { OnOk result (AreCalls (doc_of sources.now) calls.old.items.items →
         AreCalls (doc_of sources.now) calls.new.items.items) }
 {
@@ -106,11 +114,10 @@ fn add_room(
     ensures has { OnOk result (has_room rooms.new.items room.now ≡ true) }
     ensures keeps { OnOk result ((other : ATextRoom) → has_room rooms.old.items other ≡ true →
         has_room rooms.new.items other ≡ true) }
-    ensures right { OnOk result ((from : APlace) →
-        AreNearOnPages (doc_of sources.now) from near.now →
+    ensures right { OnOk result (IsNearOnPages (doc_of sources.now) near.now →
         IsPageRoom sources.now.style.now room.now → AreCalls (doc_of sources.now) calls.old.items.items →
-        AllByRecursion (AreRoomEnds (doc_of sources.now) from near.now.candidates) rooms.old.items →
-        AllByRecursion (AreRoomEnds (doc_of sources.now) from near.now.candidates) rooms.new.items) }
+        AllByRecursion (AreRoomEnds (doc_of sources.now) near.now.candidates) rooms.old.items →
+        AllByRecursion (AreRoomEnds (doc_of sources.now) near.now.candidates) rooms.new.items) }
     ensures calls { OnOk result (AreCalls (doc_of sources.now) calls.old.items.items →
         AreCalls (doc_of sources.now) calls.new.items.items) }
 {
@@ -132,12 +139,11 @@ fn add_rooms(
 ) -> Result<(), AllocError>
     requires small { AllByRecursion (λ (it : ALaid). IsRoom it.room) laid.now }
     ensures has { OnOk result ((it : ALaid) → Contains laid.now it → has_room rooms.new.items it.room ≡ true) }
-    ensures right { OnOk result ((from : APlace) →
-        AreNearOnPages (doc_of sources.now) from near.now →
+    ensures right { OnOk result (IsNearOnPages (doc_of sources.now) near.now →
         AllByRecursion (λ (it : ALaid). IsPageRoom sources.now.style.now it.room) laid.now →
         AreCalls (doc_of sources.now) calls.old.items.items →
-        AllByRecursion (AreRoomEnds (doc_of sources.now) from near.now.candidates) rooms.old.items →
-        AllByRecursion (AreRoomEnds (doc_of sources.now) from near.now.candidates) rooms.new.items) }
+        AllByRecursion (AreRoomEnds (doc_of sources.now) near.now.candidates) rooms.old.items →
+        AllByRecursion (AreRoomEnds (doc_of sources.now) near.now.candidates) rooms.new.items) }
     ensures calls { OnOk result (AreCalls (doc_of sources.now) calls.old.items.items →
         AreCalls (doc_of sources.now) calls.new.items.items) }
 {
@@ -147,17 +153,91 @@ fn add_rooms(
     Ok(())
 }
 
+// Works out the ends behind a front in the rooms of layouts, where they are not kept yet.
+fn ask_behind(
+    sources: &Sources<'_>,
+    laid: &[Laid],
+    behind: &mut Option<FrontEnds>,
+    calls: &mut Calls,
+) -> Result<(), AllocError>
+    requires small { AllByRecursion (λ (it : ALaid). IsRoom it.room) laid.now }
+    ensures has { OnOk result ((it : ALaid) → Contains laid.now it → has_behind behind.new it.room ≡ true) }
+    ensures right { OnOk result (AllByRecursion (λ (it : ALaid). IsPageRoom sources.now.style.now it.room) laid.now →
+        AreCalls (doc_of sources.now) calls.old.items.items →
+        IfSome behind.old (AreFrontEnds (doc_of sources.now)) → IfSome behind.new (AreFrontEnds (doc_of sources.now))) }
+    ensures walk { OnOk result (behind_candidates behind.new ≡ behind_candidates behind.old) }
+    ensures calls { OnOk result (AreCalls (doc_of sources.now) calls.old.items.items →
+        AreCalls (doc_of sources.now) calls.new.items.items) }
+{
+    match behind {
+        None => Ok(()),
+        Some(it) => add_rooms(sources, &it.walk.near, laid, &mut it.rooms, calls),
+    }
+}
+
+/// The ends in a room, and none where they are not kept.
+pub fn ends_in<'a>(rooms: &'a [RoomEnds], room: &TextRoom) -> &'a [RoomEnd]
+    ensures { result.now ≡ ends_in_of rooms.now room.now }
+{
+    match kept(rooms, room) {
+        Some(it) => it.ends.as_slice(),
+        None => &[],
+    }
+}
+
+/// The groups of the ends in a room, and none where they are not kept.
+pub fn groups_in<'a>(rooms: &'a [RoomEnds], room: &TextRoom) -> &'a [Group]
+    ensures { result.now ≡ groups_in_of rooms.now room.now }
+{
+    match kept(rooms, room) {
+        Some(it) => it.groups.as_slice(),
+        None => &[],
+    }
+}
+
+impl FrontEnds {
+    /// A walk behind a front, with no room asked for. No memory is taken.
+    pub fn new(alloc: Global, walk: FrontWalk) -> FrontEnds
+        ensures walk { result.walk ≡ walk }
+        ensures rooms { result.rooms.items ≡ [] }
+    {
+        FrontEnds {
+            walk,
+            rooms: Vec::new(alloc),
+        }
+    }
+}
+
 impl PlaceEnds {
     /// A walk, with no room asked for, and calls of any places. No memory is taken.
     pub fn new(alloc: Global, walk: PlaceWalk, calls: Calls) -> PlaceEnds
         ensures walk { result.walk ≡ walk }
         ensures rooms { result.rooms.items ≡ [] }
         ensures calls { result.calls ≡ calls }
+        ensures behind { result.behind ≡ None }
     {
         PlaceEnds {
             walk,
             rooms: Vec::new(alloc),
             calls,
+            behind: None,
+        }
+    }
+
+    /// The ends along the first stretch from a place, with no room asked for, what is kept behind the front there, and calls
+    /// of any places. No memory is taken.
+    pub fn before(alloc: Global, near: NearList, behind: FrontEnds, calls: Calls) -> PlaceEnds
+        ensures walk { result.walk ≡ record { near = near; reach = behind.walk.reach } }
+        ensures rooms { result.rooms.items ≡ [] }
+        ensures calls { result.calls ≡ calls }
+        ensures behind { result.behind ≡ Some behind }
+    {
+        let reach = behind.walk.reach;
+        PlaceEnds {
+            walk: PlaceWalk { near, reach },
+            rooms: Vec::new(alloc),
+            calls,
+            behind: Some(behind),
         }
     }
 
@@ -168,36 +248,13 @@ impl PlaceEnds {
         requires small { AllByRecursion (λ (it : ALaid). IsRoom it.room) laid.now }
         ensures walk { OnOk result (self.new.walk ≡ self.old.walk) }
         ensures has { OnOk result ((it : ALaid) → Contains laid.now it → has_room self.new.rooms.items it.room ≡ true) }
+        ensures behind { OnOk result ((it : ALaid) → Contains laid.now it → has_behind self.new.behind it.room ≡ true) }
         ensures right { OnOk result ((from : APlace) →
             AllByRecursion (λ (it : ALaid). IsPageRoom sources.now.style.now it.room) laid.now →
             ArePlaceEnds (doc_of sources.now) from self.old → ArePlaceEnds (doc_of sources.now) from self.new) }
     {
-        add_rooms(
-            sources,
-            &self.walk.near,
-            laid,
-            &mut self.rooms,
-            &mut self.calls,
-        )
-    }
-
-    /// The ends in a room, and none where they are not kept.
-    pub fn ends_in(&self, room: &TextRoom) -> &[RoomEnd]
-        ensures { result.now ≡ ends_in self.now.rooms.items room.now }
-    {
-        match kept(self.rooms.as_slice(), room) {
-            Some(it) => it.ends.as_slice(),
-            None => &[],
-        }
-    }
-
-    /// The groups of the ends in a room, and none where they are not kept.
-    pub fn groups_in(&self, room: &TextRoom) -> &[Group]
-        ensures { result.now ≡ groups_in self.now.rooms.items room.now }
-    {
-        match kept(self.rooms.as_slice(), room) {
-            Some(it) => it.groups.as_slice(),
-            None => &[],
-        }
+        let near = &self.walk.near;
+        add_rooms(sources, near, laid, &mut self.rooms, &mut self.calls)?;
+        ask_behind(sources, laid, &mut self.behind, &mut self.calls)
     }
 }

@@ -1,6 +1,6 @@
 //! The space of pages of one document, which keeps the walk of the place that was opened last, and what is called before
 //! all ends.
-ghost use Rattle.std.specs.Prelude.{◌≡◌, [], pos, IfOk};
+ghost use Rattle.std.specs.Prelude.{◌≡◌, [], true, pos, IfOk, IfSome};
 ghost use Rattle.pg_floats.specs.AreFloats.{AreFloats};
 ghost use Rattle.pg_hops.specs.Index.{AreHops};
 ghost use Rattle.pg_hops.specs.OneProof.{AreHops_prop};
@@ -8,9 +8,12 @@ ghost use Rattle.pg_list.specs.GalleyValue.{GalleyValue};
 ghost use Rattle.pg_sources.specs.Document.{doc_of};
 ghost use Rattle.law_space.specs.ReachAt.{reach_at};
 ghost use Rattle.pg_rooms.specs.Calls.{AreCalls};
-ghost use Rattle.pg_rooms.specs.PlaceEnds.{ArePlaceEnds};
+ghost use Rattle.pg_rooms.specs.PlaceEnds.{AreFrontEnds, ArePlaceEnds};
+ghost use Rattle.pg_walk.specs.Fronts.{ComesTo, IsAhead, is_same_front};
 ghost use Rattle.pg_rules.specs.IsState.{IsPlace, IsState};
+ghost use Rattle.pg_candidates.specs.Nears.{AreNearOnPages};
 ghost use Rattle.pg_rules.specs.Legal.{document};
+ghost use Rattle.pg_rules.specs.Reach.{IsReach};
 ghost use Rattle.law_space.specs.PageSpace.{page_meaning};
 ghost use Rattle.pg_style.specs.Plain.{plain};
 ghost use Rattle.pg_style.specs.Values.{StyleValue};
@@ -18,16 +21,18 @@ ghost use Rattle.pg_table.specs.Space.{AreWanted};
 ghost use Rattle.pg_space.specs.OneProof.{galley_set, style_set};
 
 use crate::space::PageSpace;
+use law_space::reach_laws::reach_is_the_greatest;
 use pg_floats::FloatList;
 use pg_hops::BreakIndex;
 use pg_list::{Galley, Place};
-use pg_moves::{open_by, walk_place};
+use pg_moves::open_by;
 use pg_plan::{PageKey, State};
-use pg_rooms::{Calls, PlaceEnds};
+use pg_rooms::{Calls, FrontEnds, PlaceEnds};
 use pg_small::{SmallMove, SmallState};
 use pg_states::no_worse;
 use pg_style::Style;
 use pg_table::{EveryMove, Offering, Opened, Space, Steps, Wants};
+use pg_walk::{Front, NearList, PlaceWalk, fronts_serve, walk_behind, walk_first};
 use std::alloc::{AllocError, Global};
 use std::cell::RefCell;
 use std::cmp::Ordering;
@@ -47,21 +52,83 @@ impl Document for Brand {
     ghost style = { plain (pos 65536) };
 }
 
-/// What is kept of a place of the document.
+/// What is kept behind the front of a choice of the document.
+#[derive(Drop)]
+struct KeptFront<D: Document> {
+    ends: FrontEnds,
+    of: PhantomData<D>,
+    ghost right: { ∥ AreFrontEnds (document D.galley D.style) ends ∥₁ },
+}
+
+/// What is kept of a place of the document, and behind the front of the next choice for columns from other places.
 #[derive(Drop)]
 struct Kept<D: Document> {
     from: Place,
     ends: PlaceEnds,
+    fronts: Vec<KeptFront<D>>,
     of: PhantomData<D>,
     ghost right: { ∥ ArePlaceEnds (document D.galley D.style) from ends ∥₁ },
     ghost reach: { ends.walk.reach ≡ reach_at (document D.galley D.style) from },
 }
 
-// The calls of what is kept of a place, which serve for each other place.
-fn calls_of<D: Document>(kept: Kept<D>) -> Calls
-    ensures { ∥ AreCalls (document D.galley D.style) result.items.items ∥₁ }
+/// What serves for each other place: what is called before ends, and what is kept behind the front of the next choice.
+#[derive(Drop)]
+struct Shared<D: Document> {
+    calls: Calls,
+    fronts: Vec<KeptFront<D>>,
+    ghost right: { ∥ AreCalls (document D.galley D.style) calls.items.items ∥₁ },
+}
+
+// Nothing that is kept.
+fn nothing_shared<D: Document>(alloc: Global) -> Shared<D> {
+    Shared {
+        calls: Calls::none(alloc),
+        fronts: Vec::new(alloc),
+    }
+}
+
+// What is kept of a place, as far as it serves for each other one.
+fn shared_of<D: Document>(kept: Kept<D>) -> Result<Shared<D>, AllocError> {
+    let ends = kept.ends;
+    let mut fronts = kept.fronts;
+    let PlaceEnds { calls, behind, .. } = ends;
+    if let Some(ends) = behind {
+        let front = KeptFront {
+            ends,
+            of: PhantomData,
+        };
+        fronts.push(front)?;
+    }
+    Ok(Shared { calls, fronts })
+}
+
+// Whether these are kept behind another front than the one at a block.
+fn is_other<D: Document>(fronts: &[KeptFront<D>], block: u32) -> bool {
+    match fronts.first() {
+        Some(first) => first.ends.walk.front.start.block != block,
+        None => false,
+    }
+}
+
+// Whether this is kept for columns that come to a front alike.
+fn is_for<D: Document>(kept: &KeptFront<D>, front: &Front) -> bool
+    ensures { result ≡ is_same_front kept.now.ends.walk.front front.now }
 {
-    kept.ends.calls
+    kept.ends.walk.front.is_same(front)
+}
+
+// Takes out what is kept for columns that come to a front alike.
+fn take_front<D: Document>(fronts: &mut Vec<KeptFront<D>>, front: &Front) -> Option<KeptFront<D>>
+    ensures { IfSome result (λ it. is_same_front it.ends.walk.front front.now ≡ true) }
+{
+    let mut at = 0;
+    'fronts: while at < fronts.len() {
+        if is_for(&fronts[at], front) {
+            return Some(fronts.swap_remove(at));
+        }
+        at += 1;
+    }
+    None
 }
 
 /// The columns behind a state, and what is kept of its place.
@@ -108,33 +175,120 @@ impl<'a, D: Document> KeptPages<'a, D> {
         }
     }
 
-    // The walk from a place, with the calls of others.
-    fn walk(&self, from: Place, calls: Calls) -> Result<Kept<D>, AllocError>
+    // A walk behind a front to which columns from a place come.
+    fn walk_behind(&self, from: Place, front: Front) -> Result<KeptFront<D>, AllocError>
         requires place { IsPlace self.now.pages.sources.galley.now.blocks from }
-        requires calls { ∥ AreCalls (document D.galley D.style) calls.items.items ∥₁ }
-        ensures { IfOk result (λ kept. kept.from ≡ from) }
+        requires ahead { IsAhead (doc_of self.now.pages.sources) from front }
+        ensures { IfOk result (λ it. is_same_front it.ends.walk.front front ≡ true) }
     {
         let sources = &self.pages.sources;
-        let walk = walk_place(sources, self.index, from)?;
-        Ok(Kept {
-            from,
-            ends: PlaceEnds::new(sources.alloc, walk, calls),
+        let alloc = sources.alloc;
+        let galley = sources.galley;
+        let style = sources.style;
+        let walk = walk_behind(alloc, galley, style, self.index, from, front)?;
+        Ok(KeptFront {
+            ends: FrontEnds::new(alloc, walk),
             of: PhantomData,
         })
     }
 
-    // What is kept of a place, taken out of the cell, or a walk where it is not this place, with the calls of that one.
+    // What stands behind that front: what is kept for others that come there alike, or a walk where nothing is.
+    fn behind(
+        &self,
+        from: Place,
+        front: Front,
+        fronts: &mut Vec<KeptFront<D>>,
+    ) -> Result<KeptFront<D>, AllocError>
+        requires place { IsPlace self.now.pages.sources.galley.now.blocks from }
+        requires ahead { IsAhead (doc_of self.now.pages.sources) from front }
+        ensures { IfOk result (λ it. is_same_front it.ends.walk.front front ≡ true) }
+    {
+        if is_other(fronts.as_slice(), front.start.block) {
+            fronts.clear();
+        }
+        let Some(kept) = take_front(fronts, &front) else {
+            return self.walk_behind(from, front);
+        };
+        Ok(kept)
+    }
+
+    // What is kept of a place whose columns come to a front: the ends up to it, and what is kept behind it.
+    fn keep_before(
+        &self,
+        from: Place,
+        near: NearList,
+        front: Front,
+        shared: Shared<D>,
+    ) -> Result<Kept<D>, AllocError>
+        requires place { IsPlace self.now.pages.sources.galley.now.blocks from }
+        requires comes { ComesTo (doc_of self.now.pages.sources) from near front }
+        ensures { IfOk result (λ kept. kept.from ≡ from) }
+    {
+        let sources = &self.pages.sources;
+        let mut fronts = shared.fronts;
+        let kept = self.behind(from, front, &mut fronts)?;
+        fronts_serve(sources.galley, sources.style);
+        reach_is_the_greatest(sources.galley, sources.style);
+        let ends = PlaceEnds::before(sources.alloc, near, kept.ends, shared.calls);
+        Ok(Kept {
+            from,
+            ends,
+            fronts,
+            of: PhantomData,
+        })
+    }
+
+    // What is kept of a place whose columns come to no front.
+    fn keep_alone(&self, from: Place, walk: PlaceWalk, shared: Shared<D>) -> Kept<D>
+        requires place { IsPlace self.now.pages.sources.galley.now.blocks from }
+        requires near { AreNearOnPages (doc_of self.now.pages.sources) from walk.near }
+        requires reach { IsReach (doc_of self.now.pages.sources) from walk.reach }
+        ensures { result.from ≡ from }
+    {
+        let sources = &self.pages.sources;
+        reach_is_the_greatest(sources.galley, sources.style);
+        Kept {
+            from,
+            ends: PlaceEnds::new(sources.alloc, walk, shared.calls),
+            fronts: shared.fronts,
+            of: PhantomData,
+        }
+    }
+
+    // The walk from a place, with what is kept for others.
+    fn walk(&self, from: Place, shared: Shared<D>) -> Result<Kept<D>, AllocError>
+        requires { IsPlace self.now.pages.sources.galley.now.blocks from }
+        ensures { IfOk result (λ kept. kept.from ≡ from) }
+    {
+        let sources = &self.pages.sources;
+        let galley = sources.galley;
+        let style = sources.style;
+        let first = walk_first(sources.alloc, galley, style, self.index, from)?;
+        let front = first.front;
+        match front {
+            Some(front) => self.keep_before(from, first.near, front, shared),
+            None => {
+                let walk = PlaceWalk {
+                    near: first.near,
+                    reach: first.reach,
+                };
+                Ok(self.keep_alone(from, walk, shared))
+            }
+        }
+    }
+
+    // What is kept of a place, taken out of the cell, or a walk where it is not this place, with what serves of that one.
     fn take(&self, from: Place) -> Result<Kept<D>, AllocError>
         requires { IsPlace self.now.pages.sources.galley.now.blocks from }
         ensures { IfOk result (λ kept. kept.from ≡ from) }
     {
         let Ok(Some(kept)) = self.kept.try_replace(None) else {
-            return self.walk(from, Calls::none(self.pages.sources.alloc));
+            return self.walk(from, nothing_shared(self.pages.sources.alloc));
         };
         if kept.from == from {
             return Ok(kept);
         }
-        self.walk(from, calls_of(kept))
+        self.walk(from, shared_of(kept)?)
     }
 
     // The columns that may follow a state and are wanted, by what is kept of its place.
@@ -159,6 +313,7 @@ impl<'a, D: Document> KeptPages<'a, D> {
             kept: Kept {
                 from,
                 ends,
+                fronts: kept.fronts,
                 of: PhantomData,
             },
         })

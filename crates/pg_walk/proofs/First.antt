@@ -25,7 +25,7 @@ use Rattle.law_walk.proofs.SpaceLaws.{past_parts}
 use Rattle.law_walk.proofs.Whole.{first_within}
 use Rattle.pg_candidates.specs.View.{passed_of}
 use Rattle.pg_candidates.specs.declared.along.Walked.{Walked}
-use Rattle.pg_walk.specs.Blocks.{IsAlone, TellsQuiet}
+use Rattle.pg_walk.specs.Blocks.{HasStart, HasWalked, IsAlone, TellsAlone, TellsQuiet}
 use Rattle.law_walk.specs.Candidates.{AreCandidates, Candidate}
 use Rattle.law_walk.specs.Laws.{LabelsSuffice}
 use Rattle.law_walk.specs.Space.{first_ends}
@@ -133,7 +133,23 @@ first_quiet (Ok w) doc ranged top z t from p pe xs xe b be past reach quiet-is =
     (quiet-is ∙ at_first (λ (y : ℤ) (q : Passed) (ys : List FlatItem) (c : ℕ).
     is_quiet doc.style (passed_along doc y q ys)) doc top z t from p pe xs xe b be)
 
-pub told_alone : (doc : Document) (top z : ℤ) → z ≡ top → (from : Place) (w : Walked) (o : Option ℕ) →
+-- all that it tells
+pub first_walked : {E : Type 0} (r : Result Walked E) (doc : Document) (top z : ℤ) → z ≡ top → (from : Place) →
+    (p : Passed) → p ≡ nothing → (xs : List FlatItem) → xs ≡ first_items doc.blocks from →
+    (b : ℕ) → b ≡ first_front doc.blocks from →
+    IfOk r (λ w. passed_of w.state ≡ past_stretch doc z p xs) → IfOk r (λ w. IfSome w.state (λ s. s.block ≡ b)) →
+    IfOk r (λ w. IfSome w.state (IsOwn doc top)) → IfOk r (λ w. w.is_quiet ≡ true → TellsQuiet doc top from w) →
+    IfOk r (HasWalked doc top from)
+first_walked (Err e) doc top z t from p pe xs xe b be past front own quiet-tells = tt
+first_walked (Ok w) doc top z t from p pe xs xe b be past front own quiet-tells = record {
+  past = past ∙ at_first (λ (y : ℤ) (q : Passed) (ys : List FlatItem) (c : ℕ). past_stretch doc y q ys)
+      doc top z t from p pe xs xe b be;
+  front = subst (λ (n : ℕ). IfSome w.state (λ s. s.block ≡ n)) be front;
+  own = own;
+  quiet = quiet-tells;
+}
+
+told_alone : (doc : Document) (top z : ℤ) → z ≡ top → (from : Place) (w : Walked) (o : Option ℕ) →
     o ≡ (if w.is_quiet then Some w.greatest else None) → (w.is_quiet ≡ true → TellsQuiet doc z from w) →
     (passed_of w.state ≡ None) ⊎ (variants_at doc.blocks (first_front doc.blocks from) ≡ []) →
     IfSome o (IsAlone (quiet doc) top from)
@@ -152,6 +168,20 @@ told_alone doc top z t from w o is tells last =
             | inr none ↦ inr none
           ];
         }
+
+-- what the first stretch tells, by the state behind it and the greatest block
+pub has_start : (doc : Document) (top : ℤ) (from : Place) (w : Walked) (start : Option State) → start ≡ w.state →
+    HasWalked doc top from w → HasStart doc top from start
+has_start doc top from w start e has = subst (HasStart doc top from) (sym e)
+    (record { past = has.past; front = has.front; own = has.own })
+
+pub tells_alone : (doc : Document) (top : ℤ) (from : Place) (w : Walked) (start : Option State) (told : Option ℕ) →
+    start ≡ w.state → told ≡ (if w.is_quiet then Some w.greatest else None) → HasWalked doc top from w →
+    TellsAlone doc top from start told
+tells_alone doc top from w start told e t has = λ last.
+    told_alone doc top top refl from w told t has.quiet
+    (subst (λ (o : Option State). (passed_of o ≡ None) ⊎ (variants_at doc.blocks (first_front doc.blocks from) ≡ []))
+    e last)
 
 -- ---- what suffices
 

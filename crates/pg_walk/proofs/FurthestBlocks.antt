@@ -28,7 +28,7 @@ use Rattle.pg_walk.specs.Furthest.{GoesTo}
 use Rattle.pg_walk.proofs.Greatest.{is_greatest}
 use Rattle.pg_walk.proofs.Lifted.{entries_of, lifted}
 use Rattle.pg_walk.specs.Meaning.{IsOwn, state_of}
-use Rattle.pg_walk.specs.Blocks.{IsGreatestFrom, state}
+use Rattle.pg_walk.specs.Blocks.{IsBegun, IsGreatestFrom, state}
 use Rattle.pg_walk.specs.Rooms.{greatest_room}
 use Rattle.pg_walk.proofs.First.{first_own}
 
@@ -94,13 +94,33 @@ greatest_quiet galley style other z e t from n g =
     subst (λ (s : StyleValue). IsGreatestFrom (document galley s) (tallest style) from n) e
     (subst (λ (y : ℤ). IsGreatestFrom (document galley other) y from n) t g)
 
--- ---- behind the first stretch
+-- the state before the first front
+pub begun_quiet : (galley : GalleyValue) (style other : StyleValue) (z : ℤ) →
+    other ≡ record style { classes = []; max_looseness = 100 } → z ≡ tallest style → (from : Place) →
+    (o : Option State) → IfSome o (IsBegun (document galley other) z from) →
+    IfSome o (IsBegun (quiet (document galley style)) (tallest style) from)
+begun_quiet galley style other z e t from o g =
+    subst (λ (s : StyleValue). IfSome o (IsBegun (document galley s) (tallest style) from)) e
+    (subst (λ (y : ℤ). IfSome o (IsBegun (document galley other) y from)) t g)
 
--- the state behind the first stretch, where it is passed
-pub record IsBegun (doc : Document) (top : ℤ) (from : Place) (start : State) : Type 0 where
-  pub own : IsOwn doc top start
-  pub front : start.block ≡ first_front doc.blocks from
-  pub past : Some (view start.passed) ≡ past_stretch doc top nothing (first_items doc.blocks from)
+-- where it is the walk's own
+pub own_quiet : (galley : GalleyValue) (style other : StyleValue) (z : ℤ) →
+    other ≡ record style { classes = []; max_looseness = 100 } → z ≡ tallest style → (start : State) →
+    IsOwn (quiet (document galley style)) (tallest style) start → IsOwn (document galley other) z start
+own_quiet galley style other z e t start own =
+    subst (λ (y : ℤ). IsOwn (document galley other) y start) (sym t)
+    (subst (λ (s : StyleValue). IsOwn (document galley s) (tallest style) start) (sym e) own)
+
+-- and how far columns go behind it
+pub goes_quiet : (galley : GalleyValue) (style other : StyleValue) (z : ℤ) →
+    other ≡ record style { classes = []; max_looseness = 100 } → z ≡ tallest style → (start : State) (least n : ℕ) →
+    GoesTo (document galley other) z start least n →
+    GoesTo (quiet (document galley style)) (tallest style) start least n
+goes_quiet galley style other z e t start least n g =
+    subst (λ (s : StyleValue). GoesTo (document galley s) (tallest style) start least n) e
+    (subst (λ (y : ℤ). GoesTo (document galley other) y start least n) t g)
+
+-- ---- behind the first stretch
 
 none_at : (o : Option Passed) (b : ℕ) → option_map (state b) o ≡ None → o ≡ None
 none_at None b e = refl
@@ -148,6 +168,14 @@ module _ (doc : Document) (top z : ℤ) (t : z ≡ top) (from : Place) (p : Pass
                 front = front ∙ fe;
                 past = there;
               })
+
+      pub begun_if : AllByRecursion IsBlock doc.blocks → item_count doc.blocks ≤ 2 ^ 20 → IsPlace doc.blocks from →
+          IfSome o (λ q. IsFor doc.style q) → (k m : ℕ) → k ≡ 0 → m ≡ 0 →
+          IfSome o (λ q. (q.sums.count ≡ k + length xs) × (q.notes.count ≡ m + length xs)) → (r : Option State) →
+          r ≡ option_map (state b) o → IfSome r (IsBegun doc top from)
+      begun_if all few at style k m ke me counts None e = tt
+      begun_if all few at style k m ke me counts (Some start) e =
+          begun all few at style k m ke me counts start (sym e)
 
       pub alone : (start : State) → option_map (state b) o ≡ Some start →
           variants_at doc.blocks start.block ≡ [] → IsGreatestFrom doc top from n

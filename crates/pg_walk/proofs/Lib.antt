@@ -8,3 +8,5 @@ pub mod Greatest
 pub mod First
 pub mod FurthestBlocks
 pub mod Several
+pub mod Standing
+pub mod Behind

@@ -4,4 +4,5 @@ pub mod WalkLawful
 pub mod Collected
 pub mod Furthest
 pub mod Blocks
+pub mod Fronts
 pub mod Rooms

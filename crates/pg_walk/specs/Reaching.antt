@@ -24,9 +24,9 @@ use Rattle.pg_walk.specs.Meaning.{greatest_behind, reach_by}
 
 -- ---- the items of a stretch stand from the choice up to the next front
 
-record IsBetween (low high : ℕ) (x : FlatItem) : Type 0 where
-  from : low ≤ x.place.block
-  to : x.place.block ≤ high
+pub record IsBetween (low high : ℕ) (x : FlatItem) : Type 0 where
+  pub from : low ≤ x.place.block
+  pub to : x.place.block ≤ high
 
 later_between : (low high b v i : ℕ) (items : List Item) → low ≤ b → b ≤ high →
     AllByRecursion (IsBetween low high) (later_flat_items b v i items)
@@ -82,7 +82,7 @@ module _ (doc : Document) (top : ℤ) where
   along_from low b p (x ∷ xs) h a = let f = a.0.from in of_one x.place.block _ low (inl f)
 
   -- no more than the front behind
-  along_to : (low b : ℕ) (p : Passed) (xs : List FlatItem) → AllByRecursion (IsBetween low b) xs →
+  pub along_to : (low b : ℕ) (p : Passed) (xs : List FlatItem) → AllByRecursion (IsBetween low b) xs →
       reach_along doc top b p xs ≤ b
   along_to low b p [] a = omega arith
   along_to low b p (x ∷ xs) a = both_below x.place.block _ a.0.to
@@ -101,7 +101,7 @@ module _ (doc : Document) (top : ℤ) where
       by (Some q) more = inside (fits q.bound top) (reach_along doc top b q xs) (more q)
 
   -- what is passed comes to the front behind
-  along_whole : (b : ℕ) (p r : Passed) (xs : List FlatItem) → pass_items doc p xs ≡ Some r →
+  pub along_whole : (b : ℕ) (p r : Passed) (xs : List FlatItem) → pass_items doc p xs ≡ Some r →
       fits r.bound top ≡ true → b ≤ reach_along doc top b p xs
   along_whole b p r [] g f = omega arith
   along_whole b p r (x ∷ xs) g f = of_one x.place.block _ b

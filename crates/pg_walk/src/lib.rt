@@ -15,6 +15,7 @@
 #![tactic(auto)]
 
 mod filling;
+mod front;
 mod give;
 mod label;
 mod labels_reach;
@@ -27,11 +28,12 @@ mod space;
 mod table;
 mod walking;
 
+pub use front::{Front, FrontWalk, fronts_serve, walk_behind};
 pub use labels_reach::furthest;
 pub use pg_candidates::{CandidateList, NearList};
 pub use pg_column::{End, EndList, EndLists, TextCost};
 pub use picks::{is_loose_enough, variants_at};
-pub use place::{PlaceWalk, walk_from};
+pub use place::{FirstWalk, PlaceWalk, walk_first, walk_from};
 pub use reach::reach_of;
 pub use rooms::{ends, ends_many};
 pub use space::{Key, WalkSpace};

@@ -1,16 +1,22 @@
 //! One walk for all columns of text from a place.
-ghost use Rattle.std.specs.Prelude.{◌<◌, ◌^◌, IfOk, nat_abs};
+ghost use Rattle.std.specs.Prelude.{◌≡◌, ◌<◌, ◌^◌, IfOk, IfSome, None, nat_abs};
 ghost use Rattle.pg_hops.specs.Index.{AreHops};
 ghost use Rattle.pg_rules.specs.IsState.{IsPlace};
 ghost use Rattle.pg_rules.specs.Legal.{document};
 ghost use Rattle.pg_rules.specs.Reach.{IsReach};
 ghost use Rattle.pg_candidates.specs.Nears.{AreNearFrom, AreNearOnPages};
+ghost use Rattle.law_walk.specs.Reached.{tallest as tallest_of};
+ghost use Rattle.law_walk.specs.Space.{first_ends};
+ghost use Rattle.pg_walk.specs.Blocks.{HasStart, TellsAlone};
+ghost use Rattle.pg_walk.specs.Fronts.{ComesTo, IsAhead};
 
+use crate::front::Front;
 use crate::give::areas_give;
-use crate::reach::{reach_told, tallest};
-use crate::walking::{candidates, collect_from};
+use crate::reach::{quiet_state, reach_told, tallest};
+use crate::variants_at;
+use crate::walking::{candidates, collect_behind, first_stretch, quiet_greatest, state_behind};
 use pg_candidates::{CandidateList, NearList};
-use pg_hops::BreakIndex;
+use pg_hops::{BreakIndex, State};
 use pg_list::{Galley, Place};
 use pg_style::{Give, Style};
 use std::alloc::{AllocError, Global};
@@ -40,6 +46,35 @@ pub(crate) fn near_from(
     candidates(alloc, galley, style, from, top)?.into_near(alloc, galley, style, most)
 }
 
+// What a walk from a place tells, by what its first stretch tells, of which these are the ends.
+fn walk_on_from(
+    alloc: Global,
+    galley: &Galley,
+    style: &Style,
+    index: &BreakIndex,
+    from: Place,
+    start: Option<State>,
+    told: Option<u32>,
+    first: CandidateList,
+) -> Result<PlaceWalk, AllocError>
+    requires hops { AreHops galley.now.blocks style.now.maxdepth index.now }
+    requires place { IsPlace galley.now.blocks from }
+    requires ends { first ≡ first_ends (document galley.now style.now) (tallest_of style.now) from }
+    requires start { HasStart (document galley.now style.now) (tallest_of style.now) from start }
+    requires told { TellsAlone (document galley.now style.now) (tallest_of style.now) from start told }
+    ensures near { IfOk result (λ walk. AreNearOnPages (document galley.now style.now) from walk.near) }
+    ensures reach { IfOk result (λ walk. IsReach (document galley.now style.now) from walk.reach) }
+{
+    let mut found = first;
+    let top = tallest(style);
+    let told = collect_behind(
+        alloc, galley, style, index, from, top, start, told, &mut found,
+    )?;
+    let reach = reach_told(alloc, galley, style, index, from, told)?;
+    let near = found.into_near(alloc, galley, style, &areas_give(style))?;
+    Ok(PlaceWalk { near, reach })
+}
+
 /// What one walk from a place tells of the columns of text that begin there, in every room up to that of the tallest run
 /// beside gaps of areas that are no more than full, and how far they may go.
 ///
@@ -57,16 +92,80 @@ pub fn walk_from(
     ensures reach { IfOk result (λ walk. IsReach (document galley.now style.now) from walk.reach) }
 {
     let mut found = CandidateList::with_room(alloc)?;
-    let told = collect_from(
-        alloc,
-        galley,
-        style,
-        index,
-        from,
-        tallest(style),
-        &mut found,
-    )?;
-    let reach = reach_told(alloc, galley, style, index, from, told)?;
+    let top = tallest(style);
+    let walked = first_stretch(alloc, galley, style, index, from, top, &mut found)?;
+    let start = state_behind(&walked);
+    let told = quiet_greatest(&walked);
+    walk_on_from(alloc, galley, style, index, from, start, told, found)
+}
+
+/// What the first stretch from a place tells, up to the first choice: where columns may end along it, with what no room
+/// changes, and how they come to the front behind it. Where they come to none, these are all ends, and the reach is one
+/// more than the greatest block of a place that they may reach.
+#[derive(Drop)]
+pub struct FirstWalk {
+    pub near: NearList,
+    pub front: Option<Front>,
+    pub reach: u32,
+}
+
+// How columns from a place come to the front of a choice behind the first stretch, with their notes and without.
+fn front_behind(
+    alloc: Global,
+    galley: &Galley,
+    style: &Style,
+    index: &BreakIndex,
+    from: Place,
+    start: Option<State>,
+) -> Option<Front>
+    requires hops { AreHops galley.now.blocks style.now.maxdepth index.now }
+    requires place { IsPlace galley.now.blocks from }
+    requires start { HasStart (document galley.now style.now) (tallest_of style.now) from start }
+    ensures { IfSome result (IsAhead (document galley.now style.now) from) }
+{
+    let start = start?;
+    if variants_at(galley, start.block).is_empty() {
+        return None;
+    }
+    let quiet = quiet_state(alloc, galley, style, index, from)?;
+    Some(Front { start, quiet })
+}
+
+/// Walks along the first stretch from a place, and on where no choice stands behind it.
+///
+/// Conditions: the place is the galley's, and the index is of the galley and style. The one refusal is want of memory.
+pub fn walk_first(
+    alloc: Global,
+    galley: &Galley,
+    style: &Style,
+    index: &BreakIndex,
+    from: Place,
+) -> Result<FirstWalk, AllocError>
+    requires hops { AreHops galley.now.blocks style.now.maxdepth index.now }
+    requires place { IsPlace galley.now.blocks from }
+    ensures whole { IfOk result (λ it. it.front ≡ None → AreNearOnPages (document galley.now style.now) from it.near) }
+    ensures reach { IfOk result (λ it. it.front ≡ None → IsReach (document galley.now style.now) from it.reach) }
+    ensures front { IfOk result (λ it. IfSome it.front (ComesTo (document galley.now style.now) from it.near)) }
+{
+    let mut found = CandidateList::with_room(alloc)?;
+    let top = tallest(style);
+    let walked = first_stretch(alloc, galley, style, index, from, top, &mut found)?;
+    let front = front_behind(alloc, galley, style, index, from, state_behind(&walked));
+    let Some(front) = front else {
+        let start = state_behind(&walked);
+        let told = quiet_greatest(&walked);
+        let walk = walk_on_from(alloc, galley, style, index, from, start, told, found)?;
+        return Ok(FirstWalk {
+            near: walk.near,
+            front: None,
+            reach: walk.reach,
+        });
+    };
+    let reach = front.start.block;
     let near = found.into_near(alloc, galley, style, &areas_give(style))?;
-    Ok(PlaceWalk { near, reach })
+    Ok(FirstWalk {
+        near,
+        front: Some(front),
+        reach,
+    })
 }

@@ -1,11 +1,12 @@
 //! How far columns from a place may go.
-ghost use Rattle.std.specs.Prelude.{◌+ℤ◌, ◌<◌, ◌^◌, nat_abs, ◌≡◌, [], IfOk, IfSome, option_map};
+ghost use Rattle.std.specs.Prelude.{◌+◌, ◌+ℤ◌, ◌<◌, ◌^◌, nat_abs, ◌≡◌, [], IfOk, IfSome, option_map};
 ghost use Rattle.pg_hops.specs.Index.{AreHops};
 ghost use Rattle.pg_rules.specs.IsState.{IsPlace};
 ghost use Rattle.pg_rules.specs.Legal.{document};
 ghost use Rattle.pg_rules.specs.Reach.{IsReach, greatest_extra as greatest_extra_of};
 ghost use Rattle.law_walk.specs.Reached.{quiet, tallest as tallest_of};
-ghost use Rattle.pg_walk.specs.Blocks.{IsAlone, IsGreatestFrom, state};
+ghost use Rattle.pg_walk.specs.Blocks.{IsAlone, IsBegun, IsGreatestFrom, state};
+ghost use Rattle.pg_walk.specs.Fronts.{IsReachBehind};
 
 use crate::give::greatest_shrink;
 use crate::{furthest, variants_at};
@@ -136,7 +137,8 @@ fn greatest_block(
 fn one_more(galley: &Galley, style: &Style, from: Place, block: u32) -> u32
     requires place { IsPlace galley.now.blocks from }
     requires greatest { IsGreatestFrom (quiet (document galley.now style.now)) (tallest_of style.now) from block }
-    ensures { IsReach (document galley.now style.now) from result }
+    ensures reach { IsReach (document galley.now style.now) from result }
+    ensures value { result ≡ block + 1 }
 {
     style.stays_in_range();
     let _ = galley.blocks().as_slice();
@@ -177,6 +179,62 @@ pub fn reach_of(
 {
     let index = BreakIndex::empty(alloc);
     reach_by(alloc, galley, style, &index, from)
+}
+
+// The state behind the first stretch, where some room up to the greatest one lets pass.
+fn state_past(
+    galley: &Galley,
+    style: &Style,
+    index: &BreakIndex,
+    top: i64,
+    from: Place,
+) -> Option<State>
+    requires hops { AreHops galley.now.blocks style.now.maxdepth index.now }
+    requires place { IsPlace galley.now.blocks from }
+    ensures { IfSome result (IsBegun (document galley.now style.now) top from) }
+{
+    let _ = galley.blocks().as_slice();
+    let ahead = Cursor::first(galley, from);
+    let passing = pass_on(galley, style, index, top, ahead, Passed::nothing(style));
+    state_at(passing.front, passing.passed)
+}
+
+/// The state in which columns from a place that pass no notes come to the first front, if they do in the tallest room.
+pub(crate) fn quiet_state(
+    alloc: Global,
+    galley: &Galley,
+    style: &Style,
+    index: &BreakIndex,
+    from: Place,
+) -> Option<State>
+    requires hops { AreHops galley.now.blocks style.now.maxdepth index.now }
+    requires place { IsPlace galley.now.blocks from }
+    ensures { IfSome result (IsBegun (quiet (document galley.now style.now)) (tallest_of style.now) from) }
+{
+    let quiet = quiet_style(alloc, style);
+    state_past(galley, &quiet, index, tallest(style), from)
+}
+
+/// One more than the greatest block of a place that columns from this place may reach, which come to the first front in
+/// this state where they pass no notes.
+pub(crate) fn reach_behind(
+    alloc: Global,
+    galley: &Galley,
+    style: &Style,
+    index: &BreakIndex,
+    from: Place,
+    start: State,
+) -> Result<u32, AllocError>
+    requires hops { AreHops galley.now.blocks style.now.maxdepth index.now }
+    requires place { IsPlace galley.now.blocks from }
+    requires start { IsBegun (quiet (document galley.now style.now)) (tallest_of style.now) from start }
+    ensures { IfOk result (IsReachBehind (document galley.now style.now) start) }
+{
+    let quiet = quiet_style(alloc, style);
+    let top = tallest(style);
+    let front = start.block;
+    let block = furthest(alloc, galley, &quiet, index, top, start, front)?;
+    Ok(one_more(galley, style, from, block))
 }
 
 // How far columns from a place may go, where the first stretch alone may have told the greatest block.

@@ -115,8 +115,8 @@ fn is_lighter(a: &State, b: &State) -> bool
         && is_no_greater(a.passed.bound, b.passed.bound)
 }
 
-// Whether a state is no worse than another.
-fn no_worse_than(a: &State, b: &State) -> bool
+/// Whether a state is no worse than another.
+pub(crate) fn no_worse_than(a: &State, b: &State) -> bool
     ensures { result ≡ is_no_worse (state_of a.now) (state_of b.now) }
 {
     same_key(a, b) && is_lighter(a, b)

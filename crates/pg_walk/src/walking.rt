@@ -12,7 +12,7 @@ ghost use Rattle.law_walk.specs.Space.{first_ends};
 ghost use Rattle.law_walk.specs.Walk.{first_front, first_items, past_stretch};
 ghost use Rattle.pg_candidates.specs.View.{passed_of};
 ghost use Rattle.pg_walk.specs.Meaning.{IsOwn};
-ghost use Rattle.pg_walk.specs.Blocks.{IsAlone, TellsQuiet};
+ghost use Rattle.pg_walk.specs.Blocks.{HasStart, HasWalked, IsAlone, TellsAlone};
 
 use crate::{collect, variants_at};
 use law_walk::laws::walk_is_a_space;
@@ -30,9 +30,9 @@ fn has_classes(style: &Style)
     style.stays_in_range();
 }
 
-// Adds the ends along the first stretch, and answers what the walk along it tells; where the notes passed take no room,
-// it tells of a walk without notes.
-fn first_stretch(
+/// Adds the ends along the first stretch, and answers what the walk along it tells; where the notes passed take no room,
+/// it tells of a walk without notes.
+pub(crate) fn first_stretch(
     alloc: Global,
     galley: &Galley,
     style: &Style,
@@ -44,11 +44,7 @@ fn first_stretch(
     requires hops { AreHops galley.now.blocks style.now.maxdepth index.now }
     requires place { IsPlace galley.now.blocks from }
     ensures ends { OnOk result (found.new ≡ found.old ++ first_ends (document galley.now style.now) top from) }
-    ensures past { IfOk result (λ w. passed_of w.state
-        ≡ past_stretch (document galley.now style.now) top nothing (first_items galley.now.blocks from)) }
-    ensures front { IfOk result (λ w. IfSome w.state (λ s. s.block ≡ first_front galley.now.blocks from)) }
-    ensures own { IfOk result (λ w. IfSome w.state (IsOwn (document galley.now style.now) top)) }
-    ensures quiet { IfOk result (λ w. w.is_quiet ≡ true → TellsQuiet (document galley.now style.now) top from w) }
+    ensures walked { IfOk result (HasWalked (document galley.now style.now) top from) }
 {
     has_classes(style);
     let _ = galley.blocks().as_slice();
@@ -67,8 +63,8 @@ fn first_stretch(
     )
 }
 
-// The greatest block of a walk in which the notes passed take no room.
-fn quiet_greatest(walked: &Walked) -> Option<u32>
+/// The greatest block of a walk in which the notes passed take no room.
+pub(crate) fn quiet_greatest(walked: &Walked) -> Option<u32>
     ensures { result ≡ (if walked.now.is_quiet then Some walked.now.greatest else None) }
 {
     if walked.is_quiet {
@@ -78,11 +74,44 @@ fn quiet_greatest(walked: &Walked) -> Option<u32>
     }
 }
 
-// The state behind the first stretch, where it is passed.
-fn state_behind(walked: &Walked) -> Option<State>
+/// The state behind the first stretch, where it is passed.
+pub(crate) fn state_behind(walked: &Walked) -> Option<State>
     ensures { result ≡ walked.now.state }
 {
     walked.state
+}
+
+// Adds the ends behind the first stretch to those along it, and answers the greatest block of columns without notes, where
+// the first stretch is all there is and that block is told.
+pub(crate) fn collect_behind(
+    alloc: Global,
+    galley: &Galley,
+    style: &Style,
+    index: &BreakIndex,
+    from: Place,
+    top: i64,
+    start: Option<State>,
+    told: Option<u32>,
+    found: &mut CandidateList,
+) -> Result<Option<u32>, AllocError>
+    requires hops { AreHops galley.now.blocks style.now.maxdepth index.now }
+    requires place { IsPlace galley.now.blocks from }
+    requires ends { found.old ≡ first_ends (document galley.now style.now) top from }
+    requires start { HasStart (document galley.now style.now) top from start }
+    requires told { TellsAlone (document galley.now style.now) top from start told }
+    ensures found { OnOk result (AreCandidates (document galley.now style.now) from top found.new) }
+    ensures told { IfOk result (λ told. IfSome told (IsAlone (quiet (document galley.now style.now)) top from)) }
+{
+    let _ = galley.blocks().as_slice();
+    walk_is_a_space(galley, style);
+    let Some(start) = start else {
+        return Ok(told);
+    };
+    if variants_at(galley, start.block).is_empty() {
+        return Ok(told);
+    }
+    collect(alloc, galley, style, index, top, start, found)?;
+    Ok(None)
 }
 
 // Finds the candidates of a place, and answers the greatest block of columns without notes, where the first stretch is
@@ -102,18 +131,10 @@ pub(crate) fn collect_from(
     ensures found { OnOk result (AreCandidates (document galley.now style.now) from top found.new) }
     ensures told { IfOk result (λ told. IfSome told (IsAlone (quiet (document galley.now style.now)) top from)) }
 {
-    let _ = galley.blocks().as_slice();
-    walk_is_a_space(galley, style);
     let walked = first_stretch(alloc, galley, style, index, from, top, found)?;
+    let start = state_behind(&walked);
     let told = quiet_greatest(&walked);
-    let Some(start) = state_behind(&walked) else {
-        return Ok(told);
-    };
-    if variants_at(galley, start.block).is_empty() {
-        return Ok(told);
-    }
-    collect(alloc, galley, style, index, top, start, found)?;
-    Ok(None)
+    collect_behind(alloc, galley, style, index, from, top, start, told, found)
 }
 
 /// Where columns of text from a place may end in some room up to a greatest one, in scaled points, with what they pass

@@ -2,7 +2,7 @@ use Rattle.std.proofs.Common.{rules, ◌≡◌, ◌∙◌, ap, length, take, ℕ
 use Rattle.std.specs.List.{flat_map}
 use Rattle.std.proofs.Math.Seq.{take-length}
 use Rattle.pg_sources.specs.Document.{doc_of}
-use Rattle.pg_moves.specs.Stepping.{steps_in}
+use Rattle.pg_moves.specs.Stepping.{all_steps_in}
 use Rattle.pg_moves.proofs.Added.{adds_none, adds_same}
 use Rattle.pg_moves.proofs.Stepped.{layouts_more}
 use Rattle.pg_moves.proofs.texts.add_all.Goals as goal
@@ -12,8 +12,7 @@ loop-it-init g c = λ right. adds_none (g.W.Wants.spares c.args.wants.now) c.arg
 
 pub loop-it-preserved : goal.loop-it-preserved
 loop-it-preserved g c = λ right. layouts_more
-    (steps_in (doc_of c.args.sources.now) c.args.state.now c.args.kept.now.walk.near.candidates
-    c.args.kept.now.rooms.items)
+    (all_steps_in (doc_of c.args.sources.now) c.args.state.now c.args.kept.now)
     (g.W.Wants.spares c.args.wants.now) c.args.steps.now c.loop-it.steps c.add_laid.new.steps c.args.laid.now
     c.loop-it.it-index c.it-item.result (search rules) (search rules) (c.loop-it.invariant right)
     (c.in_ok-add_laid.ensures right)
@@ -22,6 +21,5 @@ pub returns : goal.returns
 returns g c = λ right.
     let e : c.loop-it.it-index ≡ length c.args.laid.now = search rules in
     adds_same (g.W.Wants.spares c.args.wants.now) c.args.steps.now c.loop-it.steps _ _
-    (ap (flat_map (steps_in (doc_of c.args.sources.now) c.args.state.now c.args.kept.now.walk.near.candidates
-    c.args.kept.now.rooms.items))
+    (ap (flat_map (all_steps_in (doc_of c.args.sources.now) c.args.state.now c.args.kept.now))
     (ap (λ (n : ℕ). take n c.args.laid.now) e ∙ take-length c.args.laid.now)) (c.loop-it.invariant right)

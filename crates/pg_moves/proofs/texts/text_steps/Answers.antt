@@ -9,6 +9,12 @@ use Rattle.pg_rooms.specs.declared.laid.Laid.{Laid}
 use Rattle.pg_moves.proofs.AllSteps.{laid_own, text_steps_are}
 use Rattle.pg_moves.proofs.texts.text_steps.Goals as goal
 
+pub candidates_give_ends-requires-clause-blocks : goal.candidates_give_ends-requires-clause-blocks
+candidates_give_ends-requires-clause-blocks g c = c.args.sources.now.in_range.blocks
+
+pub candidates_give_ends-requires-clause-ranges : goal.candidates_give_ends-requires-clause-ranges
+candidates_give_ends-requires-clause-ranges g c = c.args.sources.now.in_range.style_in
+
 pub lay_texts-requires-clause-ceiling : goal.lay_texts-requires-clause-ceiling
 lay_texts-requires-clause-ceiling g c =
     subst (HasSoMany (doc_of c.args.sources.now)) (sym c.as_slice.ensures) c.requires.ceiling
@@ -23,12 +29,12 @@ returns-clause-steps g c = λ right.
     let now = c.in_ok-ask_all.ensures.right c.args.state.now.place
     (subst (AllByRecursion (λ (it : Laid). IsPageRoom c.args.sources.now.style.now it.room))
     (sym c.as_slice-laid.ensures.value) c.in_ok-layouts.ensures.low) right in
-    text_steps_are (doc_of c.args.sources.now) c.args.state.now c.args.ceiling.now c.ask_all.new.self
+    text_steps_are (doc_of c.args.sources.now) c.candidates_give_ends.ensures.one c.args.state.now c.args.ceiling.now c.ask_all.new.self
     c.as_slice-laid.result.now (g.W.Wants.spares c.args.wants.now) c.new-steps.result c.add_all.new.steps
     (c.as_slice-laid.ensures.value ∙ (c.in_ok-layouts.ensures.laid
     ∙ ap (λ (counts : List ℕ). map (laid_of (doc_of c.args.sources.now) c.args.state.now)
     (text_layouts (doc_of c.args.sources.now) c.args.state.now counts)) c.as_slice.ensures))
-    c.in_ok-ask_all.ensures.has now c.new-steps.ensures (c.in_ok-add_all.ensures now)
+    c.in_ok-ask_all.ensures.has c.in_ok-ask_all.ensures.behind now c.new-steps.ensures (c.in_ok-add_all.ensures now)
 
 pub returns-clause-kept : goal.returns-clause-kept
 returns-clause-kept g c = c.in_ok-ask_all.ensures.right c.args.state.now.place

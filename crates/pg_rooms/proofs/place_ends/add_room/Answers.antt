@@ -12,9 +12,9 @@ returns-clause-keeps c = λ other h. has_still c.args.rooms.now.items c.push.new
     (search rules) h
 
 pub returns-clause-right : goal.returns-clause-right
-returns-clause-right c = λ from near within calls are. rooms_added (doc_of c.args.sources.now) from
+returns-clause-right c = λ near page calls are. rooms_added (doc_of c.args.sources.now)
     c.args.near.now.candidates c.args.rooms.now.items c.push.new.self.items c.in_ok-ends.ends (search rules) are
-    (c.in_ok-ends.ensures.right from near within calls)
+    (c.in_ok-ends.ensures.right near page calls)
 
 pub returns-clause-calls : goal.returns-clause-calls
 returns-clause-calls c = c.in_ok-ends.ensures.calls

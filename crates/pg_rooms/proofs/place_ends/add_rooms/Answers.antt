@@ -6,17 +6,17 @@ use Rattle.pg_rooms.proofs.Kept.{all_contain, has_more}
 use Rattle.pg_rooms.proofs.place_ends.add_rooms.Goals as goal
 
 pub loop-it-init : goal.loop-it-init
-loop-it-init c = record { has = tt; right = λ from near within calls are. are; calls = λ calls. calls }
+loop-it-init c = record { has = tt; right = λ near page calls are. are; calls = λ calls. calls }
 
 pub loop-it-preserved : goal.loop-it-preserved
 loop-it-preserved c = record {
   has = has_more c.loop-it.rooms.items c.add_room.new.rooms.items c.args.laid.now c.loop-it.it-index
       c.it-item.result c.loop-it-test.true c.it-item.is c.loop-it.invariant.has c.in_ok-add_room.ensures.has
       c.in_ok-add_room.ensures.keeps;
-  right = λ from near within calls are. c.in_ok-add_room.ensures.right from near
+  right = λ near page calls are. c.in_ok-add_room.ensures.right near
       (all_contain (λ (it : Laid). IsPageRoom c.args.sources.now.style.now it.room) c.args.laid.now c.it-item.result
-      within (c.loop-it.it-index, c.loop-it-test.true, sym c.it-item.is))
-      (c.loop-it.invariant.calls calls) (c.loop-it.invariant.right from near within calls are);
+      page (c.loop-it.it-index, c.loop-it-test.true, sym c.it-item.is))
+      (c.loop-it.invariant.calls calls) (c.loop-it.invariant.right near page calls are);
   calls = λ calls. c.in_ok-add_room.ensures.calls (c.loop-it.invariant.calls calls);
 }
 

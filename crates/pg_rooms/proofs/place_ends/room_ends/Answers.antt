@@ -1,18 +1,27 @@
 use Rattle.std.proofs.Common.{subst}
+use Rattle.pg_candidates.proofs.Needed.{best_of_some}
+use Rattle.pg_candidates.specs.Nears.{needed_in}
+use Rattle.pg_candidates.specs.RoomEnds.{ends_of}
 use Rattle.pg_rules.specs.Floats.{gap_stretch}
 use Rattle.pg_rules.specs.Reach.{greatest_areas}
 use Rattle.pg_sources.specs.Document.{doc_of}
-use Rattle.law_walk.specs.Reached.{tallest}
+use Rattle.law_walk.specs.Candidates.{kept_ends}
 use Rattle.pg_rooms.specs.PlaceEnds.{AreGroups}
 use Rattle.pg_rooms.proofs.place_ends.room_ends.Goals as goal
 
 pub returns-clause-right : goal.returns-clause-right
-returns-clause-right c = λ from near page calls. record {
-  ends = c.in_ok-ends.ensures.ends from (tallest c.args.sources.now.style.now)
-      (greatest_areas gap_stretch c.args.sources.now.style.now) near.candidates near.near page.within page.low near.found;
-  groups = subst (AreGroups (doc_of c.args.sources.now) c.in_ok-groups.groups.items) c.as_slice.ensures.value
-      (c.in_ok-groups.ensures.groups calls);
-}
+returns-clause-right c = λ near page calls.
+    let doc = doc_of c.args.sources.now in
+    let cs = c.args.near.now.candidates in record {
+      page = page;
+      best = best_of_some (kept_ends doc c.args.room.now cs)
+          (kept_ends doc c.args.room.now (needed_in c.args.room.now.size cs c.args.near.now.nears))
+          (ends_of cs c.in_ok-ends.ends.items) (near.suffice c.args.room.now page.within)
+          (c.in_ok-ends.ensures.best (greatest_areas gap_stretch c.args.sources.now.style.now) page.within.stretch
+          near.right);
+      groups = subst (AreGroups doc c.in_ok-groups.groups.items) c.as_slice.ensures.value
+          (c.in_ok-groups.ensures.groups calls);
+    }
 
 pub returns-clause-calls : goal.returns-clause-calls
 returns-clause-calls c = c.in_ok-groups.ensures.calls

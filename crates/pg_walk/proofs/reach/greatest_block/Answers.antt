@@ -11,7 +11,8 @@ use Rattle.pg_hops.proofs.Left.{first_left}
 use Rattle.law_walk.specs.Walk.{variants_at}
 use Rattle.pg_walk.specs.Meaning.{IsOwn}
 use Rattle.pg_walk.proofs.First.{place_within}
-use Rattle.pg_walk.proofs.FurthestBlocks.{IsBegun, alone, begun, by_picks, stops}
+use Rattle.pg_walk.specs.Blocks.{IsBegun}
+use Rattle.pg_walk.proofs.FurthestBlocks.{alone, begun, by_picks, stops}
 use Rattle.pg_walk.proofs.reach.greatest_block.Goals as goal
 
 pub first-ahead-requires : goal.first-ahead-requires

@@ -20,7 +20,7 @@ overflow_add-result c =
     let within = reach_within doc all c.stays_in_range.ensures c.args.from c.requires.place _ reach in
     record { fits = omega (arith, long, limit, within) }
 
-pub returns : goal.returns
-returns c =
+pub returns-clause-reach : goal.returns-clause-reach
+returns-clause-reach c =
     tells (document c.args.galley.now c.args.style.now) c.walk_tells_reach.ensures.labels
     c.walk_tells_reach.ensures.stretch c.args.from c.requires.place c.args.block c.requires.greatest

@@ -1,89 +1,38 @@
-use Rattle.std.proofs.Common.{◌≡◌, ◌∙◌, ap, sym, subst, length, List, [], ◌++◌, Some, Option, IfSome, arith, ℕ, ℤ, inl, inr, w64, to_z, of_z}
-use Rattle.std.specs.List.{AllByRecursion}
+use Rattle.std.proofs.Common.{refl, subst, IfSome, OnOk, ℤ, w64}
+use Rattle.std.specs.Prelude.{IfOk}
 use Rattle.std.proofs.lemmas.Int.{to_z-of_z}
-use Rattle.pg_list.specs.Shapes.{IsBlock}
-use Rattle.pg_list.proofs.Sizes.{blocks_le}
 use Rattle.pg_rules.specs.Legal.{document}
-use Rattle.std.proofs.lemmas.Bool.{eqb-true}
-use Rattle.pg_lemmas.proofs.Lists.{no_items}
-use Rattle.pg_column.specs.Passed.{nothing}
-use Rattle.pg_hops.specs.View.{view}
-use Rattle.pg_hops.specs.declared.state.State.{State}
-use Rattle.pg_candidates.specs.View.{passed_of}
-use Rattle.law_walk.specs.Candidates.{AreCandidates, Candidate}
-use Rattle.law_walk.specs.Space.{first_ends}
-use Rattle.law_walk.specs.Walk.{first_front, first_items, past_stretch, variants_at}
-use Rattle.pg_walk.specs.Collected.{Collects}
-use Rattle.pg_walk.proofs.First.{labels_do, told_alone}
+use Rattle.law_walk.specs.Candidates.{AreCandidates}
+use Rattle.law_walk.specs.Reached.{quiet}
+use Rattle.pg_walk.specs.Blocks.{IsAlone}
+use Rattle.pg_walk.proofs.Behind.{alone_at}
+use Rattle.pg_walk.proofs.First.{has_start, tells_alone}
 use Rattle.pg_walk.proofs.walking.collect_from.Goals as goal
 
-pub walk_is_a_space-requires-clause-few : goal.walk_is_a_space-requires-clause-few
-walk_is_a_space-requires-clause-few c =
-    let all = subst (AllByRecursion IsBlock) c.blocks-2.ensures.blocks c.as_slice.ensures.shape in
-    let long = blocks_le c.args.galley.now.blocks all in
-    let limit = c.blocks-2.ensures.limit in
-    omega (arith, long, limit)
+pub collect_behind-requires-clause-ends : goal.collect_behind-requires-clause-ends
+collect_behind-requires-clause-ends c =
+    alone_at (document c.args.galley.now c.args.style.now) _ _ refl c.args.from c.args.found.now
+    c.first_stretch.new.found c.requires.none c.in_ok-walked.ensures.ends
 
-pub returns-then-is_empty-clause-found : goal.returns-then-is_empty-clause-found
-returns-then-is_empty-clause-found c =
-    let doc = document c.args.galley.now c.args.style.now in
-    let top = to_z-of_z w64 c.args.top (record { sfits = c.ranges.top.sfits }) in
-    let front : c.in-Some.start.block ≡ first_front doc.blocks c.args.from =
-    subst (λ (o : Option State). IfSome o (λ s. s.block ≡ first_front doc.blocks c.args.from))
-    (sym c.state_behind.ensures ∙ c.in-Some.is)
-    c.in_ok-walked.ensures.front in
-    let empty : length c.variants_at.result.now ≡ 0 = eqb-true _ _ (sym c.is_empty.ensures ∙ c.if-is_empty.true) in
-    let none : variants_at doc.blocks c.in-Some.start.block ≡ [] =
-    sym c.variants_at.ensures.variants ∙ no_items c.variants_at.result.now empty in
-    let found : c.first_stretch.new.found ≡ first_ends doc c.args.top c.args.from =
-    c.in_ok-walked.ensures.ends
-    ∙ ap (λ (xs : List Candidate). xs ++ first_ends doc (to_z w64 (of_z w64 c.args.top)) c.args.from)
-    c.requires.none
-    ∙ ap (λ (z : ℤ). first_ends doc z c.args.from) top in
-    subst (AreCandidates doc c.args.from c.args.top) (sym found)
-    (c.walk_is_a_space.ensures.stretch c.args.from c.args.top c.requires.place
-    (inr (subst (λ (b : ℕ). variants_at doc.blocks b ≡ []) front none)))
+pub collect_behind-requires-clause-start : goal.collect_behind-requires-clause-start
+collect_behind-requires-clause-start c =
+    has_start (document c.args.galley.now c.args.style.now) _ c.args.from c.in_ok-walked.walked c.state_behind-start.result
+    c.state_behind-start.ensures c.in_ok-walked.ensures.walked
+
+pub collect_behind-requires-clause-told : goal.collect_behind-requires-clause-told
+collect_behind-requires-clause-told c =
+    tells_alone (document c.args.galley.now c.args.style.now) _ c.args.from c.in_ok-walked.walked
+    c.state_behind-start.result c.quiet_greatest-told.result c.state_behind-start.ensures c.quiet_greatest-told.ensures
+    c.in_ok-walked.ensures.walked
 
 pub returns-clause-found : goal.returns-clause-found
 returns-clause-found c =
-    let doc = document c.args.galley.now c.args.style.now in
     let top = to_z-of_z w64 c.args.top (record { sfits = c.ranges.top.sfits }) in
-    let front : c.in-Some.start.block ≡ first_front doc.blocks c.args.from =
-    subst (λ (o : Option State). IfSome o (λ s. s.block ≡ first_front doc.blocks c.args.from))
-    (sym c.state_behind.ensures ∙ c.in-Some.is)
-    c.in_ok-walked.ensures.front in
-    let past : Some (view c.in-Some.start.passed)
-    ≡ past_stretch doc c.args.top nothing (first_items doc.blocks c.args.from) =
-    ap passed_of (sym c.in-Some.is ∙ c.state_behind.ensures) ∙ (c.in_ok-walked.ensures.past
-    ∙ ap (λ (z : ℤ). past_stretch doc z nothing (first_items doc.blocks c.args.from)) top) in
-    let found : c.first_stretch.new.found ≡ first_ends doc c.args.top c.args.from =
-    c.in_ok-walked.ensures.ends
-    ∙ ap (λ (xs : List Candidate). xs ++ first_ends doc (to_z w64 (of_z w64 c.args.top)) c.args.from)
-    c.requires.none
-    ∙ ap (λ (z : ℤ). first_ends doc z c.args.from) top in
-    labels_do doc c.args.top c.walk_is_a_space.ensures.labels c.args.from c.requires.place c.in-Some.start
-    c.collect.new.found front past
-    (subst (λ (xs : List Candidate). Collects doc c.args.top c.in-Some.start xs c.collect.new.found) found
-    (subst (λ (z : ℤ). Collects doc z c.in-Some.start c.first_stretch.new.found c.collect.new.found) top
-    c.in_ok-collect.ensures))
+    subst (λ (z : ℤ). OnOk c.collect_behind.result (AreCandidates (document c.args.galley.now c.args.style.now)
+    c.args.from z c.collect_behind.new.found)) top c.collect_behind.ensures.found
 
-pub returns-in_default-clause-told : goal.returns-in_default-clause-told
-returns-in_default-clause-told c =
-    told_alone (document c.args.galley.now c.args.style.now) c.args.top _
-    (to_z-of_z w64 c.args.top (record { sfits = c.ranges.top.sfits })) c.args.from c.in_ok-walked.walked
-    c.quiet_greatest-told.result c.quiet_greatest-told.ensures c.in_ok-walked.ensures.quiet
-    (inl (ap passed_of (sym c.state_behind.ensures ∙ c.in_default.is)))
-
-pub returns-then-is_empty-clause-told : goal.returns-then-is_empty-clause-told
-returns-then-is_empty-clause-told c =
-    let doc = document c.args.galley.now c.args.style.now in
-    let front : c.in-Some.start.block ≡ first_front doc.blocks c.args.from =
-    subst (λ (o : Option State). IfSome o (λ s. s.block ≡ first_front doc.blocks c.args.from))
-    (sym c.state_behind.ensures ∙ c.in-Some.is)
-    c.in_ok-walked.ensures.front in
-    let empty : length c.variants_at.result.now ≡ 0 = eqb-true _ _ (sym c.is_empty.ensures ∙ c.if-is_empty.true) in
-    let none : variants_at doc.blocks c.in-Some.start.block ≡ [] =
-    sym c.variants_at.ensures.variants ∙ no_items c.variants_at.result.now empty in
-    told_alone doc c.args.top _ (to_z-of_z w64 c.args.top (record { sfits = c.ranges.top.sfits })) c.args.from
-    c.in_ok-walked.walked c.quiet_greatest-told.result c.quiet_greatest-told.ensures c.in_ok-walked.ensures.quiet
-    (inr (subst (λ (b : ℕ). variants_at doc.blocks b ≡ []) front none))
+pub returns-clause-told : goal.returns-clause-told
+returns-clause-told c =
+    let top = to_z-of_z w64 c.args.top (record { sfits = c.ranges.top.sfits }) in
+    subst (λ (z : ℤ). IfOk c.collect_behind.result (λ told. IfSome told
+    (IsAlone (quiet (document c.args.galley.now c.args.style.now)) z c.args.from))) top c.collect_behind.ensures.told

@@ -6,7 +6,7 @@ use Rattle.pg_list.proofs.Sizes.{blocks_le}
 use Rattle.pg_rules.specs.Legal.{document}
 use Rattle.pg_hops.specs.View.{view}
 use Rattle.pg_hops.proofs.Left.{first_left}
-use Rattle.pg_walk.proofs.First.{first_owned, first_quiet, place_within}
+use Rattle.pg_walk.proofs.First.{first_owned, first_quiet, first_walked, place_within}
 use Rattle.pg_walk.proofs.walking.first_stretch.Goals as goal
 
 pub first-ahead-requires : goal.first-ahead-requires
@@ -25,20 +25,18 @@ walk_on-requires-clause-few c =
     let counts = c.nothing.ensures.counts in
     (omega (arith, left, same, limit, counts.0), omega (arith, left, same, limit, counts.1))
 
-pub returns-clause-own : goal.returns-clause-own
-returns-clause-own c =
+pub returns-clause-walked : goal.returns-clause-walked
+returns-clause-walked c =
+    let doc = document c.args.galley.now c.args.style.now in
     let all = subst (AllByRecursion IsBlock) c.blocks-2.ensures.blocks c.as_slice.ensures.shape in
-    first_owned c.walk_on.result (document c.args.galley.now c.args.style.now) c.args.top _
-    (to_z-of_z w64 c.args.top (record { sfits = c.ranges.top.sfits })) all c.blocks-2.ensures.limit c.args.from
+    let top = to_z-of_z w64 c.args.top (record { sfits = c.ranges.top.sfits }) in
+    first_walked c.walk_on.result doc c.args.top _ top c.args.from (view c.nothing.result) c.nothing.ensures.value _
+    c.first-ahead.ensures.items _ c.first-ahead.ensures.front c.walk_on.ensures.past c.walk_on.ensures.front
+    (first_owned c.walk_on.result doc c.args.top _ top all c.blocks-2.ensures.limit c.args.from
     c.requires.place (view c.nothing.result) c.nothing.ensures.value _ c.first-ahead.ensures.items _
     c.first-ahead.ensures.front c.nothing.result.sums.count c.nothing.result.notes.count c.nothing.ensures.counts.0
     c.nothing.ensures.counts.1 c.walk_on.ensures.past c.walk_on.ensures.front c.walk_on.ensures.style
-    c.walk_on.ensures.counts
-
-pub returns-clause-quiet : goal.returns-clause-quiet
-returns-clause-quiet c =
-    first_quiet c.walk_on.result (document c.args.galley.now c.args.style.now)
-    c.has_classes.ensures c.args.top _
-    (to_z-of_z w64 c.args.top (record { sfits = c.ranges.top.sfits })) c.args.from (view c.nothing.result)
+    c.walk_on.ensures.counts)
+    (first_quiet c.walk_on.result doc c.has_classes.ensures c.args.top _ top c.args.from (view c.nothing.result)
     c.nothing.ensures.value _ c.first-ahead.ensures.items _ c.first-ahead.ensures.front c.walk_on.ensures.past
-    c.walk_on.ensures.reach c.walk_on.ensures.quiet
+    c.walk_on.ensures.reach c.walk_on.ensures.quiet)

@@ -1,14 +1,12 @@
 use Rattle.std.proofs.Common.{refl}
-use Rattle.std.proofs.lemmas.Result.{on_ok_weaker}
-use Rattle.pg_rooms.proofs.Kept.{on_both}
+use Rattle.pg_sources.specs.Document.{doc_of}
+use Rattle.pg_rooms.proofs.Kept.{on_three, still_kept}
 use Rattle.pg_rooms.proofs.place_ends.PlaceEnds.ask_all.Goals as goal
 
-pub returns-clause-walk : goal.returns-clause-walk
-returns-clause-walk c = on_ok_weaker c.add_rooms.result (λ _. refl) c.add_rooms.ensures.has
-
 pub returns-clause-right : goal.returns-clause-right
-returns-clause-right c = on_both c.add_rooms.result (λ right calls from low are. record {
-  near = are.near;
-  rooms = right from are.near low are.calls are.rooms;
-  calls = calls are.calls;
-}) c.add_rooms.ensures.right c.add_rooms.ensures.calls
+returns-clause-right c = on_three c.ask_behind.result (λ right walk calls from low are.
+    still_kept (doc_of c.args.sources.now) from c.args.self.now _ refl walk are
+    (c.in_ok-add_rooms.ensures.right are.near low are.calls are.rooms)
+    (right low (c.in_ok-add_rooms.ensures.calls are.calls) are.behind)
+    (calls (c.in_ok-add_rooms.ensures.calls are.calls)))
+    c.ask_behind.ensures.right c.ask_behind.ensures.walk c.ask_behind.ensures.calls

@@ -1,0 +1,69 @@
+-- What stands behind the front of a choice, for all places whose columns come there alike.
+use Rattle.std.specs.Prelude.{◌≡◌, ◌&&◌, ℕ, ◌+◌, Bool, true, List, [], ◌++◌, Some}
+use Rattle.std.specs.declared.cmp.Ordering.TheVariants.{Less}
+use Rattle.pg_list.specs.declared.galley.Place.{Place}
+use Rattle.pg_plan.specs.Order.{place_cmp}
+use Rattle.pg_rules.specs.Floats.{gap_stretch}
+use Rattle.pg_rules.specs.IsState.{IsPlace}
+use Rattle.pg_rules.specs.Reach.{IsReach, greatest_areas}
+use Rattle.pg_rules.specs.Room.{Document}
+use Rattle.pg_hops.specs.declared.state.State.{State}
+use Rattle.pg_candidates.specs.Nears.{AreNear, NearsValue}
+use Rattle.law_walk.specs.Best.{IsAmong}
+use Rattle.law_walk.specs.Candidates.{AreCandidates, Candidate}
+use Rattle.law_walk.specs.Reached.{quiet, tallest}
+use Rattle.law_walk.specs.Space.{WalkState, first_ends, is_no_worse}
+use Rattle.pg_walk.specs.Blocks.{IsBegun}
+use Rattle.pg_walk.specs.Collected.{Collects}
+use Rattle.pg_walk.specs.Furthest.{GoesTo}
+use Rattle.pg_walk.specs.Meaning.{state_of}
+use Rattle.pg_walk.specs.declared.front.Front.{Front}
+use Rattle.pg_walk.specs.declared.front.FrontWalk.{FrontWalk}
+
+-- each is no worse than the other: one front, the same sums and notes, the same bound
+abbrev pub is_same_state : WalkState → WalkState → Bool
+is_same_state u v = is_no_worse u v && is_no_worse v u
+
+-- columns come to one front alike, with their notes and without
+abbrev pub is_same_front : Front → Front → Bool
+is_same_front a b =
+    is_same_state (state_of a.start) (state_of b.start) && is_same_state (state_of a.quiet) (state_of b.quiet)
+
+-- so columns from a place come to the first front, with their notes and without, in the tallest room
+pub record IsAhead (doc : Document) (from : Place) (front : Front) : Type 0 where
+  pub start : IsBegun doc (tallest doc.style) from front.start
+  pub quiet : IsBegun (quiet doc) (tallest doc.style) from front.quiet
+
+-- the first stretch from a place: its ends with what no room changes, and how columns come to the front behind it
+pub record ComesTo (doc : Document) (from : Place) (first : NearsValue) (front : Front) : Type 0 where
+  pub ends : first.candidates ≡ first_ends doc (tallest doc.style) from
+  pub near : AreNear doc (greatest_areas gap_stretch doc.style) first.candidates first
+  pub ahead : IsAhead doc from front
+
+-- one more than the greatest block behind the state before a front, where no notes are passed
+pub record IsReachBehind (doc : Document) (start : State) (reach : ℕ) : Type 0 where
+  pub greatest : ℕ
+  pub goes : GoesTo (quiet doc) (tallest doc.style) start start.block greatest
+  pub is : reach ≡ greatest + 1
+
+-- what stands behind a front: the ends along the picks of the labels with what no room changes, and how far columns go
+pub record IsFrontWalk (doc : Document) (it : FrontWalk) : Type 0 where
+  pub ends : Collects doc (tallest doc.style) it.front.start [] it.near.candidates
+  pub near : AreNear doc (greatest_areas gap_stretch doc.style) it.near.candidates it.near
+  pub reach : IsReachBehind doc it.front.quiet it.reach
+
+-- each of the one stands before each of the other
+abbrev pub AreApart : List Candidate → List Candidate → Type 0
+AreApart cs ds = (c d : Candidate) → IsAmong c cs → IsAmong d ds → place_cmp c.to d.to ≡ Less
+
+-- with the ends along the first stretch from a place those behind the front suffice, they stand behind them, and columns
+-- from the place go so far
+pub record Serves (doc : Document) (from : Place) (near : NearsValue) (it : FrontWalk) : Type 0 where
+  pub candidates : AreCandidates doc from (tallest doc.style) (near.candidates ++ it.near.candidates)
+  pub apart : AreApart near.candidates it.near.candidates
+  pub reach : IsReach doc from it.reach
+
+-- so it is for each place whose columns come to the front alike
+abbrev pub FrontsServe : Document → Type 0
+FrontsServe doc = (from : Place) (near : NearsValue) (front : Front) (it : FrontWalk) → IsPlace doc.blocks from →
+    ComesTo doc from near front → is_same_front it.front front ≡ true → IsFrontWalk doc it → Serves doc from near it
