@@ -1,75 +1,60 @@
 //! A page, drawn, with its numbers below.
-use crate::marks::{is_notes, print_marks, print_tint};
+use crate::marks::print_marks;
 use crate::pieces::{Piece, print};
 use crate::shapes::{Spot, print_bare, print_line};
-use crate::tell::{print_count, print_fill, print_place, print_says, print_side};
+use crate::tell::{print_column_fill, print_count, print_place, print_says, print_side};
 use pg_draw_page::{
-    AREA_GAP, Frame, View, area_room, areas_height, column_fill, column_picks, full_width, left_of,
-    page_badness, page_height, units,
+    Frame, Stack, TextEnds, View, area_room, areas_height, column_picks, column_stack, full_width,
+    is_text, left_of, page_badness, page_height, units, wide_stack,
 };
-use pg_drawing::{AreaName, DrawnArea, DrawnColumn, DrawnPage, Ends, Numbers, adds_up};
+use pg_drawing::{DrawnArea, DrawnColumn, DrawnPage, Ends, Numbers, adds_up};
 use std::alloc::AllocError;
 
 // Room around a picture, in units.
 const MARGIN: i128 = 1150;
 
-// The tint of an area, and the class of the line at its left.
-fn area_classes(name: AreaName) -> Option<(&'static str, &'static str)> {
-    match name {
-        AreaName::Wide => Some(("a wide", "e wide")),
-        AreaName::Top => Some(("a top", "e top")),
-        AreaName::Bottom => Some(("a bottom", "e bottom")),
-        AreaName::Notes => Some(("a notes", "e notes")),
-        AreaName::Text | AreaName::Other => None,
-    }
-}
-
 // The goal of a text, and its total where that is another.
-fn print_goal(spot: &Spot, goal: i64, total: i64, out: &mut Vec<u8>) -> Result<(), AllocError> {
+fn print_goal(spot: &Spot, ends: TextEnds, out: &mut Vec<u8>) -> Result<(), AllocError> {
     let left = spot.left.saturating_sub(250);
     let across = spot.width.saturating_add(500);
-    let end = units(spot.top.saturating_add(i128::from(goal)));
-    print_line("goal", left, across, end, out)?;
+    let goal = units(spot.top.saturating_add(ends.goal));
+    print_line("goal", left, across, goal, out)?;
     print(out, &[Piece::Markup("/>")])?;
-    if total != goal {
-        let at = units(spot.top.saturating_add(i128::from(total)));
-        print_line("total", left, across, at, out)?;
+    if ends.total != ends.goal {
+        let total = units(spot.top.saturating_add(ends.total));
+        print_line("total", left, across, total, out)?;
         print(out, &[Piece::Markup("/>")])?;
     }
     Ok(())
 }
 
-// The room behind an area: its tint, or the frame of a text.
+// The frame of a text, which is as high as its room, and its goal.
 fn print_ground(
     spot: &Spot,
     area: &DrawnArea,
-    numbers: Option<Numbers>,
+    stack: Stack,
     out: &mut Vec<u8>,
 ) -> Result<(), AllocError> {
-    let end = units(spot.top.saturating_add(area_room(area, numbers)));
-    match area_classes(area.name) {
-        Some((tint, edge)) => print_tint(tint, edge, spot, end, out)?,
-        None => print_bare("f", spot.left, spot.width, units(spot.top), end, out)?,
+    let end = units(spot.top.saturating_add(area_room(area, stack)));
+    print_bare("f", spot.left, spot.width, units(spot.top), end, out)?;
+    if let Some(ends) = stack.ends {
+        print_goal(spot, ends, out)?;
     }
     print(out, &[Piece::Markup("\n")])
 }
 
-// An area in its place.
+// An area in its place. What a text is to come to is drawn behind its letters.
 fn print_area(
     view: &View<'_>,
     spot: &Spot,
     area: &DrawnArea,
-    numbers: Option<Numbers>,
+    stack: Stack,
     out: &mut Vec<u8>,
 ) -> Result<(), AllocError> {
-    print_ground(spot, area, numbers, out)?;
-    print_marks(view, spot, area.marks.as_slice(), is_notes(area.name), out)?;
-    match (area.name, numbers) {
-        (AreaName::Text, Some(Numbers::Set { goal, total, .. })) => {
-            print_goal(spot, goal, total, out)
-        }
-        _ => Ok(()),
+    if is_text(area.name) {
+        print_ground(spot, area, stack, out)?;
     }
+    print_marks(view, spot, area.name, area.marks.as_slice(), out)
 }
 
 // Areas one below the other.
@@ -77,7 +62,7 @@ fn print_areas(
     view: &View<'_>,
     spot: &Spot,
     areas: &[DrawnArea],
-    numbers: Option<Numbers>,
+    stack: Stack,
     out: &mut Vec<u8>,
 ) -> Result<(), AllocError> {
     let mut top = spot.top;
@@ -87,10 +72,10 @@ fn print_areas(
             width: spot.width,
             top,
         };
-        print_area(view, &here, area, numbers, out)?;
+        print_area(view, &here, area, stack, out)?;
         top = top
-            .saturating_add(area_room(area, numbers))
-            .saturating_add(AREA_GAP);
+            .saturating_add(area_room(area, stack))
+            .saturating_add(stack.apart);
     }
     Ok(())
 }
@@ -110,7 +95,8 @@ fn print_columns(
             width: frame.width,
             top,
         };
-        print_areas(view, &spot, column.areas.as_slice(), column.numbers, out)?;
+        let stack = column_stack(view.apart, column);
+        print_areas(view, &spot, column.areas.as_slice(), stack, out)?;
         index = index.saturating_add(1);
     }
     Ok(())
@@ -125,7 +111,7 @@ fn print_picture_head(
     out: &mut Vec<u8>,
 ) -> Result<(), AllocError> {
     let width = full_width(frame).saturating_add(2 * MARGIN);
-    let height = units(page_height(page)).saturating_add(MARGIN);
+    let height = units(page_height(page, view.apart)).saturating_add(MARGIN);
     print(
         out,
         &[
@@ -140,7 +126,7 @@ fn print_picture_head(
             Piece::Markup("\" role=\"group\" aria-label=\""),
         ],
     )?;
-    print_says(number, page, out)?;
+    print_says(view, number, page, out)?;
     print(out, &[Piece::Markup("\">\n")])
 }
 
@@ -158,8 +144,9 @@ fn print_picture(
         width: full_width(frame),
         top: 0,
     };
-    print_areas(view, &spot, page.wide.as_slice(), None, out)?;
-    let below = areas_height(page.wide.as_slice(), None);
+    let stack = wide_stack(view.apart);
+    print_areas(view, &spot, page.wide.as_slice(), stack, out)?;
+    let below = areas_height(page.wide.as_slice(), stack);
     print_columns(view, frame, below, page.columns.as_slice(), out)?;
     print(out, &[Piece::Markup("</svg>\n")])
 }
@@ -196,7 +183,11 @@ fn print_length(name: &'static str, length: i64, out: &mut Vec<u8>) -> Result<()
 }
 
 // How high a text is, and its goal.
-fn print_height(column: &DrawnColumn, out: &mut Vec<u8>) -> Result<(), AllocError> {
+fn print_height(
+    view: &View<'_>,
+    column: &DrawnColumn,
+    out: &mut Vec<u8>,
+) -> Result<(), AllocError> {
     match column.numbers {
         Some(Numbers::Set { goal, total, .. }) => {
             print_length("goal", goal, out)?;
@@ -205,7 +196,7 @@ fn print_height(column: &DrawnColumn, out: &mut Vec<u8>) -> Result<(), AllocErro
         _ => {}
     }
     print_name("it is", out)?;
-    print_fill(column_fill(column), out)?;
+    print_column_fill(view, column, out)?;
     print_fact_end(out)
 }
 
@@ -300,14 +291,6 @@ fn have_total(areas: &[DrawnArea], total: i64) -> bool {
     true
 }
 
-// Whether an area is that of the text.
-fn is_text(name: AreaName) -> bool {
-    match name {
-        AreaName::Text => true,
-        _ => false,
-    }
-}
-
 // That the item lines of a column do not add up to its total, where they do not.
 fn print_odd(column: &DrawnColumn, out: &mut Vec<u8>) -> Result<(), AllocError> {
     match column.numbers {
@@ -329,9 +312,14 @@ fn print_odd(column: &DrawnColumn, out: &mut Vec<u8>) -> Result<(), AllocError> 
 }
 
 // What is said of one column.
-fn print_column(column: &DrawnColumn, picks: &[u32], out: &mut Vec<u8>) -> Result<(), AllocError> {
+fn print_column(
+    view: &View<'_>,
+    column: &DrawnColumn,
+    picks: &[u32],
+    out: &mut Vec<u8>,
+) -> Result<(), AllocError> {
     print(out, &[Piece::Markup("<dl>\n")])?;
-    print_height(column, out)?;
+    print_height(view, column, out)?;
     print_numbers(column.numbers, out)?;
     print_ends(column.ends, out)?;
     print_picks(picks, out)?;
@@ -349,7 +337,7 @@ fn print_sums(
     print(out, &[Piece::Markup("<div class=\"sums\">\n")])?;
     let mut place: usize = 0;
     for column in columns {
-        print_column(column, column_picks(view.output, index, place), out)?;
+        print_column(view, column, column_picks(view.output, index, place), out)?;
         place = place.saturating_add(1);
     }
     print(out, &[Piece::Markup("</div>\n")])

@@ -11,7 +11,7 @@ use crate::open::{Drawn, open_drawing, open_style};
 use crate::page::print_page;
 use crate::pair::print_pair;
 use crate::words::{Job, Request, read_request};
-use pg_draw_page::{Lines, View, base_name, usual_lines, waiting_of};
+use pg_draw_page::{Lines, View, areas_apart, base_name, usual_lines, waiting_of};
 use pg_outside::{Shelf, Sink};
 use pg_style::Style;
 use std::alloc::{AllocError, Global};
@@ -79,18 +79,24 @@ fn open_all<'a, H: Shelf>(alloc: Global, job: &Job<'a>, shelf: &mut H) -> Result
     })
 }
 
-// What stands beside a drawing while its page is made: how many floats wait behind each page, and its lines.
+// What stands beside a drawing while its page is made: how many floats wait behind each page, its lines, and how far apart
+// its areas are drawn.
 #[derive(Drop)]
 struct Beside {
     waiting: Vec<Option<usize>>,
     lines: Lines,
+    apart: i128,
 }
 
 // What stands beside a drawing.
 fn measured(alloc: Global, drawn: &Drawn) -> Result<Beside, AllocError> {
     let waiting = waiting_of(alloc, &drawn.output)?;
     let lines = usual_lines(alloc, &drawn.drawing)?;
-    Ok(Beside { waiting, lines })
+    Ok(Beside {
+        waiting,
+        lines,
+        apart: areas_apart(&drawn.drawing),
+    })
 }
 
 // What is drawn of a text.
@@ -109,6 +115,7 @@ fn view_of<'a>(
         waiting: beside.waiting.as_slice(),
         style,
         lines: beside.lines,
+        apart: beside.apart,
     }
 }
 

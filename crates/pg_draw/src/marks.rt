@@ -3,7 +3,7 @@ use crate::pieces::{Piece, print};
 use crate::shapes::{Rows, Spot, print_bare, print_block, print_line, print_row, print_strip};
 use crate::tell::print_class;
 use pg_draw_page::{
-    Space, View, change_step, next_row, row_count, shorter, space_len, space_of, units,
+    Gap, Space, View, change_step, gap_of, next_row, row_count, shorter, space_len, space_of, units,
 };
 use pg_drawing::{AreaName, Mark, Shape};
 use std::alloc::AllocError;
@@ -12,6 +12,9 @@ use std::alloc::AllocError;
 const BESIDE: i128 = 250;
 
 const STEP: i128 = 260;
+
+// How wide the line at the left of an insert is, in units.
+const EDGE: i128 = 120;
 
 // What the pointer tells of a box.
 fn print_box_title(
@@ -177,46 +180,120 @@ fn has_space(marks: &[Mark]) -> bool {
     false
 }
 
-// The band of a space: beside the column where it is stretched or shrunk, and else unseen.
-fn print_band(spot: &Spot, space: Space, from: i128, out: &mut Vec<u8>) -> Result<(), AllocError> {
-    let top = units(from);
+// A space within a column, which is not seen, without the end of its tag.
+fn print_free(spot: &Spot, space: Space, from: i128, out: &mut Vec<u8>) -> Result<(), AllocError> {
     let end = units(from.saturating_add(space.set));
-    let step = change_step(space);
-    if step == 0 {
-        return print_strip("g", spot.left, spot.width, top, end, out);
-    }
-    let left = spot.left.saturating_add(spot.width).saturating_add(BESIDE);
-    let class = if space.set > space.own { "s" } else { "k" };
-    print_strip(class, left, STEP.saturating_mul(step), top, end, out)
+    print_strip("g", spot.left, spot.width, units(from), end, out)
 }
 
-// What stands between two boxes.
-fn print_space(spot: &Spot, marks: &[Mark], out: &mut Vec<u8>) -> Result<(), AllocError> {
+// The band beside a space that is stretched or shrunk, without the end of its tag.
+fn print_band(spot: &Spot, space: Space, from: i128, out: &mut Vec<u8>) -> Result<(), AllocError> {
+    let class = if space.set > space.own { "s" } else { "k" };
+    let left = spot.left.saturating_add(spot.width).saturating_add(BESIDE);
+    let width = STEP.saturating_mul(change_step(space));
+    let end = units(from.saturating_add(space.set));
+    print_strip(class, left, width, units(from), end, out)
+}
+
+// What a gap stands between, in words.
+fn gap_words(gap: Gap) -> &'static str {
+    match gap {
+        Gap::Text => "gap between floats and text",
+        Gap::Floats => "gap between floats",
+        Gap::Notes => "gap above notes",
+    }
+}
+
+// A gap, with what it is and how high of itself and here, and its band where it is stretched or shrunk.
+fn print_gap(
+    spot: &Spot,
+    gap: Gap,
+    space: Space,
+    from: i128,
+    out: &mut Vec<u8>,
+) -> Result<(), AllocError> {
+    print(
+        out,
+        &[
+            Piece::Markup("<g><title>"),
+            Piece::Markup(gap_words(gap)),
+            Piece::Markup(", natural size "),
+            Piece::Length(shorter(space.own)),
+            Piece::Markup(", here "),
+            Piece::Length(shorter(space.set)),
+            Piece::Markup("</title>"),
+        ],
+    )?;
+    print_free(spot, space, from, out)?;
+    print(out, &[Piece::Markup("/>")])?;
+    if change_step(space) > 0 {
+        print_band(spot, space, from, out)?;
+        print(out, &[Piece::Markup("/>")])?;
+    }
+    print(out, &[Piece::Markup("</g>\n")])
+}
+
+// Glue and kerns between two boxes, with their parts where the pointer rests on them.
+fn print_glue(
+    spot: &Spot,
+    marks: &[Mark],
+    space: Space,
+    from: i128,
+    out: &mut Vec<u8>,
+) -> Result<(), AllocError> {
+    if change_step(space) == 0 {
+        print_free(spot, space, from, out)?;
+    } else {
+        print_band(spot, space, from, out)?;
+    }
+    print_space_title(marks, space, out)
+}
+
+// What stands between two boxes, or a gap.
+fn print_space(
+    spot: &Spot,
+    gap: Option<Gap>,
+    marks: &[Mark],
+    out: &mut Vec<u8>,
+) -> Result<(), AllocError> {
     let Some(first) = marks.first() else {
         return Ok(());
     };
     if has_space(marks) {
         let space = space_of(marks);
-        print_band(spot, space, spot.top.saturating_add(first.top), out)?;
-        print_space_title(marks, space, out)?;
+        let from = spot.top.saturating_add(first.top);
+        match gap {
+            Some(gap) => print_gap(spot, gap, space, from, out)?,
+            None => print_glue(spot, marks, space, from, out)?,
+        }
     }
     print_ticks(spot, marks, out)
 }
 
-// An insert: a note with all its lines, or a float with its class and the letters of its caption.
-fn print_insert(
+// The classes of the tint of an insert, and of the line at its left.
+fn insert_classes(name: AreaName) -> (&'static str, &'static str) {
+    match name {
+        AreaName::Wide => ("i wide", "e wide"),
+        AreaName::Top => ("i top", "e top"),
+        AreaName::Bottom => ("i bottom", "e bottom"),
+        AreaName::Notes => ("i notes", "e notes"),
+        AreaName::Text | AreaName::Other => ("i", "e"),
+    }
+}
+
+// The tint of an insert, with its outline, what the pointer tells of it, and the line at its left.
+fn print_tint(
     view: &View<'_>,
     spot: &Spot,
-    mark: &Mark,
+    name: AreaName,
     class: u32,
     size: i32,
-    is_note: bool,
     out: &mut Vec<u8>,
 ) -> Result<(), AllocError> {
-    let at = spot.top.saturating_add(mark.top);
-    let top = units(at);
-    let end = units(at.saturating_add(i128::from(size)));
-    print_strip("i", spot.left, spot.width, top, end, out)?;
+    let top = units(spot.top);
+    let end = units(spot.top.saturating_add(i128::from(size)));
+    let (tint, edge) = insert_classes(name);
+    print_strip(tint, spot.left, spot.width, top, end, out)?;
     print(out, &[Piece::Markup("><title>")])?;
     print_class(view, class, out)?;
     print(
@@ -227,13 +304,34 @@ fn print_insert(
             Piece::Markup(" high</title></path>"),
         ],
     )?;
+    print_bare(edge, spot.left, EDGE, top, end, out)
+}
+
+// An insert: a note with all its lines, or a float with its class and the letters of its caption.
+fn print_insert(
+    view: &View<'_>,
+    spot: &Spot,
+    mark: &Mark,
+    name: AreaName,
+    class: u32,
+    size: i32,
+    out: &mut Vec<u8>,
+) -> Result<(), AllocError> {
+    let here = Spot {
+        left: spot.left,
+        width: spot.width,
+        top: spot.top.saturating_add(mark.top),
+    };
+    print_tint(view, &here, name, class, size, out)?;
+    let top = units(here.top);
+    let end = units(here.top.saturating_add(i128::from(size)));
     let room = Spot {
         left: spot.left.saturating_add(300),
         width: spot.width.saturating_sub(600),
-        top: at,
+        top: here.top,
     };
     let words = mark.words.as_slice();
-    if is_note {
+    if is_notes(name) {
         return print_block(&room, words, top, end, view.lines.size, false, out);
     }
     print_class_label(view, room.left, top, class, size, out)?;
@@ -300,7 +398,7 @@ fn print_mark(
     view: &View<'_>,
     spot: &Spot,
     mark: &Mark,
-    is_note: bool,
+    name: AreaName,
     out: &mut Vec<u8>,
 ) -> Result<(), AllocError> {
     match mark.shape {
@@ -310,9 +408,7 @@ fn print_mark(
             width,
         } => print_box(view, spot, mark, height, depth, width, out),
         Shape::Rule { height, depth } => print_rule(spot, mark, height, depth, out),
-        Shape::Insert { class, size } => {
-            print_insert(view, spot, mark, class, size, is_note, out)
-        }
+        Shape::Insert { class, size } => print_insert(view, spot, mark, name, class, size, out),
         _ => Ok(()),
     }
 }
@@ -321,18 +417,20 @@ fn print_mark(
 pub fn print_marks(
     view: &View<'_>,
     spot: &Spot,
+    name: AreaName,
     marks: &[Mark],
-    is_note: bool,
     out: &mut Vec<u8>,
 ) -> Result<(), AllocError> {
     let mut rest = marks;
+    let mut above = false;
     'marks: while !rest.is_empty() {
         let (between, behind) = rest.split_at(space_len(rest));
-        print_space(spot, between, out)?;
+        print_space(spot, gap_of(name, above, !behind.is_empty()), between, out)?;
         match behind {
             [mark, after @ ..] => {
-                print_mark(view, spot, mark, is_note, out)?;
+                print_mark(view, spot, mark, name, out)?;
                 print(out, &[Piece::Markup("\n")])?;
+                above = true;
                 rest = after;
             }
             [] => return Ok(()),
@@ -341,23 +439,10 @@ pub fn print_marks(
     Ok(())
 }
 
-/// Whether an area has notes.
-pub fn is_notes(name: AreaName) -> bool {
+// Whether an area has notes.
+fn is_notes(name: AreaName) -> bool {
     match name {
         AreaName::Notes => true,
         _ => false,
     }
-}
-
-/// The tint of an area, with a line at its left.
-pub fn print_tint(
-    class: &'static str,
-    edge: &'static str,
-    spot: &Spot,
-    end: i128,
-    out: &mut Vec<u8>,
-) -> Result<(), AllocError> {
-    let top = units(spot.top);
-    print_bare(class, spot.left, spot.width, top, end, out)?;
-    print_bare(edge, spot.left, 120, top, end, out)
 }

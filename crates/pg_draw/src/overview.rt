@@ -1,13 +1,13 @@
 //! What a text says of all its pages: their cost, the worst of them in words, and a small picture of each, which is a
 //! link to it, with a bar of its badness.
 use crate::pieces::{Piece, print};
-use crate::shapes::print_bare;
+use crate::shapes::{Spot, print_bare};
 use crate::tell::print_says;
 use pg_draw_page::{
-    AREA_GAP, Frame, View, all_cost, area_room, areas_height, badness_step, full_width, is_side,
-    left_of, page_badness, page_height, units, worst_pages,
+    Frame, Stack, View, all_cost, area_room, areas_height, badness_step, column_stack, full_width,
+    is_side, is_text, larger, left_of, page_badness, page_height, units, wide_stack, worst_pages,
 };
-use pg_drawing::{AreaName, DrawnArea, DrawnPage, Numbers};
+use pg_drawing::{AreaName, DrawnArea, DrawnColumn, DrawnPage, Mark, Shape};
 use std::alloc::AllocError;
 
 // What the pages cost, and how much of it their columns do.
@@ -62,7 +62,7 @@ fn print_worst_page(
             Piece::Markup("\">"),
         ],
     )?;
-    print_says(number, page, out)?;
+    print_says(view, number, page, out)?;
     print(out, &[Piece::Markup("</a>")])
 }
 
@@ -90,49 +90,106 @@ fn area_class(name: AreaName) -> &'static str {
     }
 }
 
-// How much of the room of an area is filled, in scaled points.
-fn filled(area: &DrawnArea, numbers: Option<Numbers>) -> i128 {
-    let height = if area.height < 0 { 0 } else { area.height };
-    match (area.name, numbers) {
-        (AreaName::Text, Some(Numbers::Set { total, .. })) => {
-            let total = i128::from(total);
-            if total < height {
-                larger_than_none(total)
-            } else {
-                height
-            }
-        }
-        _ => height,
+// How much of the room of a text is filled, in scaled points.
+fn filled(area: &DrawnArea, stack: Stack) -> i128 {
+    let height = larger(area.height, 0);
+    match stack.ends {
+        Some(ends) => lesser(height, larger(ends.total, 0)),
+        None => height,
     }
 }
 
-// A number, or 0.
-fn larger_than_none(number: i128) -> i128 {
-    if number < 0 { 0 } else { number }
+// The lesser of two numbers.
+fn lesser(one: i128, other: i128) -> i128 {
+    if one < other { one } else { other }
+}
+
+// The inserts of an area, small, and not the gaps around them.
+fn print_small_inserts(
+    spot: &Spot,
+    class: &'static str,
+    marks: &[Mark],
+    out: &mut Vec<u8>,
+) -> Result<(), AllocError> {
+    for mark in marks {
+        match mark.shape {
+            Shape::Insert { size, .. } => {
+                let top = spot.top.saturating_add(mark.top);
+                let end = units(top.saturating_add(i128::from(size)));
+                print_bare(class, spot.left, spot.width, units(top), end, out)?;
+            }
+            _ => {}
+        }
+    }
+    Ok(())
+}
+
+// An area, small: how far a text goes, or the inserts of another.
+fn print_small_area(
+    spot: &Spot,
+    area: &DrawnArea,
+    stack: Stack,
+    out: &mut Vec<u8>,
+) -> Result<(), AllocError> {
+    let class = area_class(area.name);
+    if is_text(area.name) {
+        let end = units(spot.top.saturating_add(filled(area, stack)));
+        return print_bare(class, spot.left, spot.width, units(spot.top), end, out);
+    }
+    print_small_inserts(spot, class, area.marks.as_slice(), out)
 }
 
 // Areas, small, one below the other.
 fn print_small_areas(
-    left: i128,
-    width: i128,
-    from: i128,
+    spot: &Spot,
     areas: &[DrawnArea],
-    numbers: Option<Numbers>,
+    stack: Stack,
     out: &mut Vec<u8>,
 ) -> Result<(), AllocError> {
-    let mut top = from;
+    let mut top = spot.top;
     for area in areas {
-        let end = units(top.saturating_add(filled(area, numbers)));
-        print_bare(area_class(area.name), left, width, units(top), end, out)?;
+        let here = Spot {
+            left: spot.left,
+            width: spot.width,
+            top,
+        };
+        print_small_area(&here, area, stack, out)?;
         top = top
-            .saturating_add(area_room(area, numbers))
-            .saturating_add(AREA_GAP);
+            .saturating_add(area_room(area, stack))
+            .saturating_add(stack.apart);
+    }
+    Ok(())
+}
+
+// The columns of a page, small, below its wide areas.
+fn print_small_columns(
+    frame: Frame,
+    apart: i128,
+    top: i128,
+    columns: &[DrawnColumn],
+    out: &mut Vec<u8>,
+) -> Result<(), AllocError> {
+    let mut index: i128 = 0;
+    for column in columns {
+        let spot = Spot {
+            left: left_of(frame, index),
+            width: frame.width,
+            top,
+        };
+        let stack = column_stack(apart, column);
+        print_small_areas(&spot, column.areas.as_slice(), stack, out)?;
+        index = index.saturating_add(1);
     }
     Ok(())
 }
 
 // A page, small.
-fn print_small(frame: Frame, page: &DrawnPage, out: &mut Vec<u8>) -> Result<(), AllocError> {
+fn print_small(
+    frame: Frame,
+    apart: i128,
+    page: &DrawnPage,
+    out: &mut Vec<u8>,
+) -> Result<(), AllocError> {
     let across = full_width(frame);
     print(
         out,
@@ -140,19 +197,19 @@ fn print_small(frame: Frame, page: &DrawnPage, out: &mut Vec<u8>) -> Result<(), 
             Piece::Markup("<svg viewBox=\"-1500 -1500 "),
             Piece::Number(across.saturating_add(3000)),
             Piece::Markup(" "),
-            Piece::Number(units(page_height(page)).saturating_add(3000)),
+            Piece::Number(units(page_height(page, apart)).saturating_add(3000)),
             Piece::Markup("\" aria-hidden=\"true\">"),
         ],
     )?;
-    print_small_areas(0, across, 0, page.wide.as_slice(), None, out)?;
-    let below = areas_height(page.wide.as_slice(), None);
-    let mut index: i128 = 0;
-    for column in page.columns.as_slice() {
-        let left = left_of(frame, index);
-        let areas = column.areas.as_slice();
-        print_small_areas(left, frame.width, below, areas, column.numbers, out)?;
-        index = index.saturating_add(1);
-    }
+    let spot = Spot {
+        left: 0,
+        width: across,
+        top: 0,
+    };
+    let stack = wide_stack(apart);
+    print_small_areas(&spot, page.wide.as_slice(), stack, out)?;
+    let below = areas_height(page.wide.as_slice(), stack);
+    print_small_columns(frame, apart, below, page.columns.as_slice(), out)?;
     print(out, &[Piece::Markup("</svg>")])
 }
 
@@ -173,9 +230,9 @@ fn print_small_link(
             Piece::Markup("\" title=\""),
         ],
     )?;
-    print_says(number, page, out)?;
+    print_says(view, number, page, out)?;
     print(out, &[Piece::Markup("\">")])?;
-    print_small(frame, page, out)?;
+    print_small(frame, view.apart, page, out)?;
     print(
         out,
         &[

@@ -1,6 +1,8 @@
 //! Shapes of a picture, and what stands on its lines.
 use crate::pieces::{Piece, print};
-use pg_draw_page::{Row, larger, next_row, quotient, row_count, row_of};
+use pg_draw_page::{
+    Row, first_letters, larger, letter_count, next_row, quotient, row_count, row_of,
+};
 use std::alloc::AllocError;
 
 /// Where an area stands: its left and its width in units, its top in scaled points.
@@ -139,10 +141,10 @@ pub fn print_row(
     more: bool,
     out: &mut Vec<u8>,
 ) -> Result<(), AllocError> {
-    let row = row_of(words.len(), rows.size, rows.width);
+    let row = row_of(letter_count(words), rows.size, rows.width);
     print_opening(rows, row, out)?;
     let (shown, is_cut) = match row {
-        Row::Cut(count) => (&words[..words.len().min(count)], true),
+        Row::Cut(count) => (first_letters(words, count), true),
         _ => (words, more),
     };
     let end = if is_cut { "…</text>" } else { "</text>" };

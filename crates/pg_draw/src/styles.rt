@@ -5,14 +5,14 @@ use std::alloc::AllocError;
 // The colours of a light page, which is printed too.
 const LIGHT: &str =
     ":root{color-scheme:light dark;--ground:#f4f3ef;--paper:#fffefb;--ink:#23221f;--soft:#5d5a53;
---rule:#d8d4c9;--box:#f4f2ec;--base:#85817a;--stretch:#1f6fa8;--shrink:#b04a22;--odd:#b03a26;
+--rule:#d8d4c9;--box:#e9e6dd;--base:#85817a;--stretch:#1f6fa8;--shrink:#b04a22;--odd:#b03a26;
 --wide:#7553a8;--top:#1f7d72;--bottom:#5f7a1f;--notes:#8f6208}
 ";
 
 // The colours of a dark one.
 const DARK: &str =
     "@media screen and (prefers-color-scheme:dark){:root{--ground:#141517;--paper:#1d1f22;--ink:#e7e4dc;
---soft:#a9a69c;--rule:#393b3f;--box:#25272b;--base:#7d8086;--stretch:#5fb0e6;--shrink:#ea8a5f;--odd:#f08a76;
+--soft:#a9a69c;--rule:#393b3f;--box:#2d2f34;--base:#7d8086;--stretch:#5fb0e6;--shrink:#ea8a5f;--odd:#f08a76;
 --wide:#a98fd8;--top:#55b9ac;--bottom:#a3bf59;--notes:#dba941}}
 ";
 
@@ -48,8 +48,10 @@ font-size:.82rem;color:var(--soft);border-bottom:1px solid var(--rule)}
 .key li[class]::before{content:\"\";display:inline-block;width:.8rem;height:.8rem;margin-right:.4rem;
 vertical-align:-.08rem;background:var(--c)}.key svg{display:inline-block;width:.8rem;height:.8rem;margin-right:.4rem;
 vertical-align:-.08rem}.kw,.wide{--c:var(--wide)}.kt,.top{--c:var(--top)}.ko,.bottom{--c:var(--bottom)}
-.kn,.notes{--c:var(--notes)}.key li.kg::before,.key li.kl::before,.key li.kp::before{width:1.4rem;height:0;
-background:none;border-top:3px solid var(--ink);vertical-align:.25rem}
+.kn,.notes{--c:var(--notes)}.key li.kw::before,.key li.kt::before,.key li.ko::before,.key li.kn::before{
+background:none;border:1px solid var(--c);border-left-width:4px}
+.key li.kg::before,.key li.kl::before,.key li.kp::before{width:1.4rem;height:0;background:none;
+border-top:3px solid var(--ink);vertical-align:.25rem}
 .key li.kl::before{border-top:3px dashed var(--odd)}.key li.kp::before{width:.6rem;border-color:var(--base)}
 .key li.kd::before{--b:60;width:1.4rem;height:5px;vertical-align:.18rem;background:linear-gradient(var(--odd),var(--odd)) 0/60% 100% no-repeat,var(--rule)}
 ";
@@ -73,8 +75,8 @@ h3 span{color:var(--soft);font-weight:400;font-size:.85rem;overflow-wrap:anywher
 // A picture of a page.
 const PICTURE: &str =
     "svg{display:block;width:100%;height:auto}.f{fill:none;stroke:var(--rule);stroke-width:25}
-.a{fill:var(--c);fill-opacity:.12}.e{fill:var(--c)}
-.b{fill:var(--box)}.n{fill:var(--base)}.i,.g{fill:none;pointer-events:all}.i{stroke:var(--c);stroke-width:25}.r{fill:var(--ink)}
+.i{fill:var(--c,var(--base));fill-opacity:.12;stroke:var(--c,var(--base));stroke-width:45}.e{fill:var(--c,var(--base))}
+.b{fill:var(--box);fill-opacity:.5}.n{fill:var(--base)}.g{fill:none;pointer-events:all}.r{fill:var(--ink)}
 .s{fill:url(#hatch);stroke:var(--stretch);stroke-width:45}.h{stroke:var(--stretch);stroke-width:55}
 .k{fill:var(--shrink);stroke:var(--shrink);stroke-width:45}
 .p{stroke:var(--base);stroke-width:70}.goal,.total{fill:none;stroke:var(--ink);stroke-width:50}
@@ -97,7 +99,7 @@ const OTHER: &str =
 .pair .page{flex:1 1 100%}}
 @media print{@page{margin:12mm}:root{--ground:#fff;--paper:#fff}body{font-size:9px;line-height:1.3}
 header,main{max-width:none;padding:0}h2,h3,h3>b,h3 span,dl,.key,.wait{font-size:1em}.skip,.step a{display:none}
-main{display:grid;grid-template-columns:1fr 1fr;gap:4mm;padding-top:3mm}.two,.pair,main h2{grid-column:1/3}
+main{display:grid;grid-template-columns:1fr 1fr;gap:4mm;padding:3mm 1px 0}.two,.pair,main h2{grid-column:1/3}
 .spread,.pair{max-width:none;break-inside:avoid}.two,.pair{display:grid;grid-template-columns:1fr 1fr;gap:2mm 4mm}
 .lone{grid-column:2}.step{grid-column:1/3;padding:0}.page svg{max-height:92mm}dl:only-child{columns:2;column-gap:4mm}
 *{print-color-adjust:exact;-webkit-print-color-adjust:exact}.page:has(dl+dl) svg{max-height:82mm}main h2{break-after:avoid}

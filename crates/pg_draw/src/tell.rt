@@ -1,7 +1,8 @@
 //! What is said of pages, in words for people.
 use crate::pieces::{Piece, print};
 use pg_draw_page::{
-    Fill, Length, View, column_fill, count_floats, count_notes, page_badness, page_length, shorter,
+    Fill, Foot, Length, View, column_fill, column_foot, count_floats, count_notes, page_badness,
+    page_length, shorter,
 };
 use pg_drawing::{DrawnColumn, DrawnPage};
 use pg_list::Place;
@@ -77,8 +78,8 @@ pub fn print_count(
     print(out, &[Piece::Markup(if number == 1 { one } else { many })])
 }
 
-/// How a column fills its goal.
-pub fn print_fill(fill: Fill, out: &mut Vec<u8>) -> Result<(), AllocError> {
+// How a column fills its goal.
+fn print_fill(fill: Fill, out: &mut Vec<u8>) -> Result<(), AllocError> {
     match fill {
         Fill::Full => print(out, &[Piece::Markup("full")]),
         Fill::Short(by) => print(
@@ -93,10 +94,33 @@ pub fn print_fill(fill: Fill, out: &mut Vec<u8>) -> Result<(), AllocError> {
     }
 }
 
+// What is said of the foot of a short column.
+fn foot_words(foot: Foot) -> &'static str {
+    match foot {
+        Foot::Set => "",
+        Foot::Unstretched => " and not stretched",
+        Foot::Ragged => " and ragged",
+    }
+}
+
+/// How a column fills its goal, and how its foot comes about.
+pub fn print_column_fill(
+    view: &View<'_>,
+    column: &DrawnColumn,
+    out: &mut Vec<u8>,
+) -> Result<(), AllocError> {
+    print_fill(column_fill(column), out)?;
+    print(out, &[Piece::Markup(foot_words(column_foot(view, column)))])
+}
+
 // How the columns of a page fill their goals.
-fn print_fills(columns: &[DrawnColumn], out: &mut Vec<u8>) -> Result<(), AllocError> {
+fn print_fills(
+    view: &View<'_>,
+    columns: &[DrawnColumn],
+    out: &mut Vec<u8>,
+) -> Result<(), AllocError> {
     if let [column] = columns {
-        return print_fill(column_fill(column), out);
+        return print_column_fill(view, column, out);
     }
     let mut number: usize = 0;
     for column in columns {
@@ -106,10 +130,10 @@ fn print_fills(columns: &[DrawnColumn], out: &mut Vec<u8>) -> Result<(), AllocEr
             &[
                 Piece::Markup(if number == 1 { "column " } else { ", column " }),
                 Piece::Count(number),
-                Piece::Markup(" "),
+                Piece::Markup(" is "),
             ],
         )?;
-        print_fill(column_fill(column), out)?;
+        print_column_fill(view, column, out)?;
     }
     Ok(())
 }
@@ -129,7 +153,12 @@ fn print_some(
 }
 
 /// What a page is, in one sentence without its point: how it fills its goals, its badness, its floats and notes.
-pub fn print_says(number: usize, page: &DrawnPage, out: &mut Vec<u8>) -> Result<(), AllocError> {
+pub fn print_says(
+    view: &View<'_>,
+    number: usize,
+    page: &DrawnPage,
+    out: &mut Vec<u8>,
+) -> Result<(), AllocError> {
     print(
         out,
         &[
@@ -138,7 +167,7 @@ pub fn print_says(number: usize, page: &DrawnPage, out: &mut Vec<u8>) -> Result<
             Piece::Markup(": "),
         ],
     )?;
-    print_fills(page.columns.as_slice(), out)?;
+    print_fills(view, page.columns.as_slice(), out)?;
     print(
         out,
         &[

@@ -1,8 +1,6 @@
 //! The scale of a picture, and what stands where in it.
+use crate::gaps::{Stack, column_stack, wide_stack};
 use pg_drawing::{AreaName, Drawing, DrawnArea, DrawnColumn, DrawnPage, Numbers};
-
-/// Between two areas of a column, in scaled points: they are drawn this far apart.
-pub const AREA_GAP: i128 = 393216;
 
 /// Between two columns, in units: room for the marks beside them.
 const COLUMN_GAP: i128 = 2200;
@@ -112,33 +110,31 @@ pub fn full_width(frame: Frame) -> i128 {
     left_of(frame, frame.columns).saturating_sub(COLUMN_GAP)
 }
 
-/// How much of a column an area takes, in scaled points: a text as much as its goal, or more where it is longer.
-pub fn area_room(area: &DrawnArea, numbers: Option<Numbers>) -> i128 {
-    match (area.name, numbers) {
-        (AreaName::Text, Some(Numbers::Set { goal, .. })) => larger(area.height, i128::from(goal)),
+/// How much of a column an area takes, in scaled points: a text down to where it is to end, or more where it is longer.
+pub fn area_room(area: &DrawnArea, stack: Stack) -> i128 {
+    match (area.name, stack.ends) {
+        (AreaName::Text, Some(ends)) => larger(area.height, ends.goal),
         _ => larger(area.height, 0),
     }
 }
 
-/// How high areas are one below the other, in scaled points, each with the gap behind it.
-pub fn areas_height(areas: &[DrawnArea], numbers: Option<Numbers>) -> i128 {
+/// How high areas are one below the other, in scaled points, each with what is left free behind it.
+pub fn areas_height(areas: &[DrawnArea], stack: Stack) -> i128 {
     let mut height: i128 = 0;
     for area in areas {
         height = height
-            .saturating_add(area_room(area, numbers))
-            .saturating_add(AREA_GAP);
+            .saturating_add(area_room(area, stack))
+            .saturating_add(stack.apart);
     }
     height
 }
 
-/// How high a page is, in scaled points.
-pub fn page_height(page: &DrawnPage) -> i128 {
+/// How high a page is, in scaled points, with areas so far apart.
+pub fn page_height(page: &DrawnPage, apart: i128) -> i128 {
     let mut height: i128 = 0;
     for column in page.columns.as_slice() {
-        height = larger(
-            height,
-            areas_height(column.areas.as_slice(), column.numbers),
-        );
+        let stack = column_stack(apart, column);
+        height = larger(height, areas_height(column.areas.as_slice(), stack));
     }
-    height.saturating_add(areas_height(page.wide.as_slice(), None))
+    height.saturating_add(areas_height(page.wide.as_slice(), wide_stack(apart)))
 }

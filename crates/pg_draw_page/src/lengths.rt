@@ -1,6 +1,8 @@
-//! Whether a page is longer or shorter than others.
+//! Whether a page is longer or shorter than others, and how a short column ends.
+use crate::fill::{Fill, column_fill};
+use crate::gaps::{is_text, is_unstretched};
 use crate::view::View;
-use pg_drawing::{AreaName, DrawnArea, DrawnColumn, DrawnPage, Numbers};
+use pg_drawing::{DrawnArea, DrawnColumn, DrawnPage, Numbers};
 
 /// How much longer or shorter a page is than one of the first run.
 #[derive(Clone, Copy)]
@@ -15,13 +17,45 @@ pub enum Length {
     Run(u8),
 }
 
+/// How the foot of a column comes about.
+#[derive(Clone, Copy)]
+pub enum Foot {
+    /// Its glue is set, or it needs not be.
+    Set,
+    /// It is short, and its glue is as wide as of itself.
+    Unstretched,
+    /// The same in a style that leaves columns ragged.
+    Ragged,
+}
+
+// Whether a style leaves columns ragged.
+fn is_ragged(view: &View<'_>) -> bool {
+    match view.style {
+        Some(style) => style.ragged.is_some(),
+        None => false,
+    }
+}
+
+/// How the foot of a column comes about.
+pub fn column_foot(view: &View<'_>, column: &DrawnColumn) -> Foot {
+    match column_fill(column) {
+        Fill::Short(_) => {
+            if !is_unstretched(column.areas.as_slice()) {
+                Foot::Set
+            } else if is_ragged(view) {
+                Foot::Ragged
+            } else {
+                Foot::Unstretched
+            }
+        }
+        _ => Foot::Set,
+    }
+}
+
 // Whether areas are a text alone.
 fn is_text_alone(areas: &[DrawnArea]) -> bool {
     match areas {
-        [area] => match area.name {
-            AreaName::Text => true,
-            _ => false,
-        },
+        [area] => is_text(area.name),
         _ => false,
     }
 }

@@ -2,7 +2,8 @@
 ghost use Rattle.std.specs.Prelude.{◌<◌, ◌≤◌, length, IfSome};
 
 use crate::frame::{larger, quotient, units};
-use pg_drawing::{AreaName, Drawing, DrawnArea, Shape};
+use crate::gaps::is_text;
+use pg_drawing::{Drawing, DrawnArea, Shape};
 use std::alloc::{AllocError, Global};
 
 // Of how many lines the most usual height is looked for.
@@ -120,14 +121,6 @@ fn most_usual(numbers: &[i128]) -> Option<i128> {
     best
 }
 
-// Whether an area is that of the text.
-fn is_text(name: AreaName) -> bool {
-    match name {
-        AreaName::Text => true,
-        _ => false,
-    }
-}
-
 // The lines of a column.
 fn walk_column(walk: &mut Walk, areas: &[DrawnArea]) -> Result<(), AllocError> {
     for area in areas {
@@ -186,6 +179,38 @@ fn room_for(size: i128, width: i128) -> usize {
     } else {
         most as usize
     }
+}
+
+// Whether a byte begins a letter, and is not one of those of UTF-8 behind the first.
+fn begins_letter(byte: u8) -> bool {
+    byte < 128 || byte > 191
+}
+
+/// How many letters there are.
+pub fn letter_count(words: &[u8]) -> usize {
+    let mut count: usize = 0;
+    for byte in words {
+        if begins_letter(*byte) {
+            count = count.saturating_add(1);
+        }
+    }
+    count
+}
+
+/// The first letters, so many at most.
+pub fn first_letters(words: &[u8], most: usize) -> &[u8] {
+    let mut count: usize = 0;
+    let mut end: usize = 0;
+    for byte in words {
+        if begins_letter(*byte) {
+            if count >= most {
+                return &words[..words.len().min(end)];
+            }
+            count = count.saturating_add(1);
+        }
+        end = end.saturating_add(1);
+    }
+    words
 }
 
 // How many bytes stand before the first line feed.

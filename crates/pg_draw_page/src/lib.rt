@@ -9,6 +9,7 @@
 mod count;
 mod fill;
 mod frame;
+mod gaps;
 mod lengths;
 mod letters;
 mod spaces;
@@ -17,10 +18,13 @@ mod view;
 pub use count::{column_picks, count_floats, count_notes, waiting_of};
 pub use fill::{Fill, Worst, badness_step, column_fill, page_badness, worst_pages};
 pub use frame::{
-    AREA_GAP, Frame, all_cost, area_room, areas_height, both, column_cost, frame_of, full_width,
-    larger, left_of, page_height, quotient, shorter, units,
+    Frame, all_cost, area_room, areas_height, both, column_cost, frame_of, full_width, larger,
+    left_of, page_height, quotient, shorter, units,
 };
-pub use lengths::{Length, page_length};
-pub use letters::{Lines, Row, next_row, row_count, row_of, usual_lines};
+pub use gaps::{Gap, Stack, TextEnds, areas_apart, column_stack, gap_of, is_text, wide_stack};
+pub use lengths::{Foot, Length, column_foot, page_length};
+pub use letters::{
+    Lines, Row, first_letters, letter_count, next_row, row_count, row_of, usual_lines,
+};
 pub use spaces::{Space, change_step, space_len, space_of};
 pub use view::{View, base_name, is_side};

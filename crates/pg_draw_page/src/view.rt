@@ -10,7 +10,7 @@ use pg_style::Style;
 
 /// What is drawn of one output text: the letter in front of the numbers of its pages where they are named, the name of
 /// its file without folders, its drawing, what its text says, how many floats wait behind each page, a style where one is
-/// given, and the size and the distance of its lines.
+/// given, the size and the distance of its lines, and how far apart its areas are drawn, in scaled points.
 #[derive(Clone, Copy)]
 pub struct View<'a> {
     pub letter: &'static str,
@@ -20,6 +20,7 @@ pub struct View<'a> {
     pub waiting: &'a [Option<usize>],
     pub style: Option<&'a Style>,
     pub lines: Lines,
+    pub apart: i128,
 }
 
 /// The name of a file, without the folders that it is in.

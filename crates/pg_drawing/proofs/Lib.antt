@@ -6,3 +6,4 @@ pub mod WorkedDrawings
 pub mod Summed
 pub mod Limits
 mod WidthLemmas
+mod T1Letters

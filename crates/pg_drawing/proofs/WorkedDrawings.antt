@@ -1,6 +1,7 @@
 -- Drawings that are computed.
-use Rattle.std.proofs.Common.{◌≡◌, ◌^◌, refl, true, false, pos, [], ◌∷◌, map}
-use Rattle.std.specs.Prelude.{codes}
+use Rattle.std.proofs.Common.{◌≡◌, ◌^◌, ◌++◌, refl, true, false, pos, [], ◌∷◌, map}
+use Rattle.std.specs.Prelude.{codes, encode_utf8_all}
+use Rattle.std.specs.Char.{encode_utf8}
 use Rattle.pg_list.specs.declared.item.Order.TheVariants.{Finite, Fil}
 use Rattle.pg_scan.specs.Parts.{after, named, parts_of, past, word_number}
 use Rattle.pg_showbox.specs.Nodes.{amount_at, glue_at, glue_text_at, kern_at, past_name, penalty_at, shrink_at, stretch_at}
@@ -9,6 +10,7 @@ use Rattle.pg_drawing.specs.Drawn.{area_name, area_of}
 use Rattle.pg_drawing.specs.Letters.{letter, letters, letters_at, ligature}
 use Rattle.pg_drawing.specs.Pieces.{Lines}
 use Rattle.pg_drawing.specs.Shapes.{behind_name, box_at, extent, later_at, named_glue_at, natural_at, past_natural, rule_at, set_at, shape_of, sized_at}
+use Rattle.pg_drawing.specs.Signs.{in_print, quote_in_print, t1_mark}
 use Rattle.pg_drawing.specs.Totals.{adds_up}
 use Rattle.pg_drawing.specs.Widths.{printed_behind, printed_size, width_word}
 use Rattle.pg_drawing.specs.declared.model.AreaName.TheVariants.{Text}
@@ -58,8 +60,23 @@ line_of_text = record {
 }
 
 letters_are : letters line_of_text ≡ codes "I fix"
-unfolding letters_at letter ligature after named parts_of
+unfolding letters_at letter ligature in_print quote_in_print after named parts_of
 letters_are = refl
+
+-- TeX's quotes and dashes, letters beyond ASCII as LuaTeX and as pdfTeX has them, and a byte that tells none
+abbrev line_of_speech : Lines
+line_of_speech = record {
+  head = codes ".\\hbox(7.0+2.0)x345.0";
+  rest = codes "..\\tenrm \\ (ligature ``)" ∷ codes "..\\tenrm I" ∷ codes "..\\tenrm '" ∷ codes "..\\tenrm m"
+      ∷ codes "..\\T1/cmr/m/n/10 ^^U (ligature --)" ∷ encode_utf8_all (codes "..\\TU/lmr/m/n/10 é")
+      ∷ (codes "..\\T1/cmr/m/n/10 " ++ 255 ∷ []) ∷ (codes "..\\T1/cmr/m/n/10 " ++ 128 ∷ [])
+      ∷ codes "..\\T1/cmr/m/n/10 ^^T" ∷ (codes "..\\tenrm " ++ 233 ∷ []) ∷ codes "..\\tenrm ^^T"
+      ∷ codes "..\\tenrm | (ligature ---)" ∷ codes "..\\tenrm ^^Q (ligature '')" ∷ [];
+}
+
+speech_is : letters line_of_speech ≡ encode_utf8_all (codes "“I’m–éßĂ»—”")
+unfolding letters_at letter ligature in_print quote_in_print t1_mark after named parts_of encode_utf8
+speech_is = refl
 
 abbrev note_of_two_lines : Lines
 note_of_two_lines = record {
@@ -69,7 +86,7 @@ note_of_two_lines = record {
 }
 
 rows_are : letters note_of_two_lines ≡ codes "\nI\na"
-unfolding letters_at letter ligature after named parts_of
+unfolding letters_at letter ligature in_print quote_in_print after named parts_of
 rows_are = refl
 
 -- ---- areas

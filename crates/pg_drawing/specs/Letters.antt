@@ -1,17 +1,12 @@
 -- The letters that an item shows, read off the lines behind its first.
-use Rattle.std.specs.Prelude.{ℕ, ◌==◌, ◌&&◌, ◌-◌, ◌++◌, Bool, false, not, nat_le, nat_lt, if◌then◌else◌, List, [], ◌∷◌, length, take, drop, Option, Some, None, is_some, codes}
+use Rattle.std.specs.Prelude.{ℕ, ◌==◌, ◌&&◌, ◌-◌, ◌++◌, Bool, not, nat_lt, if◌then◌else◌, List, [], ◌∷◌, length, take, drop, Option, Some, None, is_some, codes}
 use Rattle.std.specs.List.{prefix_len}
 use Rattle.std.specs.Str.{bytes_eq}
 use Rattle.pg_drawing.specs.Pieces.{Lines}
+use Rattle.pg_drawing.specs.Signs.{in_print, sign_of}
 use Rattle.pg_scan.specs.Parts.{after, named}
 use Rattle.pg_words.specs.InOrder.{any_word, due, ended, next, words_of}
-use Rattle.pg_words.specs.Read.{◌>>=◌, if_true}
-
--- a sign that is seen
-abbrev pub is_letter : List ℕ → Bool
-is_letter [] = false
-is_letter (c ∷ []) = nat_le 33 c && nat_le c 126
-is_letter (c ∷ d ∷ ds) = false
+use Rattle.pg_words.specs.Read.{◌>>=◌}
 
 -- a font and a letter
 unfoldable pub letter : List (List ℕ) → Option (List ℕ)
@@ -19,7 +14,7 @@ letter words = do
   font ← next any_word words
   sign ← next any_word font.1
   _ ← ended sign.1
-  if_true (is_letter sign.0 && not (bytes_eq font.0 (codes "\\penalty"))) sign.0
+  if bytes_eq font.0 (codes "\\penalty") then None else sign_of font.0 sign.0
 
 -- a font, a sign, and in brackets what the sign was made of
 unfoldable pub ligature : List (List ℕ) → Option (List ℕ)
@@ -41,10 +36,10 @@ abbrev pub either : Option (List ℕ) → Option (List ℕ) → List ℕ
 either None other = or_nothing other
 either (Some letters) other = letters
 
--- what a line shows behind its points: a letter, a ligature, or a blank for glue
+-- what a line shows behind its points: a letter or a ligature in print, or a blank for glue
 unfoldable pub letters_at : List ℕ → List ℕ
 letters_at bytes = if is_some (named (codes "\\glue") bytes) then codes " "
-    else either (letter (words_of bytes)) (ligature (words_of bytes))
+    else in_print (either (letter (words_of bytes)) (ligature (words_of bytes)))
 
 -- ---- rows
 

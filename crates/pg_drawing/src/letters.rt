@@ -3,23 +3,14 @@ ghost use Rattle.std.specs.Prelude.{◌≡◌, ◌≤◌, ◌++◌, ◌-◌, tak
 ghost use Rattle.std.specs.List.{prefix_len};
 ghost use Rattle.std.specs.Option.{option_map};
 ghost use Rattle.pg_words.specs.InOrder.{words_of};
-ghost use Rattle.pg_drawing.specs.Letters.{behind_points, either as either_of, is_letter as is_letter_of, is_point, has_name as has_name_so, hyphen_behind as hyphen_behind_so, is_within as is_within_so, letter as letter_in, letters, letters_at, ligature as ligature_in, line_letters as line_letters_so, open_behind as open_behind_so, row_behind as row_behind_so, rows_in, seen_letters as seen_letters_so};
+ghost use Rattle.pg_drawing.specs.Letters.{behind_points, either as either_of, is_point, has_name as has_name_so, hyphen_behind as hyphen_behind_so, is_within as is_within_so, letter as letter_in, letters, letters_at, ligature as ligature_in, line_letters as line_letters_so, open_behind as open_behind_so, row_behind as row_behind_so, rows_in, seen_letters as seen_letters_so};
 ghost use Rattle.pg_drawing.specs.Pieces.{texts, told};
 
+use crate::signs::{in_print, sign_of};
 use pg_list::Bytes;
 use pg_scan::{named, skip};
 use pg_words::Words;
 use std::alloc::{AllocError, Global};
-
-// Whether a text is one sign that is seen.
-fn is_letter(text: &[u8]) -> bool
-    ensures { result ≡ is_letter_of text.now }
-{
-    match text {
-        [sign] => 33 <= *sign && *sign <= 126,
-        _ => false,
-    }
-}
 
 // The letter behind a font.
 #[tactic(auto, unfolding(crate::specs::Letters::letter))]
@@ -30,10 +21,10 @@ fn letter(bytes: &[u8]) -> Option<&[u8]>
     let font = words.word()?;
     let sign = words.word()?;
     words.ended()?;
-    if is_letter(sign) && font != b"\\penalty".as_slice() {
-        Some(sign)
-    } else {
+    if font == b"\\penalty".as_slice() {
         None
+    } else {
+        sign_of(font, sign)
     }
 }
 
@@ -80,7 +71,7 @@ fn letters_behind(bytes: &[u8]) -> &[u8]
     if named(b"\\glue", bytes).is_some() {
         b" "
     } else {
-        either(letter(bytes), ligature(bytes))
+        in_print(either(letter(bytes), ligature(bytes)))
     }
 }
 

@@ -3,8 +3,8 @@
 //! Proved: `read_drawing` answers the drawing that the definition makes of the lines of a text; the marks of each of its
 //! areas are those of item lines, one for each and in order, each begins where the one before it ends, and the area is as
 //! high as its lines say together; `adds_up` tells whether a total is that of marks, and takes each that is made so. The
-//! definitions are in `specs/Pieces`, `specs/Shapes`, `specs/Letters`, `specs/Drawn` and `specs/Totals`; `specs/Laws` says
-//! what a drawing shows, and `proofs/WorkedDrawings` computes some.
+//! definitions are in `specs/Pieces`, `specs/Shapes`, `specs/Signs`, `specs/Letters`, `specs/Drawn` and `specs/Totals`;
+//! `specs/Laws` says what a drawing shows, and `proofs/WorkedDrawings` computes some.
 #![tactic(auto)]
 
 mod heads;
@@ -14,6 +14,7 @@ mod pieces;
 mod read;
 mod series;
 mod shapes;
+mod signs;
 mod totals;
 mod widths;
 
