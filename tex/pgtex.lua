@@ -10,7 +10,7 @@ collectgarbage("setpause", 400) -- time is dearer here than memory
 
 local VERSION = "1.0"
 local DATE = "2026-11-30"
-local FORMAT = 3 -- of NAME.pgx
+local FORMAT = 4 -- of NAME.pgx
 
 local USAGE = "usage: pgtex [--keep] [--latex COMMAND] NAME"
 local HELP = USAGE .. [[
@@ -444,7 +444,7 @@ local function read_in_area(column, area, line)
   if kind then
     column.gaps[#column.gaps + 1] = { area = area, kind = kind, size = units(size), set = units(set) }
   elseif note and area == "notes" then
-    column.notes = column.notes + units(note)
+    column.notes, column.has_notes[integer(class)] = column.notes + units(note), true
     if last and last.kind == "skip" then last.class = integer(class) end
   end
 end
@@ -462,7 +462,7 @@ local function read_pages(text)
         pages[#pages + 1] = page
       elseif w[1] == "column" then
         column = { from = { integer(w[4]), integer(w[5]), integer(w[6]) }, to = { integer(w[8]), integer(w[9]), integer(w[10]) },
-          above = counts(w[12]), below = counts(w[14]), picks = counts(w[16]), notes = 0, gaps = {} }
+          above = counts(w[12]), below = counts(w[14]), picks = counts(w[16]), notes = 0, has_notes = {}, gaps = {} }
         page.columns[#page.columns + 1] = column
       elseif w[1] == "set" then column.goal, column.total = units(w[3]), units(w[5])
       elseif w[1] == "area" then area = w[2] end
@@ -884,14 +884,24 @@ local function put_picks(put, picked)
     end
   end
 end
+-- The gaps of some floats as a style has them; what they do not have is 0.
+local function natural_gaps(area, floats)
+  return floats > 1 and size_of(area, "sep") or 0, floats > 0 and size_of(area, "gap") or 0
+end
+local function sum_of(numbers)
+  local sum = 0
+  for _, number in ipairs(numbers) do sum = sum + number end
+  return sum
+end
 -- How the gaps around a text are set: as the page text says, or else as the style does. TeX has one separator for an area:
 -- what others are more is in its gap. `more` is by how much all of them are set above their sizes.
 local function gaps_of(column, style)
   local gaps = { more = 0, skips = {} }
-  for _, area in ipairs { "top", "bottom" } do
-    gaps[area] = { sep = size_of(style[area], "sep"), gap = size_of(style[area], "gap"), seps = 0, all = 0 }
+  for area, floats in pairs { top = column.above, bottom = column.below } do
+    local sep, gap = natural_gaps(style[area], sum_of(floats))
+    gaps[area] = { sep = sep, gap = gap, seps = 0, all = 0 }
   end
-  for class, note in pairs(style.notes) do gaps.skips[class] = size_of(note, "skip") end
+  for class in pairs(column.has_notes) do gaps.skips[class] = size_of(style.notes[class], "skip") end
   for _, line in ipairs(column.gaps) do
     local area = gaps[line.area]
     gaps.more = gaps.more + line.set - line.size
@@ -932,20 +942,23 @@ local function put_column(put, column, part, list, style, log)
   -- the option ragged leaves room where a style of one's own does not
   local is_left = log.bottom == "ragged" and column.total <= column.goal
   if is_left then column.gaps = {} end
-  local gaps, set = gaps_of(column, style), is_set(column, part, style, is_left) and 1 or 0
+  local gaps = gaps_of(column, style)
+  local height, room = column.goal - gaps.more, 0
+  if not is_set(column, part, style, is_left) then height, room = column.total, height - column.total end
   put("\\pg@measures{%d}{%d}{%s}", column.total, column.notes, calls_between(list.deck, list.flat, list.done, at))
   put_gaps(put, gaps)
-  put("\\pg@column{%d}{%d}{%d}{%d}{%d}{%s}{%s}", list.pieces[at] - list.pieces[list.done], tail, back, column.goal - gaps.more,
-    set, above, below)
+  put("\\pg@column{%d}{%d}{%d}{%d}{%d}{%s}{%s}", list.pieces[at] - list.pieces[list.done], tail, back, height, room, above, below)
   list.done, list.columns = at, list.columns + 1
 end
 local function put_page(put, page, part, list, style, log)
   list.page = list.page + 1
-  local wide, height, n = deal(list.deck, page.wide)
-  if n > 0 then height = height + (n - 1) * size_of(style.wide, "sep") + size_of(style.wide, "gap") end
+  local wide, height, floats = deal(list.deck, page.wide)
+  local sep, gap = natural_gaps(style.wide, floats)
   local extra = size_of(style.runs[page.run + 1], "extra")
-  put("\\pg@page{%d}{%d}{%s}{%d}{%d}", list.page, extra, wide, height, size_of(style, "height") + extra - height)
+  local left = size_of(style, "height") + extra - height - math.max(0, floats - 1) * sep - gap
+  put("\\pg@page{%d}{%d}{%s}{%d}{%d}{%d}", list.page, extra, wide, sep, gap, left)
   for _, column in ipairs(page.columns) do put_column(put, column, part, list, style, log) end
+  for _ = #page.columns + 1, integer(part.columns) do put("\\pg@floatcolumn{}{0}") end
 end
 local function write_commands(parts, blocks, style, log, sum)
   local flat, picked = flatten(parts, blocks)
