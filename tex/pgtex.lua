@@ -535,44 +535,80 @@ local function number_at(part, blocks, number)
   return number
 end
 local function width_of(log) return log.root:match("x(-?[%d.]+)") end
--- floats that stand between two \clearpage without text: as many to a page as it holds
+-- floats that stand between two \clearpage without text: as many to a column as it holds
 local function pages_of_floats(part, blocks, style)
-  local pages, room, page = {}, size_of(style, "height"), nil
-  local left = 0
-  local function one_of(class)
-    local list = {}
-    for k, float in ipairs(style.floats) do list[k] = float.number == class and 1 or 0 end
-    return list
+  local pages, height, sep = {}, size_of(style, "height"), size_of(style.top, "sep")
+  local free, left = 0, 0 -- columns that the last page may still have, and the room in its last one
+  local function add_page(wide)
+    pages[#pages + 1] = { side = "S", run = 0, wide_floats = wide, columns = {} }
+    free = integer(part.columns)
+  end
+  local function add_column()
+    table.insert(pages[#pages].columns, { floats = {}, below = {}, picks = {} })
+    free, left = free - 1, height
+  end
+  local function put(item)
+    if style.is_float[item.class].area == "wide" then
+      add_page { item }
+      add_column()
+      free, left = 0, 0
+      return
+    end
+    if left < item.size then
+      if free == 0 then add_page {} end
+      add_column()
+    end
+    local columns = pages[#pages].columns
+    table.insert(columns[#columns].floats, item)
+    left = left - item.size - sep
   end
   for b = part.first, part.last do
     local item = blocks[b].item
     if item and item.kind == "insert" and style.is_float[item.class] then
-      if item.size > room then return nil, item end
-      local wide = style.is_float[item.class].area == "wide"
-      if wide then
-        pages[#pages + 1] = { side = "S", run = 0, wide = one_of(item.class), columns = { { above = {}, below = {}, picks = {} } } }
-        left = 0
-      elseif left >= item.size then
-        local column = page.columns[1]
-        for k, n in ipairs(one_of(item.class)) do column.above[k] = column.above[k] + n end
-        left = left - item.size - size_of(style.top, "sep")
-      else
-        page = { side = "S", run = 0, wide = {}, columns = { { above = one_of(item.class), below = {}, picks = {} } } }
-        pages[#pages + 1] = page
-        left = room - item.size - size_of(style.top, "sep")
-      end
+      if item.size > height then return nil, item end
+      put(item)
     end
   end
   return pages
 end
+-- floats in the order of their classes, and how many of each class they are
+local function sorted_floats(floats, style)
+  local sorted, numbers = {}, {}
+  for k, class in ipairs(style.floats) do
+    numbers[k] = 0
+    for _, item in ipairs(floats) do
+      if item.class == class.number then sorted[#sorted + 1], numbers[k] = item, numbers[k] + 1 end
+    end
+  end
+  return sorted, numbers
+end
+-- the lines of an area, with its gaps where the style is of version 3
+local function put_floats(out, area, floats, style)
+  if #floats > 0 then out[#out + 1] = "area " .. area end
+  for k, item in ipairs(floats) do
+    out[#out + 1] = "." .. item.line
+    for _, deep in ipairs(item.deep) do out[#out + 1] = "." .. deep end
+    local kind = k < #floats and "sep" or "gap"
+    local size = style[area][kind]
+    if style.version == "3" then out[#out + 1] = string.format(".\\glue(%s) %s, set %s", kind, size, size:match("^[%d.]+")) end
+  end
+end
 -- what pg would write of them
-local function text_of_floats(pages, log)
+local function text_of_floats(pages, style, log)
   local out = { string.format("pages %d cost 0 width %s", #pages, width_of(log)) }
   local function list(numbers) return #numbers > 0 and table.concat(numbers, ",") or "-" end
   for number, page in ipairs(pages) do
+    local wide
+    wide, page.wide = sorted_floats(page.wide_floats, style)
     out[#out + 1] = string.format("page %d side S run 0 wide %s", number, list(page.wide))
-    out[#out + 1] = string.format("column 1 from 0 0 0 to 0 0 0 top %s bottom - picks -", list(page.columns[1].above))
-    out[#out + 1] = "without text demerits 0"
+    put_floats(out, "wide", wide, style)
+    for c, column in ipairs(page.columns) do
+      local above
+      above, column.above = sorted_floats(column.floats, style)
+      out[#out + 1] = string.format("column %d from 0 0 0 to 0 0 0 top %s bottom - picks -", c, list(column.above))
+      out[#out + 1] = "without text demerits 0"
+      put_floats(out, "top", above, style)
+    end
   end
   return table.concat(out, "\n") .. "\n"
 end
@@ -679,7 +715,7 @@ local function paginate(parts, blocks, style, log)
       if not pages then
         stop("no legal pagination: %s:%d: a %s is %s high", log.file, item.at, log.words[item.class] or "float", points(item.size))
       end
-      part.pages, part.text = pages, text_of_floats(pages, log)
+      part.pages, part.text = pages, text_of_floats(pages, style, log)
     else
       part.text = text_of_part(part, #parts > 1 and " of part " .. k or "", number, blocks, style, log)
       part.pages = read_pages(part.text)
