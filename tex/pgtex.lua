@@ -131,7 +131,7 @@ local function lines_of(text)
     lines[#lines + 1] = line
     if line == "pg: galley begins" then is_listing, longest = true, 0
     elseif line == "pg: galley ends" then is_listing = false
-    elseif is_listing then longest = math.max(longest, utf8.len(line) or #line) end
+    elseif is_listing and #line > longest then longest = math.max(longest, utf8.len(line) or #line) end
   end
   return lines, longest
 end
@@ -170,7 +170,7 @@ local function read_log(file)
   local first = lines[1] or ""
   log.machine = first:match("XeTeX") and "xe" or first:match("Lua") and "lua" or "pdf"
   local width = log_width(log.machine .. "tex", longest)
-  local function is_full(line) return (utf8.len(line) or #line) == width or #line == width end
+  local function is_full(line) return #line == width or #line > width and utf8.len(line) == width end
   local is_inside, i = false, 1
   while lines[i] do
     local line, at = lines[i], i
