@@ -4,9 +4,9 @@ packageversion = "1.0"
 packagedate = "2026-11-30"
 
 tdsroot = "generic"
-sourcefiles = { "pg.sty", "pg-plain.tex", "pg-core.tex", "pg.lua" }
-installfiles = sourcefiles
+installfiles = { "pg.sty", "pg-plain.tex", "pg-core.tex", "pg.lua" }
 scriptfiles = { "pgtex.lua" }
+sourcefiles = { "pg.sty", "pg-plain.tex", "pg-core.tex", "pg.lua", "pgtex.lua" }
 scriptmanfiles = { "pgtex.1" }
 textfiles = { "README.md" }
 docfiles = { "latexmkrc", "Makefile" }

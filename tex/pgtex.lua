@@ -10,7 +10,7 @@ collectgarbage("setpause", 400) -- time is dearer here than memory
 
 local VERSION = "1.0"
 local DATE = "2026-11-30"
-local FORMAT = 3 -- of NAME.pgx
+local FORMAT = 4 -- of NAME.pgx
 
 local USAGE = "usage: pgtex [--keep] [--latex COMMAND] NAME"
 local HELP = USAGE .. [[
@@ -131,7 +131,7 @@ local function lines_of(text)
     lines[#lines + 1] = line
     if line == "pg: galley begins" then is_listing, longest = true, 0
     elseif line == "pg: galley ends" then is_listing = false
-    elseif is_listing then longest = math.max(longest, utf8.len(line) or #line) end
+    elseif is_listing and #line > longest then longest = math.max(longest, utf8.len(line) or #line) end
   end
   return lines, longest
 end
@@ -170,7 +170,7 @@ local function read_log(file)
   local first = lines[1] or ""
   log.machine = first:match("XeTeX") and "xe" or first:match("Lua") and "lua" or "pdf"
   local width = log_width(log.machine .. "tex", longest)
-  local function is_full(line) return (utf8.len(line) or #line) == width or #line == width end
+  local function is_full(line) return #line == width or #line > width and utf8.len(line) == width end
   local is_inside, i = false, 1
   while lines[i] do
     local line, at = lines[i], i
@@ -444,7 +444,7 @@ local function read_in_area(column, area, line)
   if kind then
     column.gaps[#column.gaps + 1] = { area = area, kind = kind, size = units(size), set = units(set) }
   elseif note and area == "notes" then
-    column.notes = column.notes + units(note)
+    column.notes, column.has_notes[integer(class)] = column.notes + units(note), true
     if last and last.kind == "skip" then last.class = integer(class) end
   end
 end
@@ -462,7 +462,7 @@ local function read_pages(text)
         pages[#pages + 1] = page
       elseif w[1] == "column" then
         column = { from = { integer(w[4]), integer(w[5]), integer(w[6]) }, to = { integer(w[8]), integer(w[9]), integer(w[10]) },
-          above = counts(w[12]), below = counts(w[14]), picks = counts(w[16]), notes = 0, gaps = {} }
+          above = counts(w[12]), below = counts(w[14]), picks = counts(w[16]), notes = 0, has_notes = {}, gaps = {} }
         page.columns[#page.columns + 1] = column
       elseif w[1] == "set" then column.goal, column.total = units(w[3]), units(w[5])
       elseif w[1] == "area" then area = w[2] end
@@ -535,44 +535,80 @@ local function number_at(part, blocks, number)
   return number
 end
 local function width_of(log) return log.root:match("x(-?[%d.]+)") end
--- floats that stand between two \clearpage without text: as many to a page as it holds
+-- floats that stand between two \clearpage without text: as many to a column as it holds
 local function pages_of_floats(part, blocks, style)
-  local pages, room, page = {}, size_of(style, "height"), nil
-  local left = 0
-  local function one_of(class)
-    local list = {}
-    for k, float in ipairs(style.floats) do list[k] = float.number == class and 1 or 0 end
-    return list
+  local pages, height, sep = {}, size_of(style, "height"), size_of(style.top, "sep")
+  local free, left = 0, 0 -- columns that the last page may still have, and the room in its last one
+  local function add_page(wide)
+    pages[#pages + 1] = { side = "S", run = 0, wide_floats = wide, columns = {} }
+    free = integer(part.columns)
+  end
+  local function add_column()
+    table.insert(pages[#pages].columns, { floats = {}, below = {}, picks = {} })
+    free, left = free - 1, height
+  end
+  local function put(item)
+    if style.is_float[item.class].area == "wide" then
+      add_page { item }
+      add_column()
+      free, left = 0, 0
+      return
+    end
+    if left < item.size then
+      if free == 0 then add_page {} end
+      add_column()
+    end
+    local columns = pages[#pages].columns
+    table.insert(columns[#columns].floats, item)
+    left = left - item.size - sep
   end
   for b = part.first, part.last do
     local item = blocks[b].item
     if item and item.kind == "insert" and style.is_float[item.class] then
-      if item.size > room then return nil, item end
-      local wide = style.is_float[item.class].area == "wide"
-      if wide then
-        pages[#pages + 1] = { side = "S", run = 0, wide = one_of(item.class), columns = { { above = {}, below = {}, picks = {} } } }
-        left = 0
-      elseif left >= item.size then
-        local column = page.columns[1]
-        for k, n in ipairs(one_of(item.class)) do column.above[k] = column.above[k] + n end
-        left = left - item.size - size_of(style.top, "sep")
-      else
-        page = { side = "S", run = 0, wide = {}, columns = { { above = one_of(item.class), below = {}, picks = {} } } }
-        pages[#pages + 1] = page
-        left = room - item.size - size_of(style.top, "sep")
-      end
+      if item.size > height then return nil, item end
+      put(item)
     end
   end
   return pages
 end
+-- floats in the order of their classes, and how many of each class they are
+local function sorted_floats(floats, style)
+  local sorted, numbers = {}, {}
+  for k, class in ipairs(style.floats) do
+    numbers[k] = 0
+    for _, item in ipairs(floats) do
+      if item.class == class.number then sorted[#sorted + 1], numbers[k] = item, numbers[k] + 1 end
+    end
+  end
+  return sorted, numbers
+end
+-- the lines of an area, with its gaps where the style is of version 3
+local function put_floats(out, area, floats, style)
+  if #floats > 0 then out[#out + 1] = "area " .. area end
+  for k, item in ipairs(floats) do
+    out[#out + 1] = "." .. item.line
+    for _, deep in ipairs(item.deep) do out[#out + 1] = "." .. deep end
+    local kind = k < #floats and "sep" or "gap"
+    local size = style[area][kind]
+    if style.version == "3" then out[#out + 1] = string.format(".\\glue(%s) %s, set %s", kind, size, size:match("^[%d.]+")) end
+  end
+end
 -- what pg would write of them
-local function text_of_floats(pages, log)
+local function text_of_floats(pages, style, log)
   local out = { string.format("pages %d cost 0 width %s", #pages, width_of(log)) }
   local function list(numbers) return #numbers > 0 and table.concat(numbers, ",") or "-" end
   for number, page in ipairs(pages) do
+    local wide
+    wide, page.wide = sorted_floats(page.wide_floats, style)
     out[#out + 1] = string.format("page %d side S run 0 wide %s", number, list(page.wide))
-    out[#out + 1] = string.format("column 1 from 0 0 0 to 0 0 0 top %s bottom - picks -", list(page.columns[1].above))
-    out[#out + 1] = "without text demerits 0"
+    put_floats(out, "wide", wide, style)
+    for c, column in ipairs(page.columns) do
+      local above
+      above, column.above = sorted_floats(column.floats, style)
+      out[#out + 1] = string.format("column %d from 0 0 0 to 0 0 0 top %s bottom - picks -", c, list(column.above))
+      out[#out + 1] = "without text demerits 0"
+      put_floats(out, "top", above, style)
+    end
   end
   return table.concat(out, "\n") .. "\n"
 end
@@ -679,7 +715,7 @@ local function paginate(parts, blocks, style, log)
       if not pages then
         stop("no legal pagination: %s:%d: a %s is %s high", log.file, item.at, log.words[item.class] or "float", points(item.size))
       end
-      part.pages, part.text = pages, text_of_floats(pages, log)
+      part.pages, part.text = pages, text_of_floats(pages, style, log)
     else
       part.text = text_of_part(part, #parts > 1 and " of part " .. k or "", number, blocks, style, log)
       part.pages = read_pages(part.text)
@@ -884,14 +920,24 @@ local function put_picks(put, picked)
     end
   end
 end
+-- The gaps of some floats as a style has them; what they do not have is 0.
+local function natural_gaps(area, floats)
+  return floats > 1 and size_of(area, "sep") or 0, floats > 0 and size_of(area, "gap") or 0
+end
+local function sum_of(numbers)
+  local sum = 0
+  for _, number in ipairs(numbers) do sum = sum + number end
+  return sum
+end
 -- How the gaps around a text are set: as the page text says, or else as the style does. TeX has one separator for an area:
 -- what others are more is in its gap. `more` is by how much all of them are set above their sizes.
 local function gaps_of(column, style)
   local gaps = { more = 0, skips = {} }
-  for _, area in ipairs { "top", "bottom" } do
-    gaps[area] = { sep = size_of(style[area], "sep"), gap = size_of(style[area], "gap"), seps = 0, all = 0 }
+  for area, floats in pairs { top = column.above, bottom = column.below } do
+    local sep, gap = natural_gaps(style[area], sum_of(floats))
+    gaps[area] = { sep = sep, gap = gap, seps = 0, all = 0 }
   end
-  for class, note in pairs(style.notes) do gaps.skips[class] = size_of(note, "skip") end
+  for class in pairs(column.has_notes) do gaps.skips[class] = size_of(style.notes[class], "skip") end
   for _, line in ipairs(column.gaps) do
     local area = gaps[line.area]
     gaps.more = gaps.more + line.set - line.size
@@ -932,20 +978,23 @@ local function put_column(put, column, part, list, style, log)
   -- the option ragged leaves room where a style of one's own does not
   local is_left = log.bottom == "ragged" and column.total <= column.goal
   if is_left then column.gaps = {} end
-  local gaps, set = gaps_of(column, style), is_set(column, part, style, is_left) and 1 or 0
+  local gaps = gaps_of(column, style)
+  local height, room = column.goal - gaps.more, 0
+  if not is_set(column, part, style, is_left) then height, room = column.total, height - column.total end
   put("\\pg@measures{%d}{%d}{%s}", column.total, column.notes, calls_between(list.deck, list.flat, list.done, at))
   put_gaps(put, gaps)
-  put("\\pg@column{%d}{%d}{%d}{%d}{%d}{%s}{%s}", list.pieces[at] - list.pieces[list.done], tail, back, column.goal - gaps.more,
-    set, above, below)
+  put("\\pg@column{%d}{%d}{%d}{%d}{%d}{%s}{%s}", list.pieces[at] - list.pieces[list.done], tail, back, height, room, above, below)
   list.done, list.columns = at, list.columns + 1
 end
 local function put_page(put, page, part, list, style, log)
   list.page = list.page + 1
-  local wide, height, n = deal(list.deck, page.wide)
-  if n > 0 then height = height + (n - 1) * size_of(style.wide, "sep") + size_of(style.wide, "gap") end
+  local wide, height, floats = deal(list.deck, page.wide)
+  local sep, gap = natural_gaps(style.wide, floats)
   local extra = size_of(style.runs[page.run + 1], "extra")
-  put("\\pg@page{%d}{%d}{%s}{%d}{%d}", list.page, extra, wide, height, size_of(style, "height") + extra - height)
+  local left = size_of(style, "height") + extra - height - math.max(0, floats - 1) * sep - gap
+  put("\\pg@page{%d}{%d}{%s}{%d}{%d}{%d}", list.page, extra, wide, sep, gap, left)
   for _, column in ipairs(page.columns) do put_column(put, column, part, list, style, log) end
+  for _ = #page.columns + 1, integer(part.columns) do put("\\pg@floatcolumn{}{0}") end
 end
 local function write_commands(parts, blocks, style, log, sum)
   local flat, picked = flatten(parts, blocks)

@@ -312,17 +312,19 @@ class Check:
             self.fault(page, number, f"{what} stands {points(place - due)} lower than is due")
 
     def under_text(self, page, number, text, floats, notes, gaps):
-        """What lies between the text, its notes and the floats below is the gaps of the page text, the first with a rest: what
-        hangs below the text has no room of its own, nor what hangs below the page; and where the text is short, the room. In plain
-        TeX nothing hangs below a ragged page."""
+        """What lies between the text, its notes and the floats below is the gaps of the page text, one with a rest: what hangs
+        below the text has no room of its own, nor what hangs below the page; and where the text is short, the room. The rest is in
+        the first gap, but in the lower one where a text that is not short has notes and floats. In plain TeX nothing hangs below a
+        ragged page."""
         hangs = notes[2] if notes and not floats else 0
+        late = text.over if notes and floats and not text.room else 0
         place = text.foot + text.room + hangs - text.over
         if notes:
-            place += gaps["notes"][0].set
+            place += late + gaps["notes"][0].set
             if self.style.is_ragged and abs(notes[0] - place) > 2:
                 place -= hangs
             self.near(page, number, "its first note", notes[0], place)
-            place += notes[1]
+            place += notes[1] - late
         if floats:
             place += gaps["bottom"][0].set
             self.near(page, number, "the float below it", floats[0].top, place)
