@@ -21,7 +21,7 @@ use Rattle.pg_list.specs.Whole.{whole_sum_by}
 use Rattle.law_columns.proofs.Prices.{add_few}
 use Rattle.law_columns.proofs.StyleFacts.{find_all}
 use Rattle.law_read_back.proofs.Ranges.{all_drop}
-use Rattle.law_read_back.proofs.Places.{all_at}
+use Rattle.pg_lemmas.proofs.Lists.{get_all}
 pub use Rattle.pg_lemmas.proofs.Lists.{all_append, all_take}
 pub use Rattle.law_space.proofs.Lengths.{trimmed_all}
 
@@ -50,7 +50,7 @@ picked_all P (Choice variants) variant a = by (slice_get variants variant) refl
     by : (o : Option Variant) → o ≡ slice_get variants variant →
         AllByRecursion P (unwrap_or (option_map (λ (v : Variant). v.items) o) [])
     by None e = tt
-    by (Some v) e = all_at (λ (w : Variant). AllByRecursion P w.items) variants variant v a (sym e)
+    by (Some v) e = get_all (λ (w : Variant). AllByRecursion P w.items) variants variant v a (sym e)
 
 around_all : (P : Item → Type 0) (blocks : List Block) (at : Place) → AllByRecursion (AllIn P) blocks →
     AllByRecursion P (items_around blocks at)
@@ -59,7 +59,7 @@ around_all P blocks at a = by (slice_get blocks at.block) refl
     by : (o : Option Block) → o ≡ slice_get blocks at.block →
         AllByRecursion P (unwrap_or (option_map (λ (block : Block). picked_items block at.variant) o) [])
     by None e = tt
-    by (Some b) e = picked_all P b at.variant (all_at (AllIn P) blocks at.block b a (sym e))
+    by (Some b) e = picked_all P b at.variant (get_all (AllIn P) blocks at.block b a (sym e))
 
 abbrev pub Holds : (Item → Type 0) → FlatItem → Type 0
 Holds P flat_item = P flat_item.item

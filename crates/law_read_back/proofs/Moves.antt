@@ -28,7 +28,8 @@ use Rattle.law_columns.proofs.GalleyFacts.{stand_place}
 use Rattle.law_words.specs.Ranges.{IsPrintedPlace, is_wide}
 use Rattle.law_read_back.specs.PageRanges.{IsPrintedNumbers, IsPrintedMove, ArePrintedMoves}
 use Rattle.law_read_back.proofs.Ranges.{wide_few, top_few, bottom_few, run_few, column_picks_few, size_there}
-use Rattle.law_read_back.proofs.Places.{all_at, place_printed}
+use Rattle.law_read_back.proofs.Places.{place_printed}
+use Rattle.pg_lemmas.proofs.Lists.{get_all}
 use Rattle.law_read_back.proofs.Items.{at_all, all_take, trimmed_all, blocks_items, total_few}
 use Rattle.law_read_back.proofs.Rooms.{goal_few, wide_height_few}
 use Rattle.pg_column.proofs.Steps.{map_length}
@@ -72,7 +73,7 @@ break_few flat k a = few_if (k == length flat) (Some (pos 0)) _ zero_few (by (sl
   where
     by : (o : Option Item) → o ≡ slice_get flat k → IsFew (option_map_or (item_break flat k) o None)
     by None e = none_few
-    by (Some item) e = item_few flat k item (all_at IsItemInRange flat k item a (sym e))
+    by (Some item) e = item_few flat k item (get_all IsItemInRange flat k item a (sym e))
 
 -- ---- one column
 

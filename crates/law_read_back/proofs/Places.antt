@@ -16,6 +16,7 @@ use Rattle.pg_list.specs.Flat.{end_of}
 use Rattle.pg_rules.specs.IsState.{IsPlace}
 use Rattle.law_words.specs.Ranges.{IsPrintedPlace}
 use Rattle.law_read_back.proofs.Ranges.{some_within}
+use Rattle.pg_lemmas.proofs.Lists.{get_all}
 use Rattle.pg_list.proofs.Sizes.{blocks_le}
 
 pub sum_at : {X : Type 0} (f : X → ℕ) (xs : List X) (n : ℕ) (x : X) → slice_get xs n ≡ Some x → f x ≤ sum_by f xs
@@ -27,15 +28,6 @@ sum_at f (y ∷ ys) zero x e = let s : y ≡ x = same y x e in
     same : {X : Type 0} (a b : X) → Some a ≡ Some b → a ≡ b
     same a b e = cc
 sum_at f (y ∷ ys) (suc n) x e = let r = sum_at f ys n x e in let c = sum_by-cons f y ys in omega (arith, r, c)
-
-pub all_at : {X : Type 0} (P : X → Type 0) (xs : List X) (n : ℕ) (x : X) → AllByRecursion P xs →
-    slice_get xs n ≡ Some x → P x
-all_at P [] n x a e = absurd cc
-all_at P (y ∷ ys) zero x a e = let s : y ≡ x = same y x e in subst P s a.0
-  where
-    same : {X : Type 0} (a b : X) → Some a ≡ Some b → a ≡ b
-    same a b e = cc
-all_at P (y ∷ ys) (suc n) x a e = all_at P ys n x a.1 e
 
 -- the items of a variant of a block
 around : (block : Block) (variant index : ℕ) → IsBlock block → index < length (picked_items block variant) →
@@ -68,7 +60,7 @@ within_place blocks at a limit h = by (slice_get blocks at.block) refl h
     by (Some b) e k =
         let w = some_within blocks at.block (ap is_some (sym e)) in
         let few = blocks_le blocks a in
-        let r = around b at.variant at.index (all_at IsBlock blocks at.block b a (sym e)) k in
+        let r = around b at.variant at.index (get_all IsBlock blocks at.block b a (sym e)) k in
         let s = sum_at block_size blocks at.block b (sym e) in
         record {
           block = omega (arith, w, few, limit);

@@ -35,7 +35,7 @@ use Rattle.pg_rules.specs.History.{next_column, placed_of, wide_of}
 use Rattle.pg_rules.specs.Room.{ColumnContext, is_text, extra, full_height, wide_height, top_height, bottom_height, room, notes, class_notes, before_bottom}
 use Rattle.law_columns.proofs.Areas.{IsSize, area_range, wide_range}
 use Rattle.law_columns.proofs.Prices.{add_few}
-use Rattle.law_read_back.proofs.Places.{all_at}
+use Rattle.pg_lemmas.proofs.Lists.{get_all}
 use Rattle.law_read_back.proofs.Items.{all_map, from_all, blocks_items, less_few}
 use Rattle.law_columns.proofs.Areas.{dealt_long, dealt_range, floats_range, sizes_range}
 
@@ -125,7 +125,7 @@ module _ (it : ColumnContext) (range : IsStyle it.document.style) (a : AllByRecu
           nat_abs (option_map_or (λ (r : Run). r.extra) o (pos 0)) ≤ 2 ^ 30
       by None e = omega arith
       by (Some r) e =
-          let k : IsRun r = all_at IsRun it.document.style.runs it.run r range.runs_in.each (sym e) in
+          let k : IsRun r = get_all IsRun it.document.style.runs it.run r range.runs_in.each (sym e) in
           omega (arith, k.extra_in)
 
   full_few : nat_abs (full_height it) ≤ 2 ^ 31

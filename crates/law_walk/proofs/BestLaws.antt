@@ -97,7 +97,7 @@ tie_itself a = tied_itself end_total a
 tie_less : (a b c : End) → end_cmp a b ≡ Equal → end_cmp b c ≡ Less → end_cmp a c ≡ Less
 tie_less a b c p q = end_total.congr a b c p ∙ q
 
-not_both : {P : Type 0} (o : Ordering) → o ≡ Less → o ≡ Equal → P
+pub not_both : {P : Type 0} (o : Ordering) → o ≡ Less → o ≡ Equal → P
 not_both Less p q = absurd cc
 not_both Equal p q = absurd cc
 not_both Greater p q = absurd cc

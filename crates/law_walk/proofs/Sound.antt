@@ -123,7 +123,7 @@ module _ (blocks : List Block) where
 
 -- ---- no column ends at the front of a choice
 
-box_none : (item : Item) (solid glue : Bool) → is_box item ≡ true → near_penalty (Some item) solid glue ≡ None
+pub box_none : (item : Item) (solid glue : Bool) → is_box item ≡ true → near_penalty (Some item) solid glue ≡ None
 box_none (BoxItem h d b) solid glue e = refl
 box_none (Rule h d b) solid glue e = refl
 box_none (Glue w s o k b) solid glue e = absurd cc

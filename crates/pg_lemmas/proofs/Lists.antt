@@ -2,6 +2,7 @@
 use Rattle.std.proofs.lemmas.List.{reverse-append}
 use Rattle.std.proofs.Common.{◌≡◌, ℕ, zero, suc, take, drop, List, [], ◌∷◌, ◌++◌, arith, ◌∙◌, ◌<◌, ◌≤◌, ◌+◌, ap, sym, refl, length, get_or, take-suc, true, false, Option, Some, None}
 use Rattle.std.specs.List.{AllByRecursion, Contains, range_with_len}
+use Rattle.std.proofs.lemmas.Option.{same_Some}
 use Rattle.std.specs.Prelude.{slice_get, is_some, replicate, reverse}
 
 pub all_append : {X : Type 0} (P : X → Type 0) (xs ys : List X) → AllByRecursion P xs → AllByRecursion P ys
@@ -70,3 +71,10 @@ one_more xs i x less is =
 
 pub reverse_cons : {A : Type 0} (x : A) (xs : List A) → reverse (x ∷ xs) ≡ reverse xs ++ x ∷ []
 reverse_cons x xs = reverse-append (x ∷ []) xs
+
+-- what holds of each holds at an index
+pub get_all : {X : Type 0} (P : X → Type 0) (xs : List X) (k : ℕ) (x : X) → AllByRecursion P xs → slice_get xs k ≡ Some x →
+    P x
+get_all P [] k x a e = absurd cc
+get_all P (y ∷ ys) zero x a e = subst P (same_Some y x e) a.0
+get_all P (y ∷ ys) (suc k) x a e = get_all P ys k x a.1 e

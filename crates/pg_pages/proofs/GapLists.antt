@@ -18,7 +18,7 @@ use Rattle.pg_lemmas.proofs.Lists.{all_append}
 use Rattle.pg_pages.specs.Bodies.{body_text}
 use Rattle.pg_pages.specs.Gaps.{bottom_gaps, gap_gives, gap_line, gap_name, gap_set, gaps_above, hung_gaps, hung_text, kind_skips, set_gap, note_gaps, shows_gaps, skip_gaps, skipped_text, standing_gaps}
 use Rattle.pg_pages.specs.PageText.{float_bodies, inserted, kind_notes}
-use Rattle.pg_pages.specs.Printed.{hung_by, stood_by}
+use Rattle.pg_pages.specs.Printed.{hung_by, hung_gap, stood_by}
 use Rattle.pg_pages.proofs.Grown.{two_parts}
 
 -- ---- as many bodies as sizes
@@ -148,10 +148,6 @@ more_times gap old mid new n was is =
     behind (suc n) = ap (λ (gaps : List Gap). gap ∷ gaps) (behind n)
 
 -- the first of floats that hang, and the rest
-abbrev pub hung_gap : AreaRuleValue → List (List ℕ) → List ℤ → List ℕ
-hung_gap rule [] widths = set_gap (codes "gap") rule.gap widths
-hung_gap rule (next ∷ after) widths = set_gap (codes "sep") rule.sep widths
-
 pub hung_step : (rule : AreaRuleValue) (body : List ℕ) (after : List (List ℕ)) (widths : List ℤ) →
     hung_text rule (body ∷ after) widths ≡ (body_text body ++ hung_gap rule after widths)
     ++ hung_text rule after (drop 1 widths)

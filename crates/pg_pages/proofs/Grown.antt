@@ -21,3 +21,15 @@ pub on_same : {T E : Type 0} (r : Result T E) (old new text whole : List ℕ) �
     OnOk r (new ≡ old ++ text) → OnOk r (new ≡ old ++ whole)
 on_same (Ok x) old new text whole e p = p ∙ ap (λ (more : List ℕ). old ++ more) e
 on_same (Err x) old new text whole e p = tt
+
+-- two parts one behind the other, where the second may be refused
+pub on_two : {T E : Type 0} (r : Result T E) (old mid new front end : List ℕ) → mid ≡ old ++ front →
+    OnOk r (new ≡ mid ++ end) → OnOk r (new ≡ old ++ (front ++ end))
+on_two r old mid new front end e = on_ok r (new ≡ mid ++ end) (new ≡ old ++ (front ++ end))
+    (λ f. two_parts old mid new front end e f)
+
+-- what is printed, and what is still ahead
+pub carried : (out new part more ahead whole : List ℕ) → new ≡ out ++ part → part ++ more ≡ ahead → out ++ ahead ≡ whole →
+    new ++ more ≡ whole
+carried out new part more ahead whole e f g = ap (λ (text : List ℕ). text ++ more) e ∙ append_assoc out part more
+    ∙ ap (λ (text : List ℕ). out ++ text) f ∙ g

@@ -10,6 +10,7 @@ pub mod Rooms
 pub mod ColumnText
 pub mod TextColumn
 pub mod SetColumn
+pub mod Shown
 pub mod SheetText
 pub mod Later
 pub mod Whole

@@ -18,7 +18,7 @@ use Rattle.pg_rules.specs.Floats.{dealt_from, entry}
 use Rattle.pg_column.specs.declared.cost.TextCost.{TextCost}
 use Rattle.pg_pages.specs.Bodies.{body_text, plain_text, set_text}
 use Rattle.pg_pages.specs.PageText.{area, inserted, is_note_kind, items_text, skipped_notes}
-use Rattle.pg_pages.specs.Gaps.{hung_gaps, hung_text, note_gaps, shows_gaps, standing_gaps, standing_text}
+use Rattle.pg_pages.specs.Gaps.{hung_gaps, hung_text, note_gaps, set_gap, shows_gaps, standing_gaps, standing_text}
 use Rattle.pg_words.specs.Written.{line, whole_text}
 use Rattle.pg_scaled.specs.Scaled.{scaled_text}
 use Rattle.pg_pages.specs.SetGlue.{own_sizes, own_width, widths_by}
@@ -83,6 +83,11 @@ lent bodies = map (λ own. behind own.items) bodies
 -- the floats that counts deal out after others
 abbrev pub dealt_text : List (List (List ℕ)) → List ℕ → List ℕ → List ℕ
 dealt_text bodies before counts = flat_map body_text (dealt_from 0 bodies before counts)
+
+-- the gap below a float that hangs, above those after it
+abbrev pub hung_gap : AreaRuleValue → List (List ℕ) → List ℤ → List ℕ
+hung_gap rule [] widths = set_gap (codes "gap") rule.gap widths
+hung_gap rule (next ∷ after) widths = set_gap (codes "sep") rule.sep widths
 
 -- floats that hang, their gaps set to these widths
 unfoldable pub hanging_by : StyleValue → AreaRuleValue → List (List (List ℕ)) → List ℕ → List ℕ → List ℤ → List ℕ

@@ -13,6 +13,7 @@ ghost use Rattle.pg_pages.specs.Printed.{bodies_of, class_notes_text, lent, note
 ghost use Rattle.pg_column.specs.Between.{behind};
 
 use crate::bodies::print_body;
+use crate::parts::{end_line, print_bytes};
 use pg_floats::first_items_of;
 use pg_list::{Block, Item};
 use pg_style::{Class, Kind};
@@ -25,9 +26,9 @@ pub fn open_area(name: &[u8], out: &mut Vec<u8>) -> Result<usize, AllocError>
     ensures grows { Grows out.old.items out.new.items }
 {
     let start = out.len();
-    out.extend_from_slice(b"area ")?;
-    out.extend_from_slice(name)?;
-    out.push(b'\n')?;
+    print_bytes(b"area ", out)?;
+    print_bytes(name, out)?;
+    end_line(out)?;
     Ok(start)
 }
 

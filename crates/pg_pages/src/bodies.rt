@@ -6,7 +6,7 @@ ghost use Rattle.pg_pages.specs.Bodies.{body_text, set_rest, set_text};
 ghost use Rattle.pg_scan.specs.Lines.{is_no_feed, dotted};
 ghost use Rattle.pg_glue.specs.Widths.{IsPrintable};
 
-use pg_scaled::print_scaled;
+use crate::parts::{end_line, print_bytes, print_width};
 use pg_scan::{first_line_len, print_dotted};
 use std::alloc::AllocError;
 
@@ -15,10 +15,9 @@ pub fn print_body(body: &[u8], out: &mut Vec<u8>) -> Result<(), AllocError>
     ensures ok { OnOk result (out.new.items ≡ out.old.items ++ body_text body.now) }
     ensures grows { Grows out.old.items out.new.items }
 {
-    out.push(b'.')?;
+    print_bytes(b".", out)?;
     print_dotted(body, out)?;
-    out.push(b'\n')?;
-    Ok(())
+    end_line(out)
 }
 
 // A set width, and what stands behind the first line.
@@ -27,11 +26,10 @@ fn print_set_rest(width: i128, further: &[u8], out: &mut Vec<u8>) -> Result<(), 
     ensures ok { OnOk result (out.new.items ≡ out.old.items ++ set_rest width further.now) }
     ensures grows { Grows out.old.items out.new.items }
 {
-    out.extend_from_slice(b", set ")?;
-    print_scaled(width, out)?;
+    print_bytes(b", set ", out)?;
+    print_width(width, out)?;
     print_dotted(further, out)?;
-    out.push(b'\n')?;
-    Ok(())
+    end_line(out)
 }
 
 // The body of a glue, its set width at the end of its first line.
@@ -41,7 +39,7 @@ pub fn print_set(body: &[u8], width: i128, out: &mut Vec<u8>) -> Result<(), Allo
     ensures grows { Grows out.old.items out.new.items }
 {
     let (first, further) = body.split_at(first_line_len(body));
-    out.push(b'.')?;
+    print_bytes(b".", out)?;
     print_dotted(first, out)?;
     print_set_rest(width, further, out)
 }

@@ -31,6 +31,7 @@ use crate::gaps::{
 use crate::glue::{Glues, own_sizes, widths_of};
 use crate::lines::{print_column_line, print_numbered};
 use crate::number_line::print_numbers;
+use crate::parts::{end_line, print_bytes};
 use crate::seats::{Seat, added, room_of};
 use crate::segment::{items_between, trimmed};
 use crate::text::print_items_set;
@@ -187,7 +188,7 @@ fn print_text_area(
     ensures ok { OnOk result (out.new.items ≡ out.old.items ++ text_by style.now (behind items.now) widths.now) }
     ensures grows { Grows out.old.items out.new.items }
 {
-    out.extend_from_slice(b"area text\n")?;
+    print_bytes(b"area text\n", out)?;
     print_items_set(style.topskip, items, widths, out)
 }
 
@@ -497,8 +498,7 @@ fn print_number_line(name: &[u8], number: u128, out: &mut Vec<u8>) -> Result<(),
     ensures grows { Grows out.old.items out.new.items }
 {
     print_numbered(name, number, out)?;
-    out.push(b'\n')?;
-    Ok(())
+    end_line(out)
 }
 
 // What a column without text costs.

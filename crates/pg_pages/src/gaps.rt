@@ -1,17 +1,18 @@
 //! The gaps of areas, which pages of version 3 show.
-ghost use Rattle.std.specs.Prelude.{◌≡◌, ◌==◌, ◌++◌, [], if◌then◌else◌, drop, replicate, OnOk, IfOk, length, codes};
+ghost use Rattle.std.specs.Prelude.{◌≡◌, ◌==◌, ◌++◌, ◌∷◌, [], if◌then◌else◌, drop, replicate, OnOk, IfOk, length, codes};
 ghost use Rattle.pg_glue.specs.Widths.{IsPrintable};
 ghost use Rattle.std.specs.List.{AllByRecursion};
 ghost use Rattle.pg_scaled.specs.Scaled.{Grows};
 ghost use Rattle.pg_pages.specs.Bodies.{body_text};
 ghost use Rattle.pg_pages.specs.Gaps.{gap_gives, gap_line, gap_name, gap_set, hung_gaps as hung_gaps_of, hung_text, kind_skips, note_gaps as note_gaps_of, part_text, separated_text, set_gap, shows_gaps as shows_gaps_of, skip_gaps, standing_gaps as standing_gaps_of, standing_text};
 ghost use Rattle.pg_pages.specs.PageText.{kind_notes, skipped_notes};
+ghost use Rattle.pg_pages.specs.Printed.{hung_gap};
 ghost use Rattle.pg_column.specs.Between.{behind};
 
 use crate::areas::{has_insert, print_inserts};
 use crate::bodies::print_body;
+use crate::parts::{end_line, print_bytes, print_width};
 use pg_list::Item;
-use pg_scaled::print_scaled;
 use pg_style::{AreaRule, Class, Gap, Kind, Style};
 use std::alloc::{AllocError, Global};
 
@@ -32,6 +33,15 @@ fn push_times(gap: Gap, count: usize, gaps: &mut Vec<Gap>) -> Result<(), AllocEr
     Ok(())
 }
 
+// Adds so many separators, and the gap next to the text.
+fn push_hung(rule: &AreaRule, seps: usize, gaps: &mut Vec<Gap>) -> Result<(), AllocError>
+    ensures { OnOk result (gaps.new.items ≡ gaps.old.items ++ (replicate seps rule.now.sep ++ rule.now.gap ∷ [])) }
+{
+    push_times(rule.sep, seps, gaps)?;
+    gaps.push(rule.gap)?;
+    Ok(())
+}
+
 /// The gaps of so many floats that hang: a separator below each but the last, and the gap next to the text; none where
 /// pages show none.
 pub fn hung_gaps(
@@ -45,8 +55,7 @@ pub fn hung_gaps(
 {
     let mut gaps = Vec::new(alloc);
     if count > 0 && shows_gaps(style) {
-        push_times(rule.sep, count - 1, &mut gaps)?;
-        gaps.push(rule.gap)?;
+        push_hung(rule, count - 1, &mut gaps)?;
     }
     Ok(gaps)
 }
@@ -106,8 +115,8 @@ fn print_part(word: &[u8], part: i32, out: &mut Vec<u8>) -> Result<(), AllocErro
     if part == 0 {
         return Ok(());
     }
-    out.extend_from_slice(word)?;
-    print_scaled(i128::from(part), out)
+    print_bytes(word, out)?;
+    print_width(i128::from(part), out)
 }
 
 // The name of a gap and its size.
@@ -116,10 +125,10 @@ fn print_gap_name(name: &[u8], size: i32, out: &mut Vec<u8>) -> Result<(), Alloc
     ensures ok { OnOk result (out.new.items ≡ out.old.items ++ gap_name name.now size) }
     ensures grows { Grows out.old.items out.new.items }
 {
-    out.extend_from_slice(b".\\glue(")?;
-    out.extend_from_slice(name)?;
-    out.extend_from_slice(b") ")?;
-    print_scaled(i128::from(size), out)
+    print_bytes(b".\\glue(", out)?;
+    print_bytes(name, out)?;
+    print_bytes(b") ", out)?;
+    print_width(i128::from(size), out)
 }
 
 // What a gap gives.
@@ -139,8 +148,8 @@ fn print_gap_set(width: i128, out: &mut Vec<u8>) -> Result<(), AllocError>
     ensures ok { OnOk result (out.new.items ≡ out.old.items ++ gap_set width) }
     ensures grows { Grows out.old.items out.new.items }
 {
-    out.extend_from_slice(b", set ")?;
-    print_scaled(width, out)
+    print_bytes(b", set ", out)?;
+    print_width(width, out)
 }
 
 // The line of a gap that is set to a width.
@@ -153,8 +162,7 @@ fn print_gap_line(name: &[u8], gap: &Gap, width: i128, out: &mut Vec<u8>) -> Res
     print_gap_name(name, gap.size, out)?;
     print_gap_gives(gap.stretch, gap.shrink, out)?;
     print_gap_set(width, out)?;
-    out.push(b'\n')?;
-    Ok(())
+    end_line(out)
 }
 
 // A gap with the first of these widths; answers those that are left.
@@ -176,7 +184,27 @@ fn print_gap<'a>(
     Ok(left)
 }
 
+// The gap below a float that hangs, above those after it; answers the widths that are left.
+fn print_hung_gap<'a>(
+    rule: &AreaRule,
+    after: &[&[u8]],
+    widths: &'a [i128],
+    out: &mut Vec<u8>,
+) -> Result<&'a [i128], AllocError>
+    requires { AllByRecursion IsPrintable widths.now }
+    ensures ok { OnOk result (out.new.items ≡ out.old.items ++ hung_gap rule.now (behind after.now) widths.now) }
+    ensures left { IfOk result (λ left. left.now ≡ drop 1 widths.now) }
+    ensures grows { Grows out.old.items out.new.items }
+{
+    if after.is_empty() {
+        print_gap(b"gap", &rule.gap, widths, out)
+    } else {
+        print_gap(b"sep", &rule.sep, widths, out)
+    }
+}
+
 /// Floats that hang, a gap below each.
+#[tactic(auto, using(crate::proofs::GapLists::hung_step))]
 pub fn print_hung(
     rule: &AreaRule,
     bodies: &[&[u8]],
@@ -191,11 +219,7 @@ pub fn print_hung(
     let mut left = widths;
     'floats: while let [body, after @ ..] = rest {
         print_body(body, out)?;
-        left = if after.is_empty() {
-            print_gap(b"gap", &rule.gap, left, out)?
-        } else {
-            print_gap(b"sep", &rule.sep, left, out)?
-        };
+        left = print_hung_gap(rule, after, left, out)?;
         rest = after;
     }
     Ok(())

@@ -13,6 +13,7 @@ mod gaps;
 mod glue;
 mod lines;
 mod number_line;
+mod parts;
 mod seats;
 mod segment;
 mod sheets;

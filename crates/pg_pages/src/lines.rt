@@ -5,6 +5,7 @@ ghost use Rattle.pg_words.specs.Written.{line, counts_text, place_text, side_tex
 ghost use Rattle.pg_pages.specs.PageText.{none_text, head_counts, head_line, page_side, page_run, page_line, column_line, column_ends as ends_of, column_counts as counts_of};
 
 use crate::number_line::print_length;
+use crate::parts::{end_line, print_bytes};
 use pg_list::Place;
 use pg_plan::{Column, Page, Side};
 use pg_words::{print_counts, print_decimal, print_picks, print_place, print_side, print_whole};
@@ -15,7 +16,7 @@ fn print_counts_of(name: &[u8], counts: &[u16], out: &mut Vec<u8>) -> Result<(),
     ensures ok { OnOk result (out.new.items ≡ out.old.items ++ (name.now ++ counts_text counts.now)) }
     ensures grows { Grows out.old.items out.new.items }
 {
-    out.extend_from_slice(name)?;
+    print_bytes(name, out)?;
     print_counts(counts, out)
 }
 
@@ -24,7 +25,7 @@ fn print_picks_of(name: &[u8], picks: &[u32], out: &mut Vec<u8>) -> Result<(), A
     ensures ok { OnOk result (out.new.items ≡ out.old.items ++ (name.now ++ counts_text picks.now)) }
     ensures grows { Grows out.old.items out.new.items }
 {
-    out.extend_from_slice(name)?;
+    print_bytes(name, out)?;
     print_picks(picks, out)
 }
 
@@ -33,7 +34,7 @@ pub fn print_numbered(name: &[u8], number: u128, out: &mut Vec<u8>) -> Result<()
     ensures ok { OnOk result (out.new.items ≡ out.old.items ++ (name.now ++ decimal number)) }
     ensures grows { Grows out.old.items out.new.items }
 {
-    out.extend_from_slice(name)?;
+    print_bytes(name, out)?;
     print_decimal(number, out)
 }
 
@@ -42,7 +43,7 @@ fn print_place_of(name: &[u8], place: Place, out: &mut Vec<u8>) -> Result<(), Al
     ensures ok { OnOk result (out.new.items ≡ out.old.items ++ (name.now ++ place_text place)) }
     ensures grows { Grows out.old.items out.new.items }
 {
-    out.extend_from_slice(name)?;
+    print_bytes(name, out)?;
     print_place(place, out)
 }
 
@@ -63,7 +64,7 @@ fn print_page_side(number: u128, side: Side, out: &mut Vec<u8>) -> Result<(), Al
     ensures grows { Grows out.old.items out.new.items }
 {
     print_numbered(b"page ", number, out)?;
-    out.extend_from_slice(b" side ")?;
+    print_bytes(b" side ", out)?;
     print_side(side, out)
 }
 
@@ -80,8 +81,7 @@ pub fn print_side_line(
 {
     print_page_side(number, side, out)?;
     print_run(page, out)?;
-    out.push(b'\n')?;
-    Ok(())
+    end_line(out)
 }
 
 // Where a column begins and ends.
@@ -113,8 +113,7 @@ pub fn print_column_line(number: u128, column: &Column, out: &mut Vec<u8>) -> Re
 {
     print_ends(number, column, out)?;
     print_column_counts(column, out)?;
-    out.push(b'\n')?;
-    Ok(())
+    end_line(out)
 }
 
 // How many pages there are, and what they cost.
@@ -124,7 +123,7 @@ fn print_head_counts(pages: u128, cost: i128, out: &mut Vec<u8>) -> Result<(), A
     ensures grows { Grows out.old.items out.new.items }
 {
     print_numbered(b"pages ", pages, out)?;
-    out.extend_from_slice(b" cost ")?;
+    print_bytes(b" cost ", out)?;
     print_whole(cost, out)
 }
 
@@ -134,8 +133,7 @@ pub fn print_length_line(name: &[u8], length: i64, out: &mut Vec<u8>) -> Result<
     ensures grows { Grows out.old.items out.new.items }
 {
     print_length(name, length, out)?;
-    out.push(b'\n')?;
-    Ok(())
+    end_line(out)
 }
 
 // The first line.

@@ -4,8 +4,8 @@ ghost use Rattle.pg_scaled.specs.Scaled.{Grows, scaled_text};
 ghost use Rattle.pg_words.specs.Written.{whole_text};
 ghost use Rattle.pg_pages.specs.Printed.{numbers_text, sizes_text, costs_text, demerits_line};
 
+use crate::parts::{end_line, print_bytes, print_width};
 use pg_column::TextCost;
-use pg_scaled::print_scaled;
 use pg_words::print_whole;
 use std::alloc::AllocError;
 
@@ -14,8 +14,8 @@ pub fn print_length(name: &[u8], length: i64, out: &mut Vec<u8>) -> Result<(), A
     ensures ok { OnOk result (out.new.items ≡ out.old.items ++ name.now ++ scaled_text length) }
     ensures grows { Grows out.old.items out.new.items }
 {
-    out.extend_from_slice(name)?;
-    print_scaled(i128::from(length), out)
+    print_bytes(name, out)?;
+    print_width(i128::from(length), out)
 }
 
 // A name, and a whole number behind it.
@@ -23,7 +23,7 @@ fn print_number(name: &[u8], number: i128, out: &mut Vec<u8>) -> Result<(), Allo
     ensures ok { OnOk result (out.new.items ≡ out.old.items ++ name.now ++ whole_text number) }
     ensures grows { Grows out.old.items out.new.items }
 {
-    out.extend_from_slice(name)?;
+    print_bytes(name, out)?;
     print_whole(number, out)
 }
 
@@ -51,8 +51,7 @@ fn print_demerits(demerits: i64, out: &mut Vec<u8>) -> Result<(), AllocError>
     ensures grows { Grows out.old.items out.new.items }
 {
     print_number(b" demerits ", i128::from(demerits), out)?;
-    out.push(b'\n')?;
-    Ok(())
+    end_line(out)
 }
 
 // The line of a text column's numbers.

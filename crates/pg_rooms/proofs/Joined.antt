@@ -12,7 +12,7 @@ use Rattle.pg_plan.specs.Order.{place_cmp}
 use Rattle.pg_rules.specs.Room.{Document}
 use Rattle.law_walk.specs.Best.{AreBest, Ascend, IsAmong, IsFirst, end_cmp}
 use Rattle.law_walk.specs.Candidates.{Candidate, end_in, keeps_in, kept_ends}
-use Rattle.law_walk.proofs.BestLaws.{end_total}
+use Rattle.law_walk.proofs.BestLaws.{end_total, not_both}
 use Rattle.law_walk.proofs.Complete.{among_left, among_right}
 use Rattle.law_walk.proofs.Ends.{IsKept, kept_of}
 use Rattle.pg_walk.proofs.Moves.{among_cases}
@@ -53,11 +53,6 @@ kept_apart doc room cs ds apart x y a b =
 less_back : (x y : End) → end_cmp x y ≡ Less → end_cmp y x ≡ Greater
 less_back x y e = end_total.antisymm y x ∙ ap ordering_reverse e
 
-not_less : {P : Type 0} (o : Ordering) → o ≡ Less → o ≡ Equal → P
-not_less Less p q = absurd cc
-not_less Equal p q = absurd cc
-not_less Greater p q = absurd cc
-
 not_greater : {P : Type 0} (o : Ordering) → o ≡ Greater → o ≡ Equal → P
 not_greater Less p q = absurd cc
 not_greater Equal p q = absurd cc
@@ -88,7 +83,7 @@ best_append xs ys bs es first rest less = record {
   under = λ x y a b t. elim (among_cases bs es x a) [
     | inl p ↦ elim (among_cases xs ys y b) [
       | inl c ↦ first.under x y p c t
-      | inr c ↦ not_less (end_cmp x y) (less x y (first.among x p) c) t
+      | inr c ↦ not_both (end_cmp x y) (less x y (first.among x p) c) t
     ]
     | inr q ↦ elim (among_cases xs ys y b) [
       | inl c ↦ not_greater (end_cmp x y) (less_back y x (less y x c (rest.among x q))) t

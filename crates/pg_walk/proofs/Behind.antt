@@ -102,8 +102,9 @@ module _ (doc : Document) (top : ℤ) (from : Place) (kept : State) (start : IsS
       (are_collected doc top from kept all.es all.table (first_ends doc top from ++ cs)
       (with_first (first_ends doc top from) cs all.es all.ends))
 
-  -- ---- where they stand
+-- ---- where they stand
 
+module _ (doc : Document) (top : ℤ) (from : Place) (kept : State) where
   run_behind : (ms : List ℕ) (v : State) (c : ℤ) → Run (space_meaning doc top kept) ms v c → kept.block ≤ v.block
   run_behind [] v c (e, z) = let s = ap (λ (x : State). x.block) e in omega (arith, s)
   run_behind (m ∷ ms) v c (u, (n, k, (run, f, sum))) =
@@ -127,11 +128,11 @@ module _ (doc : Document) (top : ℤ) (from : Place) (kept : State) (start : IsS
           (subst (λ (k : ℕ). slice_get (variants_at doc.blocks l.entry.state.block) k ≡ Some p.variant) z p.there)
           p.along)
 
-  apart : AllByRecursion IsBlock doc.blocks → IsPlace doc.blocks from → (cs : List Candidate) →
-      Collects doc top kept [] cs → AreApart (first_ends doc top from) cs
-  apart blocks at cs all c d a b =
+  pub apart : kept.block ≡ first_front doc.blocks from → AllByRecursion IsBlock doc.blocks → IsPlace doc.blocks from →
+      (cs : List Candidate) → Collects doc top kept [] cs → AreApart (first_ends doc top from) cs
+  apart front blocks at cs all c d a b =
       in_turn kept.block c.to d.to
-      (subst (λ (n : ℕ). (c.to.block < n) ⊎ (c.to ≡ place n 0 0)) (sym start.block)
+      (subst (λ (n : ℕ). (c.to.block < n) ⊎ (c.to ≡ place n 0 0)) (sym front)
       (up_to doc top blocks from at c a))
       (behind_front blocks at cs all d b)
 
@@ -190,7 +191,7 @@ serve doc blocks labels reach from near front it at comes alike walk =
           AreCandidates doc from (tallest doc.style) (cs ++ it.near.candidates)) (sym comes.ends)
           (suffice doc (tallest doc.style) from it.front.start start labels at it.near.candidates walk.ends);
       apart = subst (λ (cs : List Candidate). AreApart cs it.near.candidates) (sym comes.ends)
-          (apart doc (tallest doc.style) from it.front.start start blocks at it.near.candidates walk.ends);
+          (apart doc (tallest doc.style) from it.front.start start.block blocks at it.near.candidates walk.ends);
       reach = subst (IsReach doc from) (sym walk.reach.is)
           (reaches doc reach from it.front.quiet walk.reach.greatest at still walk.reach.goes);
     }

@@ -78,10 +78,9 @@ module _ (doc : Document) (top : ℤ) (u : WalkState) (cost : ℤ) (ms : List �
       among_right (pick_ends doc top u cost ms k w) (ends_from doc top u cost ms (k + 1) vs) c
       (listed (k + 1) vs n v c t e (subst (λ (j : ℕ). IsAmong c (Along j v)) (omega arith) m))
 
-module _ (doc : Document) (top : ℤ) (from : Place) (start : State) (es : List (Entry State ℕ))
-    (table : IsTable (space_meaning doc top start) es) (new : List Candidate)
-    (ends : HasEnds doc top es es (first_ends doc top from) new) where
-  from_label : (c : Candidate) → IsOfLabels doc top es es c → IsFromLabel doc top (entries_of es) c
+module _ (doc : Document) (top : ℤ) (start : State) (es : List (Entry State ℕ))
+    (table : IsTable (space_meaning doc top start) es) where
+  pub from_label : (c : Candidate) → IsOfLabels doc top es es c → IsFromLabel doc top (entries_of es) c
   from_label c l =
       let r = has_pick doc top (state_of l.entry.state) l.entry.cost (reverse l.picks) 0
       (variants_at doc.blocks l.entry.state.block) c l.among in
@@ -92,8 +91,8 @@ module _ (doc : Document) (top : ℤ) (from : Place) (start : State) (es : List 
         pick = r.offset;
         variant = r.variant;
         listed = among_contains (entries_of es) (entry_of l.entry)
-            (among_map es l.entry (contains_among es l.entry l.listed));
-        run = run_of_mapped es l.entry l.picks l.run;
+            (among_map entry_of es l.entry (contains_among es l.entry l.listed));
+        run = run_of_mapped state_of es l.entry l.picks l.run;
         there = r.there;
         loose = r.loose;
         along = subst (λ (ps : List ℕ). IsAmong c (ends_along doc top ps (l.entry.cost +ℤ pos r.variant.demerits)
@@ -103,9 +102,9 @@ module _ (doc : Document) (top : ℤ) (from : Place) (start : State) (es : List 
             r.variant)) z r.along);
       }
 
-  to_label : (c : Candidate) → IsFromLabel doc top (entries_of es) c → IsOfLabels doc top es es c
+  pub to_label : (c : Candidate) → IsFromLabel doc top (entries_of es) c → IsOfLabels doc top es es c
   to_label c l =
-      let o : HasOrigin es l.entry = origin_of es l.entry (contains_among (entries_of es) l.entry l.listed) in
+      let o : HasOrigin entry_of es l.entry = origin_of entry_of es l.entry (contains_among (entries_of es) l.entry l.listed) in
       by o.origin o.among o.is
     where
       by : (e : Entry State ℕ) → IsAmong e es → entry_of e ≡ l.entry → IsOfLabels doc top es es c
@@ -115,7 +114,7 @@ module _ (doc : Document) (top : ℤ) (from : Place) (start : State) (es : List 
           let run : RunOf (entries_of es) (entry_of e) l.picks =
           subst (λ (x : Entry WalkState ℕ). RunOf (entries_of es) x l.picks) (sym is) l.run in
           let same : own.moves ≡ l.picks =
-          one_run (entries_of es) (entry_of e) own.moves l.picks (run_of_mapped es e own.moves own.run_of) run in
+          one_run (entries_of es) (entry_of e) own.moves l.picks (run_of_mapped state_of es e own.moves own.run_of) run in
           let z : l.pick ≡ 0 + l.pick = omega arith in
           let there : slice_get (variants_at doc.blocks e.state.block) l.pick ≡ Some l.variant =
           subst (λ (x : Entry WalkState ℕ). slice_get (variants_at doc.blocks x.state.block) l.pick ≡ Some l.variant)
@@ -139,9 +138,14 @@ module _ (doc : Document) (top : ℤ) (from : Place) (start : State) (es : List 
                 (picked_stretch doc.blocks e.state.block l.pick))) (turned l.pick l.picks) along));
           }
 
-  pub are_collected : AreCollected doc top from (entries_of es) new
-  are_collected = record {
-    each = λ c a. elim (ends.each c a) [ inl p ↦ inl p | inr l ↦ inr (from_label c l) ];
-    first = ends.kept;
-    labels = λ c l. ends.labels c (to_label c l);
-  }
+pub are_collected : (doc : Document) (top : ℤ) (from : Place) (start : State) (es : List (Entry State ℕ)) →
+    IsTable (space_meaning doc top start) es → (new : List Candidate) →
+    HasEnds doc top es es (first_ends doc top from) new → AreCollected doc top from (entries_of es) new
+are_collected doc top from start es table new ends = record {
+  each = λ c a. elim (ends.each c a) [
+    | inl p ↦ inl p
+    | inr l ↦ inr (from_label doc top start es table c l)
+  ];
+  first = ends.kept;
+  labels = λ c l. ends.labels c (to_label doc top start es table c l);
+}

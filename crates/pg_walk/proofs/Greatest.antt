@@ -127,14 +127,14 @@ is_greatest doc top from es n h = record {
           pick = l.pick;
           variant = v.0;
           listed = among_contains (entries_of es) (entry_of l.entry)
-              (among_map es l.entry (contains_among es l.entry l.listed));
+              (among_map entry_of es l.entry (contains_among es l.entry l.listed));
           there = v.1;
           is = l.is;
         }
 
     by_label : (m : ℕ) → IsAlongLabel doc top (entries_of es) m → IsByLabel doc top es m
     by_label m l =
-        let o : HasOrigin es l.entry = origin_of es l.entry (contains_among (entries_of es) l.entry l.listed) in
+        let o : HasOrigin entry_of es l.entry = origin_of entry_of es l.entry (contains_among (entries_of es) l.entry l.listed) in
         record {
           entry = o.origin;
           pick = l.pick;

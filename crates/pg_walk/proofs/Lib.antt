@@ -10,3 +10,4 @@ pub mod FurthestBlocks
 pub mod Several
 pub mod Standing
 pub mod Behind
+pub mod Moved

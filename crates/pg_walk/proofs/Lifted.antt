@@ -13,42 +13,46 @@ use Rattle.law_walk.proofs.BestLaws.{among_contains, contains_among}
 use Rattle.pg_walk.specs.Meaning.{next_state, space_meaning, state_of}
 use Rattle.pg_walk.specs.WalkLawful.{next_leads}
 
+-- a label with another state
+abbrev pub with_state : {S T : Type 0} → (S → T) → Entry S ℕ → Entry T ℕ
+with_state f e = record { cost = e.cost; parent = e.parent; reach = e.reach; state = f e.state; by = e.by }
+
 -- a label with the state of the walk
 abbrev pub entry_of : Entry State ℕ → Entry WalkState ℕ
-entry_of e = record { cost = e.cost; parent = e.parent; reach = e.reach; state = state_of e.state; by = e.by }
+entry_of = with_state state_of
 
 abbrev pub entries_of : List (Entry State ℕ) → List (Entry WalkState ℕ)
 entries_of es = map entry_of es
 
 -- ---- elements of a list that is mapped
 
-pub among_map : (es : List (Entry State ℕ)) (e : Entry State ℕ) → IsAmong e es → IsAmong (entry_of e) (entries_of es)
-among_map [] e a = absurd a
-among_map (x ∷ es) e (inl p) = inl (ap entry_of p)
-among_map (x ∷ es) e (inr a) = inr (among_map es e a)
+pub among_map : {X Y : Type 0} (f : X → Y) (xs : List X) (x : X) → IsAmong x xs → IsAmong (f x) (map f xs)
+among_map f [] x a = absurd a
+among_map f (y ∷ xs) x (inl p) = inl (ap f p)
+among_map f (y ∷ xs) x (inr a) = inr (among_map f xs x a)
 
-pub record HasOrigin (es : List (Entry State ℕ)) (e : Entry WalkState ℕ) : Type 0 where
-  pub origin : Entry State ℕ
-  pub among : IsAmong origin es
-  pub is : entry_of origin ≡ e
+pub record HasOrigin {X Y : Type 0} (f : X → Y) (xs : List X) (y : Y) : Type 0 where
+  pub origin : X
+  pub among : IsAmong origin xs
+  pub is : f origin ≡ y
 
-pub origin_of : (es : List (Entry State ℕ)) (e : Entry WalkState ℕ) → IsAmong e (entries_of es) → HasOrigin es e
-origin_of [] e a = absurd a
-origin_of (x ∷ es) e (inl p) = record { origin = x; among = inl refl; is = p }
-origin_of (x ∷ es) e (inr a) = let r = origin_of es e a in
+pub origin_of : {X Y : Type 0} (f : X → Y) (xs : List X) (y : Y) → IsAmong y (map f xs) → HasOrigin f xs y
+origin_of f [] y a = absurd a
+origin_of f (x ∷ xs) y (inl p) = record { origin = x; among = inl refl; is = p }
+origin_of f (x ∷ xs) y (inr a) = let r = origin_of f xs y a in
     record { origin = r.origin; among = inr r.among; is = r.is }
 
-pub run_of_mapped : (es : List (Entry State ℕ)) (e : Entry State ℕ) (ms : List ℕ) → RunOf es e ms →
-    RunOf (entries_of es) (entry_of e) ms
-run_of_mapped es e [] h = h
-run_of_mapped es e (m ∷ ms) (h, (p, (at, run))) = (
+pub run_of_mapped : {S T : Type 0} (f : S → T) (es : List (Entry S ℕ)) (e : Entry S ℕ) (ms : List ℕ) →
+    RunOf es e ms → RunOf (map (with_state f) es) (with_state f e) ms
+run_of_mapped f es e [] h = h
+run_of_mapped {S} f es e (m ∷ ms) (h, (p, (at, run))) = (
   h,
   (
-    entry_of p,
+    with_state f p,
     (
-      slice_get-map entry_of es e.parent ∙
-          ap (λ (o : Option (Entry State ℕ)). option_map entry_of o) at,
-      run_of_mapped es p ms run,
+      slice_get-map (with_state f) es e.parent ∙
+          ap (λ (o : Option (Entry S ℕ)). option_map (with_state f) o) at,
+      run_of_mapped f es p ms run,
     ),
   ),
 )
@@ -83,11 +87,11 @@ module _ (doc : Document) (top : ℤ) (start : State) (es : List (Entry State �
   labels : (e : Entry WalkState ℕ) → Contains (entries_of es) e →
       IsLabel (walk_meaning doc top (state_of start)) (entries_of es) e
   labels e c =
-      let o : HasOrigin es e = origin_of es e (contains_among (entries_of es) e c) in
+      let o : HasOrigin entry_of es e = origin_of entry_of es e (contains_among (entries_of es) e c) in
       let l = table.labels o.origin (among_contains es o.origin o.among) in
       subst (IsLabel (walk_meaning doc top (state_of start)) (entries_of es)) o.is (record {
         moves = l.moves;
-        run_of = run_of_mapped es o.origin l.moves l.run_of;
+        run_of = run_of_mapped state_of es o.origin l.moves l.run_of;
         run = run_down l.moves o.origin.state o.origin.cost l.run;
       })
 
@@ -100,8 +104,8 @@ module _ (doc : Document) (top : ℤ) (start : State) (es : List (Entry State �
         entry = entry_of w.entry;
         moves = w.moves;
         among = among_contains (entries_of es) (entry_of w.entry)
-            (among_map es w.entry (contains_among es w.entry w.among));
-        run_of = run_of_mapped es w.entry w.moves w.run_of;
+            (among_map entry_of es w.entry (contains_among es w.entry w.among));
+        run_of = run_of_mapped state_of es w.entry w.moves w.run_of;
         better = record {
           no_worse = subst (λ (x : WalkState). is_no_worse (state_of w.entry.state) x ≡ true) l.is w.better.no_worse;
           undercuts = w.better.undercuts;

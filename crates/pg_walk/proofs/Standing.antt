@@ -7,19 +7,17 @@ use Rattle.std.specs.Ordering.{nat_cmp, ordering_then}
 use Rattle.std.specs.declared.cmp.Ordering.{Ordering}
 use Rattle.std.specs.declared.cmp.Ordering.TheVariants.{Less, Equal, Greater}
 use Rattle.std.proofs.lemmas.Cmp.{ranked}
-use Rattle.std.proofs.lemmas.Option.{same_Some}
 use Rattle.pg_breaks.specs.Near.{glue_after, near_penalty, place_penalty, solid_before}
 use Rattle.pg_column.specs.Passed.{Passed, nothing}
 use Rattle.pg_lemmas.proofs.Bools.{both_of}
-use Rattle.pg_lemmas.proofs.Lists.{all_append, all_drop}
+use Rattle.pg_lemmas.proofs.Lists.{all_append, all_drop, get_all}
 use Rattle.pg_list.specs.Flat.{FlatItem, later_flat_items, variant_flat_items}
-use Rattle.pg_list.specs.Places.{item_at, items_around, picked_items, place}
+use Rattle.pg_list.specs.Places.{items_around, picked_items, place}
 use Rattle.pg_list.specs.Shapes.{BeginsWithBox, IsBlock, is_box}
 use Rattle.pg_list.specs.declared.blocks.Block.{Block}
 use Rattle.pg_list.specs.declared.blocks.Block.TheVariants.{One, Choice}
 use Rattle.pg_list.specs.declared.galley.Place.{Place}
 use Rattle.pg_list.specs.declared.item.Item.{Item}
-use Rattle.pg_list.specs.declared.item.Item.TheVariants.{BoxItem, Rule, Glue, Kern, Penalty, Insert, Carry}
 use Rattle.pg_list.specs.declared.variants.Variant.{Variant}
 use Rattle.pg_plan.specs.Order.{place_cmp}
 use Rattle.pg_rules.specs.IsState.{IsPlace}
@@ -29,16 +27,9 @@ use Rattle.law_walk.specs.Candidates.{Candidate}
 use Rattle.law_walk.specs.Space.{first_ends}
 use Rattle.law_walk.specs.Walk.{ends_along, first_front, first_items, next_front, picked_front, picked_stretch, singles, variants_at, variants_in}
 use Rattle.law_walk.proofs.Complete.{StandsIn}
-use Rattle.law_walk.proofs.Sound.{IsAlong, listed_along}
+use Rattle.law_walk.proofs.Sound.{IsAlong, box_none, listed_along}
 use Rattle.law_walk.proofs.Stretches.{front_behind}
 use Rattle.pg_walk.specs.Reaching.{IsBetween}
-
--- what holds of each holds at an index
-all_at : {X : Type 0} (P : X → Type 0) (xs : List X) (k : ℕ) (x : X) → AllByRecursion P xs → slice_get xs k ≡ Some x →
-    P x
-all_at P [] k x a e = absurd cc
-all_at P (y ∷ ys) zero x a e = subst P (same_Some y x e) a.0
-all_at P (y ∷ ys) (suc k) x a e = all_at P ys k x a.1 e
 
 -- ---- the items up to a front
 
@@ -122,15 +113,6 @@ picked_from blocks b pick = all_append (IsFrom b) (variant_flat_items b pick (it
 
 -- ---- a front is no break
 
-box_none : (item : Item) (solid glue : Bool) → is_box item ≡ true → near_penalty (Some item) solid glue ≡ None
-box_none (BoxItem h d b) solid glue e = refl
-box_none (Rule h d b) solid glue e = refl
-box_none (Glue w s o k b) solid glue e = absurd cc
-box_none (Kern w b) solid glue e = absurd cc
-box_none (Penalty v b) solid glue e = absurd cc
-box_none (Insert c z b) solid glue e = absurd cc
-box_none (Carry b) solid glue e = absurd cc
-
 first_box : (o : Option Block) (pick : ℕ) (v : Variant) → IfSome o IsBlock → slice_get (variants_in o) pick ≡ Some v →
     (item : Item) × ((slice_get (unwrap_or (option_map (λ (block : Block). picked_items block 0) o) []) 0 ≡ Some item)
     × (is_box item ≡ true))
@@ -174,7 +156,7 @@ module _ (doc : Document) (top : ℤ) (all : AllByRecursion IsBlock doc.blocks) 
       by : StandsIn (first_items doc.blocks from) (first_front doc.blocks from) l.k l.to →
           (c.to.block < first_front doc.blocks from) ⊎ (c.to ≡ place (first_front doc.blocks from) 0 0)
       by (inl (x, (e, s))) =
-          let h = (all_at (IsBefore (first_front doc.blocks from)) (first_items doc.blocks from) l.k x
+          let h = (get_all (IsBefore (first_front doc.blocks from)) (first_items doc.blocks from) l.k x
           (first_before doc.blocks from) e).before in
           let t = ap (λ (p : Place). p.block) (is ∙ sym s) in inl (omega (arith, h, t))
       by (inr (k, s)) = inr (is ∙ s)
@@ -204,7 +186,7 @@ module _ (doc : Document) (top : ℤ) (all : AllByRecursion IsBlock doc.blocks) 
       cases x s (inr h) = subst (IsPast b) (s ∙ sym is) h
 
       by : StandsIn (picked_stretch doc.blocks b pick) (picked_front doc.blocks b) l.k l.to → IsPast b c.to
-      by (inl (x, (e, s))) = cases x s (all_at (IsFrom b) (picked_stretch doc.blocks b pick) l.k x
+      by (inl (x, (e, s))) = cases x s (get_all (IsFrom b) (picked_stretch doc.blocks b pick) l.k x
           (picked_from doc.blocks b pick) e).from
       by (inr (k, s)) =
           let m = front_behind (b + 1) (drop (b + 1) doc.blocks) in

@@ -5,4 +5,5 @@ pub mod Collected
 pub mod Furthest
 pub mod Blocks
 pub mod Fronts
+pub mod Moved
 pub mod Rooms

@@ -5,6 +5,7 @@ ghost use Rattle.pg_rules.specs.IsState.{IsPlace};
 ghost use Rattle.pg_rules.specs.Legal.{document};
 ghost use Rattle.pg_walk.specs.Fronts.{FrontsServe, IsAhead, IsFrontWalk, is_same_front as is_same_front_of, is_same_state};
 ghost use Rattle.pg_walk.specs.Meaning.{state_of};
+ghost use Rattle.pg_walk.specs.Moved.{MovedApart, MovedSuffice};
 
 use crate::collect;
 use crate::give::areas_give;
@@ -91,4 +92,14 @@ pub fn fronts_serve(galley: &Galley, style: &Style)
     let _ = galley.blocks().as_slice();
     walk_is_a_space(galley, style);
     walk_tells_reach(galley, style);
+}
+
+/// What stands behind a front serves, moved, each place whose columns come there with more height and a bound.
+pub fn moved_suffices(galley: &Galley, style: &Style)
+    ensures suffice { MovedSuffice (document galley.now style.now) }
+    ensures apart { MovedApart (document galley.now style.now) }
+{
+    style.stays_in_range();
+    let _ = galley.blocks().as_slice();
+    walk_is_a_space(galley, style);
 }

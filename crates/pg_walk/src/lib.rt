@@ -28,7 +28,7 @@ mod space;
 mod table;
 mod walking;
 
-pub use front::{Front, FrontWalk, fronts_serve, walk_behind};
+pub use front::{Front, FrontWalk, fronts_serve, moved_suffices, walk_behind};
 pub use labels_reach::furthest;
 pub use pg_candidates::{CandidateList, NearList};
 pub use pg_column::{End, EndList, EndLists, TextCost};

@@ -4,8 +4,12 @@ use Rattle.pg_rules.specs.Floats.{entry}
 use Rattle.pg_rules.specs.Legal.{document}
 use Rattle.pg_pages.specs.Seated.{seated}
 use Rattle.pg_pages.proofs.Grown.{on_same}
+use Rattle.pg_pages.proofs.Shown.{fit_as}
 use Rattle.pg_pages.proofs.TextColumn.{bodies_long, body_of_floats, summed}
 use Rattle.pg_pages.proofs.column.print_column_body.Goals as goal
+
+pub added-requires : goal.added-requires
+added-requires c = fit_as _ _ _ _ c.as_slice.ensures c.as_slice-then-is_same_place.ensures c.requires.may.tops_fit
 
 pub returns-in_ok-below-clause-ok : goal.returns-in_ok-below-clause-ok
 returns-in_ok-below-clause-ok c =

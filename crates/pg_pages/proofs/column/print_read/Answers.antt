@@ -1,4 +1,5 @@
 use Rattle.std.proofs.Common.{◌≡◌, ◌∙◌, rules, sym, ap, subst, ℤ, ◌≤◌, ◌^◌, arith, List, ◌++◌, length, vec_len, w64, to_z, of_z}
+use Rattle.std.proofs.lemmas.Int.{to_z-of_z}
 use Rattle.std.specs.List.{AllByRecursion}
 use Rattle.pg_glue.specs.Widths.{IsPrintable}
 use Rattle.pg_column.specs.Between.{behind}
@@ -41,8 +42,8 @@ print_set_column-requires c =
     let under = c.as_slice-3.ensures.value ∙ c.in_ok-extend_from_slice.ensures.items
     ∙ ap (λ (gaps : List Gap). gaps ++ c.as_slice.result.now) c.in_ok-below.ensures
     ∙ ap (λ (gaps : List Gap). note_gaps style items ++ gaps) (c.as_slice.ensures.value ∙ c.in_ok-bottom_gaps.ensures) in
-    let goal : to_z w64 (of_z w64 c.args.numbers.now.goal) ≡ c.args.numbers.now.goal = search rules in
-    let total : to_z w64 (of_z w64 c.args.numbers.now.total) ≡ c.args.numbers.now.total = search rules in
+    let goal = to_z-of_z w64 c.args.numbers.now.goal (record { sfits = search rules }) in
+    let total = to_z-of_z w64 c.args.numbers.now.total (record { sfits = search rules }) in
     let long = behind_long c.args.items.now in
     let few : length items ≤ 2 ^ 20 = omega (arith, long, c.requires.few) in
     let widths = widths_are style bodies before below column items c.args.numbers.now.goal
@@ -68,8 +69,8 @@ returns-clause-ok c =
     let under = c.as_slice-3.ensures.value ∙ c.in_ok-extend_from_slice.ensures.items
     ∙ ap (λ (gaps : List Gap). gaps ++ c.as_slice.result.now) c.in_ok-below.ensures
     ∙ ap (λ (gaps : List Gap). note_gaps style items ++ gaps) (c.as_slice.ensures.value ∙ c.in_ok-bottom_gaps.ensures) in
-    let goal : to_z w64 (of_z w64 c.args.numbers.now.goal) ≡ c.args.numbers.now.goal = search rules in
-    let total : to_z w64 (of_z w64 c.args.numbers.now.total) ≡ c.args.numbers.now.total = search rules in
+    let goal = to_z-of_z w64 c.args.numbers.now.goal (record { sfits = search rules }) in
+    let total = to_z-of_z w64 c.args.numbers.now.total (record { sfits = search rules }) in
     let widths = widths_are style bodies before below column items c.args.numbers.now.goal
     c.args.numbers.now.total c.args.is_spent c.as_slice-4.result.now
     c.as_slice-2.result.now c.as_slice-3.result.now above under (c.as_slice-4.ensures.value ∙ c.in_ok-widths.ensures
@@ -77,8 +78,8 @@ returns-clause-ok c =
     (to_z w64 (of_z w64 c.args.numbers.now.total)) c.args.is_spent) goal
     ∙ ap (λ (z : ℤ). widths_by style c.as_slice-2.result.now items c.as_slice-3.result.now c.args.numbers.now.goal z
     c.args.is_spent) total) in
-    let first : vec_len c.in_ok-above.above ≡ length c.in_ok-above.above.items = search rules in
-    let second : vec_len c.in_ok-below.below ≡ length c.in_ok-below.below.items = search rules in
+    let first : vec_len c.in_ok-above.above ≡ length c.in_ok-above.above.items = c.in_ok-above.above.ok.0 in
+    let second : vec_len c.in_ok-below.below ≡ length c.in_ok-below.below.items = c.in_ok-below.below.ok.0 in
     let many = c.len.ensures ∙ first ∙ ap length c.in_ok-above.ensures in
     let noted = c.len-noted.ensures ∙ second ∙ ap length c.in_ok-below.ensures in
     on_same c.print_set_column.result c.args.out.now.items c.print_set_column.new.out.items _ _

@@ -14,9 +14,19 @@ use Rattle.pg_pages.specs.Seated.{seated}
 use Rattle.pg_lemmas.proofs.Numbers.{eq_yes}
 use Rattle.pg_pages.proofs.Printed.{behind_long}
 use Rattle.pg_pages.proofs.Grown.{on_same}
+use Rattle.pg_pages.proofs.Shown.{fit_as}
 use Rattle.pg_pages.proofs.TextColumn.{bodies_long, column_text_is, excess_is_small, named, segment_few, segment_is, segment_range, sized, summed}
 use Rattle.pg_column.specs.Between.{behind}
 use Rattle.pg_pages.proofs.column.print_text_column.Goals as goal
+
+pub added-requires : goal.added-requires
+added-requires c = fit_as _ _ _ _ c.as_slice.ensures c.as_slice-2.ensures c.requires.may.tops_fit
+
+pub room_of-room-requires-clause-floats : goal.room_of-room-requires-clause-floats
+room_of-room-requires-clause-floats c = c.requires.floats
+
+pub room_of-room-requires-clause-may : goal.room_of-room-requires-clause-may
+room_of-room-requires-clause-may c = c.requires.may
 
 pub room_of-room-requires-clause-below : goal.room_of-room-requires-clause-below
 room_of-room-requires-clause-below c =
@@ -28,6 +38,21 @@ room_of-room-requires-clause-below c =
     (range_with_len 0 (length c.args.bodies.now))) c.as_slice-2.ensures
     ∙ summed doc c.args.seat.now.before c.args.column.now.top (length c.args.bodies.now)
     (bodies_long doc _ c.args.bodies.now c.requires.bodies)
+
+pub numbers_of-numbers-requires-clause-shape : goal.numbers_of-numbers-requires-clause-shape
+numbers_of-numbers-requires-clause-shape c = c.requires.floats.shape
+
+pub numbers_of-numbers-requires-clause-rules : goal.numbers_of-numbers-requires-clause-rules
+numbers_of-numbers-requires-clause-rules c = c.requires.may.rules
+
+pub numbers_of-numbers-requires-clause-text : goal.numbers_of-numbers-requires-clause-text
+numbers_of-numbers-requires-clause-text c = c.requires.text
+
+pub numbers_of-numbers-requires-clause-room : goal.numbers_of-numbers-requires-clause-room
+numbers_of-numbers-requires-clause-room c = c.room_of-room.ensures.value
+
+pub numbers_of-numbers-requires-clause-size : goal.numbers_of-numbers-requires-clause-size
+numbers_of-numbers-requires-clause-size c = c.room_of-room.ensures.size
 
 pub text_items-requires : goal.text_items-requires
 text_items-requires c =
@@ -123,3 +148,6 @@ returns-clause-ok c =
     (c.numbers_of-numbers.ensures size.0 size.1) c.is_spent-is_spent.result spent _ _ _ _ c.requires.bodies
     c.as_slice-3.ensures below items)
     c.print_read.ensures.ok
+
+pub returns-clause-grows : goal.returns-clause-grows
+returns-clause-grows c = c.print_read.ensures.grows

@@ -3,6 +3,7 @@ use Rattle.std.specs.Int.{w128}
 use Rattle.std.proofs.lemmas.Int.{to_z-of_z}
 use Rattle.pg_pages.specs.Gaps.{gap_gives, gap_name, gap_set}
 use Rattle.pg_pages.proofs.GapLists.{line_from}
+use Rattle.pg_pages.proofs.Grown.{on_ok}
 use Rattle.pg_pages.proofs.gaps.print_gap_line.Goals as goal
 
 pub returns-clause-ok : goal.returns-clause-ok
@@ -13,11 +14,11 @@ returns-clause-ok c =
     let shrink : to_z w32 (of_z w32 gap.shrink) ≡ gap.shrink = search rules in
     let width = to_z-of_z w128 c.args.width (record { sfits = c.ranges.width.sfits }) in
     let first = c.print_gap_name.new.out.items in
-    line_from c.args.name.now gap c.args.width c.args.out.now.items first c.print_gap_gives.new.out.items
-    c.print_gap_set.new.out.items c.push.new.self.items
+    on_ok c.end_line.result _ _ (λ ended. line_from c.args.name.now gap c.args.width c.args.out.now.items first c.print_gap_gives.new.out.items
+    c.print_gap_set.new.out.items c.end_line.new.out.items
     (c.in_ok-print_gap_name.ensures.ok ∙ ap (λ (z : ℤ). c.args.out.now.items ++ gap_name c.args.name.now z) size)
     (c.in_ok-print_gap_gives.ensures.ok
     ∙ ap (λ (z : ℤ). first ++ gap_gives z (to_z w32 (of_z w32 gap.shrink))) stretch
     ∙ ap (λ (z : ℤ). first ++ gap_gives gap.stretch z) shrink)
     (c.in_ok-print_gap_set.ensures.ok ∙ ap (λ (z : ℤ). c.print_gap_gives.new.out.items ++ gap_set z) width)
-    (search rules)
+    ended) c.end_line.ensures.ok

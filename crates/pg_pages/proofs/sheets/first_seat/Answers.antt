@@ -1,7 +1,11 @@
 use Rattle.std.proofs.Common.{ap, ◌∙◌, List, ℕ}
 use Rattle.pg_rules.specs.Floats.{plus_counts}
+use Rattle.pg_pages.proofs.Shown.{fit_as}
 use Rattle.pg_pages.proofs.TextColumn.{plus_is}
 use Rattle.pg_pages.proofs.sheets.first_seat.Goals as goal
+
+pub added-requires : goal.added-requires
+added-requires c = fit_as _ _ _ _ c.as_slice.ensures c.as_slice-2.ensures c.requires.fit
 
 pub returns-clause-before : goal.returns-clause-before
 returns-clause-before c =

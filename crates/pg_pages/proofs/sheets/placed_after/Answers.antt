@@ -1,8 +1,12 @@
-use Rattle.std.proofs.Common.{sym, ap, subst, ◌∙◌, List, ℕ}
+use Rattle.std.proofs.Common.{refl, sym, ap, subst, ◌∙◌, List, ℕ}
 use Rattle.pg_rules.specs.Floats.{plus_counts}
 use Rattle.pg_pages.specs.Printed.{FitTogether}
+use Rattle.pg_pages.proofs.Shown.{fit_as}
 use Rattle.pg_pages.proofs.TextColumn.{plus_is}
 use Rattle.pg_pages.proofs.sheets.placed_after.Goals as goal
+
+pub added-requires : goal.added-requires
+added-requires c = fit_as _ _ _ _ refl c.as_slice.ensures c.requires.tops
 
 pub added-requires-2 : goal.added-requires-2
 added-requires-2 c =

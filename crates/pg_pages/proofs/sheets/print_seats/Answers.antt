@@ -51,6 +51,15 @@ pub placed_after-requires-clause-slots : goal.placed_after-requires-clause-slots
 placed_after-requires-clause-slots c =
     bodies_long (document c.args.galley.now c.args.style.now) _ c.args.bodies.now c.requires.bodies
 
+pub placed_after-requires-clause-tops : goal.placed_after-requires-clause-tops
+placed_after-requires-clause-tops c =
+    let doc = document c.args.galley.now c.args.style.now in
+    let column = c.column-item.result in
+    let opened = split_first c.each.rest.now column _ c.in-len1-up.len_at_least c.column-item.is in
+    let may = subst (λ (columns : List Column). MayFrom doc c.args.seat.now.run c.args.seat.now.wide c.each.seat.before
+    columns) (sym opened) c.each.invariant.may in
+    subst (λ (counts : List ℕ). FitTogether counts column.top) (sym c.as_slice.ensures) may.0.tops_fit
+
 pub placed_after-requires-clause-bottoms : goal.placed_after-requires-clause-bottoms
 placed_after-requires-clause-bottoms c =
     let doc = document c.args.galley.now c.args.style.now in

@@ -1,5 +1,6 @@
 use Rattle.pg_rules.specs.Legal.{document}
 use Rattle.pg_pages.proofs.SheetText.{sheet_is}
+use Rattle.pg_pages.proofs.Shown.{may_as}
 use Rattle.pg_pages.proofs.Grown.{grows_on}
 use Rattle.pg_pages.proofs.TextColumn.{bodies_long}
 use Rattle.pg_pages.proofs.sheets.print_sheet.Goals as goal
@@ -7,6 +8,17 @@ use Rattle.pg_pages.proofs.sheets.print_sheet.Goals as goal
 pub first_seat-requires-clause-slots : goal.first_seat-requires-clause-slots
 first_seat-requires-clause-slots c =
     bodies_long (document c.args.galley.now c.args.style.now) _ c.args.bodies.now c.requires.bodies
+
+pub first_seat-requires-clause-wide : goal.first_seat-requires-clause-wide
+first_seat-requires-clause-wide c = c.requires.may.wide
+
+pub first_seat-requires-clause-fit : goal.first_seat-requires-clause-fit
+first_seat-requires-clause-fit c = c.requires.may.wide_fits
+
+pub print_seats-requires-clause-may : goal.print_seats-requires-clause-may
+print_seats-requires-clause-may c =
+    may_as (document c.args.galley.now c.args.style.now) _ _ _ _ _ _ _ _ c.in_ok-seat.ensures.run
+    c.in_ok-seat.ensures.wide c.in_ok-seat.ensures.before c.as_slice-columns.ensures c.requires.may.columns
 
 pub returns-clause-ok : goal.returns-clause-ok
 returns-clause-ok c =

@@ -45,3 +45,10 @@ each-preserved c =
       grows = grows_on c.args.out.now.items c.each.out.items c.print_sheet.new.out.items c.each.invariant.grows
           c.in_ok-placed-2.ensures.grows;
     }
+
+pub print_sheet-requires-clause-may : goal.print_sheet-requires-clause-may
+print_sheet-requires-clause-may c =
+    let doc = document c.args.galley.now c.args.style.now in
+    let rest = c.each.rest.now in
+    let opened = split_first rest c.page-item.result _ c.in-len1-up.len_at_least c.page-item.is in
+    (subst (λ (pages : List Page). MaySheets doc c.each.placed pages) (sym opened) c.each.invariant.may).0

@@ -3,6 +3,7 @@ use Rattle.std.specs.Int.{w128}
 use Rattle.std.proofs.lemmas.Int.{to_z-of_z}
 use Rattle.pg_list.specs.declared.blocks.Block.{Block}
 use Rattle.pg_plan.specs.declared.pages.Page.{Page}
+use Rattle.pg_style.specs.Values.{StyleValue}
 use Rattle.pg_style.specs.declared.style.Class.{Class}
 use Rattle.pg_rules.specs.History.{placed_of}
 use Rattle.pg_rules.specs.Legal.{document}
@@ -17,7 +18,8 @@ use Rattle.pg_pages.proofs.sheets.print_whole.Goals as goal
 pub print_sheets-requires-clause-bodies : goal.print_sheets-requires-clause-bodies
 print_sheets-requires-clause-bodies c =
     let doc = document c.args.galley.now c.args.style.now in
-    let classes : c.style.inside.classes ≡ c.args.style.now.classes = search rules in
+    let classes : c.style.inside.classes ≡ c.args.style.now.classes =
+    ap (λ (style : StyleValue). style.classes) c.style.view_is in
     ap lent c.as_slice-2.ensures.value ∙ c.in_ok-bodies.ensures
     ∙ ap (λ (blocks : List Block). bodies_of blocks c.as_slice.result.now) c.blocks_of.ensures.blocks
     ∙ ap (λ (classes : List Class). bodies_of c.args.galley.now.blocks classes) (c.as_slice.ensures.classes ∙ classes)

@@ -1,4 +1,4 @@
-use Rattle.std.proofs.Common.{◌≡◌, ◌∙◌, rules, sym, ap, ℕ, List, [], length, vec_len}
+use Rattle.std.proofs.Common.{◌≡◌, ◌∙◌, sym, ap, ℕ, List, [], length, vec_len}
 use Rattle.std.specs.Prelude.{if◌then◌else◌}
 use Rattle.pg_style.specs.Values.{StyleValue}
 use Rattle.pg_rules.specs.Floats.{dealt_from}
@@ -16,7 +16,7 @@ print_wide_set-requires c =
     let bodies = lent c.args.bodies.now in
     let placed = c.args.placed.now in
     let counts = c.args.page.now.wide in
-    let all : vec_len c.in_ok-dealt.dealt ≡ length c.in_ok-dealt.dealt.items = search rules in
+    let all : vec_len c.in_ok-dealt.dealt ≡ length c.in_ok-dealt.dealt.items = c.in_ok-dealt.dealt.ok.0 in
     let long = c.len.ensures ∙ all ∙ sym (behind_long c.in_ok-dealt.dealt.items) ∙ ap length c.in_ok-dealt.ensures
     ∙ ap (λ (xs : List ℕ). length (dealt_from 0 bodies xs c.as_slice-counts.result.now)) c.as_slice-before.ensures
     ∙ ap (λ (xs : List ℕ). length (dealt_from 0 bodies placed xs)) c.as_slice-counts.ensures in
@@ -32,7 +32,7 @@ returns-clause-ok c =
     let bodies = lent c.args.bodies.now in
     let placed = c.args.placed.now in
     let counts = c.args.page.now.wide in
-    let all : vec_len c.in_ok-dealt.dealt ≡ length c.in_ok-dealt.dealt.items = search rules in
+    let all : vec_len c.in_ok-dealt.dealt ≡ length c.in_ok-dealt.dealt.items = c.in_ok-dealt.dealt.ok.0 in
     let long = c.len.ensures ∙ all ∙ sym (behind_long c.in_ok-dealt.dealt.items) ∙ ap length c.in_ok-dealt.ensures
     ∙ ap (λ (xs : List ℕ). length (dealt_from 0 bodies xs c.as_slice-counts.result.now)) c.as_slice-before.ensures
     ∙ ap (λ (xs : List ℕ). length (dealt_from 0 bodies placed xs)) c.as_slice-counts.ensures in
