@@ -1,6 +1,6 @@
 -- Lists, and what holds of each of their elements.
 use Rattle.std.proofs.lemmas.List.{reverse-append}
-use Rattle.std.proofs.Common.{◌≡◌, ℕ, zero, suc, take, drop, List, [], ◌∷◌, ◌++◌, arith, ◌∙◌, ◌<◌, ◌≤◌, ◌+◌, ap, sym, refl, length, get_or, take-suc, true, false, Option, Some, None}
+use Rattle.std.proofs.Common.{◌≡◌, ℕ, zero, suc, take, drop, List, [], ◌∷◌, ◌++◌, arith, ◌∙◌, ◌<◌, ◌≤◌, ◌+◌, ap, subst, sym, refl, length, get_or, take-suc, true, false, Option, Some, None}
 use Rattle.std.specs.List.{AllByRecursion, Contains, range_with_len}
 use Rattle.std.proofs.lemmas.Option.{same_Some}
 use Rattle.std.specs.Prelude.{slice_get, is_some, replicate, reverse}
