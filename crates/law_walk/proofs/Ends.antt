@@ -1,6 +1,6 @@
 -- The ends in a room of candidates that suffice are the ends of the columns of text in that room.
 use Rattle.std.proofs.Common.{◌≡◌, refl, sym, ap, ◌∙◌, subst, ℕ, inl, inr, List, [], ◌∷◌, map, arith, Bool, true, false, Option, Some, None, ℤ, pos, ◌+ℤ◌, ◌≤ℤ◌}
-use Rattle.std.specs.Prelude.{◌||◌, ◌&&◌, not, cond, int_le, nat_le, filter, Contains}
+use Rattle.std.specs.Prelude.{◌&&◌, not, cond, int_le, filter, Contains}
 use Rattle.std.specs.List.{AllByRecursion}
 use Rattle.std.specs.Option.{option_map_or}
 use Rattle.std.specs.declared.cmp.Ordering.TheVariants.{Equal}
@@ -8,8 +8,7 @@ use Rattle.std.proofs.lemmas.Int.{ints}
 use Rattle.pg_list.specs.declared.galley.Place.{Place}
 use Rattle.pg_list.specs.Shapes.{IsBlock}
 use Rattle.pg_style.specs.Ranges.{IsStyle}
-use Rattle.pg_breaks.specs.Near.{place_forced}
-use Rattle.pg_lemmas.proofs.Bools.{both, both_of, if_true}
+use Rattle.pg_lemmas.proofs.Bools.{both, if_true}
 use Rattle.law_places.proofs.Tests.{int_le_of, le_int}
 use Rattle.pg_rules.specs.BestPicks.{keeps_text, text_cost, with_picks}
 use Rattle.pg_rules.specs.ColumnRules.{text_fitness}
@@ -19,58 +18,80 @@ use Rattle.pg_rules.specs.Room.{ColumnContext, Document, is_text, room, size_of,
 use Rattle.pg_column.specs.declared.end.End.{End}
 use Rattle.pg_column.specs.Ends.{AreEnds, HasEnd, IsColumnIn, IsEndOf}
 use Rattle.law_walk.specs.Best.{AreBest, IsAmong, IsCheaper, IsUnder, end_cmp, end_cost}
-use Rattle.law_walk.specs.Candidates.{AreCandidates, Candidate, Covers, CoversIn, IsCandidate, cost_in, end_in, ends_in, is_over_in, is_usable, keeps_in, kept_ends}
+use Rattle.law_walk.specs.Candidates.{AreCandidates, Candidate, Covers, CoversIn, IsCandidate, cost_in, end_in, ends_in, has_text, is_usable, keeps_in, keeps_text as keeps_text_in, kept_ends, text_ends}
 use Rattle.pg_column.specs.Passed.{Passed, fits, least_room}
 use Rattle.law_walk.proofs.BestLaws.{among_contains, best_are, cheaper_chain, contains_among, ends_tied, in_order, tied_ends}
-use Rattle.law_walk.proofs.Keeps.{HasCandidate, has_candidate, keeps_back, numbers_are, usable_is}
+use Rattle.law_walk.proofs.Keeps.{HasCandidate, has_candidate, keeps_back, kept_parts, numbers_are, usable_is}
 use Rattle.law_walk.proofs.Bounds.{fits_less}
 use Rattle.pg_column.specs.Numbers.{AreNumbers, most_room, text_room}
 use Rattle.pg_column.specs.declared.cost.TextRoom.{TextRoom}
 
--- ---- the ends of those that keep the rules
+-- ---- the ends of those that keep a test
 
-pub record IsKept (doc : Document) (height : TextRoom) (cs : List Candidate) (end : End) : Type 0 where
+pub record IsKept (doc : Document) (height : TextRoom) (test : Candidate → Bool) (cs : List Candidate) (end : End) : Type 0 where
   pub candidate : Candidate
   pub listed : IsAmong candidate cs
-  pub keeps : keeps_in doc height candidate ≡ true
+  pub keeps : test candidate ≡ true
   pub is : end ≡ end_in doc height candidate
 
-pub kept_of : (doc : Document) (height : TextRoom) (cs : List Candidate) (end : End) →
-    IsAmong end (kept_ends doc height cs) → IsKept doc height cs end
-kept_of doc height [] end a = absurd a
-kept_of doc height (c ∷ cs) end a = by (keeps_in doc height c) refl a (λ b. kept_of doc height cs end b)
+pub kept_of : (doc : Document) (height : TextRoom) (test : Candidate → Bool) (cs : List Candidate) (end : End) →
+    IsAmong end (map (end_in doc height) (filter test cs)) → IsKept doc height test cs end
+kept_of doc height test [] end a = absurd a
+kept_of doc height test (c ∷ cs) end a = by (test c) refl a (λ b. kept_of doc height test cs end b)
   where
-    longer : IsKept doc height cs end → IsKept doc height (c ∷ cs) end
+    longer : IsKept doc height test cs end → IsKept doc height test (c ∷ cs) end
     longer k = record { candidate = k.candidate; listed = inr k.listed; keeps = k.keeps; is = k.is }
 
-    by : (b : Bool) → keeps_in doc height c ≡ b →
-        IsAmong end (map (end_in doc height)
-        (cond b (c ∷ filter (keeps_in doc height) cs) (filter (keeps_in doc height) cs))) →
-        (IsAmong end (kept_ends doc height cs) → IsKept doc height cs end) →
-        IsKept doc height (c ∷ cs) end
+    by : (b : Bool) → test c ≡ b →
+        IsAmong end (map (end_in doc height) (cond b (c ∷ filter test cs) (filter test cs))) →
+        (IsAmong end (map (end_in doc height) (filter test cs)) → IsKept doc height test cs end) →
+        IsKept doc height test (c ∷ cs) end
     by true e (inl p) more = record { candidate = c; listed = inl refl; keeps = e; is = sym p }
     by true e (inr p) more = longer (more p)
     by false e p more = longer (more p)
 
-pub kept_listed : (doc : Document) (height : TextRoom) (cs : List Candidate) (c : Candidate) → IsAmong c cs →
-    keeps_in doc height c ≡ true →
-    IsAmong (end_in doc height c) (kept_ends doc height cs)
-kept_listed doc height [] c a k = absurd a
-kept_listed doc height (d ∷ cs) c (inl p) k = by (keeps_in doc height d) (ap (keeps_in doc height) p ∙ k)
+pub kept_listed : (doc : Document) (height : TextRoom) (test : Candidate → Bool) (cs : List Candidate) (c : Candidate) →
+    IsAmong c cs → test c ≡ true → IsAmong (end_in doc height c) (map (end_in doc height) (filter test cs))
+kept_listed doc height test [] c a k = absurd a
+kept_listed doc height test (d ∷ cs) c (inl p) k = by (test d) (ap test p ∙ k)
   where
     by : (b : Bool) → b ≡ true →
-        IsAmong (end_in doc height c)
-        (map (end_in doc height) (cond b (d ∷ filter (keeps_in doc height) cs) (filter (keeps_in doc height) cs)))
+        IsAmong (end_in doc height c) (map (end_in doc height) (cond b (d ∷ filter test cs) (filter test cs)))
     by true e = inl (ap (end_in doc height) p)
     by false e = absurd cc
-kept_listed doc height (d ∷ cs) c (inr a) k = by (keeps_in doc height d) (kept_listed doc height cs c a k)
+kept_listed doc height test (d ∷ cs) c (inr a) k = by (test d) (kept_listed doc height test cs c a k)
   where
-    by : (b : Bool) →
-        IsAmong (end_in doc height c) (kept_ends doc height cs) →
-        IsAmong (end_in doc height c)
-        (map (end_in doc height) (cond b (d ∷ filter (keeps_in doc height) cs) (filter (keeps_in doc height) cs)))
+    by : (b : Bool) → IsAmong (end_in doc height c) (map (end_in doc height) (filter test cs)) →
+        IsAmong (end_in doc height c) (map (end_in doc height) (cond b (d ∷ filter test cs) (filter test cs)))
     by true more = inr more
     by false more = more
+
+-- ---- in a room that is not too low for a text, and in one that is
+
+-- all ends that keep the rules on their text however low the room is
+pub kept_all : (doc : Document) (room : TextRoom) → has_text doc.style room ≡ true → (cs : List Candidate) →
+    kept_ends doc room cs ≡ text_ends doc room cs
+kept_all doc room text [] = refl
+kept_all doc room text (c ∷ cs) = by (keeps_text_in doc room c) (has_text doc.style room) text (kept_all doc room text cs)
+  where
+    by : (b t : Bool) → t ≡ true → kept_ends doc room cs ≡ text_ends doc room cs →
+        map (end_in doc room) (cond (b && t) (c ∷ filter (keeps_in doc room) cs) (filter (keeps_in doc room) cs))
+        ≡ map (end_in doc room) (cond b (c ∷ filter (keeps_text_in doc room) cs) (filter (keeps_text_in doc room) cs))
+    by true true e more = ap (λ es. end_in doc room c ∷ es) more
+    by true false e more = absurd cc
+    by false t e more = more
+
+-- none
+pub kept_none : (doc : Document) (room : TextRoom) → has_text doc.style room ≡ false → (cs : List Candidate) →
+    kept_ends doc room cs ≡ []
+kept_none doc room low [] = refl
+kept_none doc room low (c ∷ cs) = by (keeps_text_in doc room c) (has_text doc.style room) low (kept_none doc room low cs)
+  where
+    by : (b t : Bool) → t ≡ false → kept_ends doc room cs ≡ [] →
+        map (end_in doc room) (cond (b && t) (c ∷ filter (keeps_in doc room) cs) (filter (keeps_in doc room) cs)) ≡ []
+    by true true e none = absurd cc
+    by true false e none = none
+    by false t e none = none
 
 -- ---- one that covers another does as well in each room
 
@@ -82,12 +103,9 @@ pub record DoesAsWell (doc : Document) (height : TextRoom) (a c : Candidate) : T
 pub does_as_well : (doc : Document) (height : TextRoom) (a c : Candidate) → Covers a c → keeps_in doc height c ≡ true →
     DoesAsWell doc height a c
 does_as_well doc height a c v k =
-    let two = both_of (not (is_over_in doc.style height c.passed)
-    && (place_forced doc.blocks c.to || nat_le (cost_in doc height c).badness doc.style.tolerance)) _ k in
-    let rest = both_of (fits c.passed.bound (most_room height)) (int_le doc.style.min_text height.size) two.1 in
-    record {
-      keeps = both _ _ (rw (v.to, v.totals, v.notes) two.0)
-          (both _ _ (fits_less a.passed.bound c.passed.bound (most_room height) v.bound rest.0) rest.1);
+    let parts = kept_parts doc height c k in record {
+      keeps = both _ _ (both _ _ (rw (v.to, v.totals, v.notes) parts.tolerable)
+          (fits_less a.passed.bound c.passed.bound (most_room height) v.bound parts.bound)) parts.text;
       fitness = rw (v.to, v.totals, v.notes) refl;
       demerits = rw (v.to, v.totals, v.notes) refl;
     }
@@ -137,16 +155,12 @@ module _ (it : ColumnContext) (all : AllByRecursion IsBlock it.document.blocks) 
         passed = h.passed;
         pick_demerits = pick_demerits it;
       } in
-      let two = both_of (not (is_over_in it.document.style (text_room it) h.passed)
-      && (place_forced it.document.blocks it.column.to
-      || nat_le (cost_in it.document (text_room it) c).badness it.document.style.tolerance)) _ h.keeps in
-      let rest = both_of (fits h.passed.bound (tallest_room it)) (int_le it.document.style.min_text (room it)) two.1 in
-      let under = (both_of (not (is_over_in it.document.style (text_room it) h.passed)) _ two.0).0 in
+      let parts = kept_parts it.document (text_room it) c h.keeps in
       let least : int_le (least_room it.document.style h.passed) (tallest_room it) ≡ true =
-      not_true _ (ap not (sym (usable_is it all is-style h.named text h.size h.size_is h.passed h.kept)) ∙ under) in
+      not_true _ (ap not (sym (usable_is it all is-style h.named text h.size h.size_is h.passed h.kept)) ∙ parts.under) in
       let low = le_int (least_room it.document.style h.passed) (tallest_room it) least in
       let usable : is_usable it.document.style top h.passed ≡ true =
-      both _ _ (fits_more h.passed.bound (tallest_room it) top lower rest.0)
+      both _ _ (fits_more h.passed.bound (tallest_room it) top lower parts.bound)
       (int_le_of (least_room it.document.style h.passed) top (omega (arith, ints, low, lower))) in
       let v : CoversIn cs c = cands.whole c h.is usable in
       let d : DoesAsWell it.document (text_room it) v.candidate c =
@@ -155,7 +169,7 @@ module _ (it : ColumnContext) (all : AllByRecursion IsBlock it.document.blocks) 
       numbers_are it all is-style h.named text h.size h.size_is h.passed h.kept h.is.ends in
       record {
         candidate = v.candidate;
-        listed = kept_listed it.document (text_room it) cs v.candidate v.listed d.keeps;
+        listed = kept_listed it.document (text_room it) (keeps_in it.document (text_room it)) cs v.candidate v.listed d.keeps;
         to = v.covers.to;
         fitness = d.fitness ∙ (numbers.fitness ∙ sym (fitness_of h.size h.size_is));
         cheaper = priced (cost_in it.document (text_room it) v.candidate).demerits
@@ -252,7 +266,8 @@ module _ (it : ColumnContext) (all : AllByRecursion IsBlock it.document.blocks) 
       it.column.picks ≡ end.picks → IsEndOf it end
   sound_end ends b end has to picks =
       let a : IsAmong end ends = contains_among ends end has in
-      let k : IsKept it.document (text_room it) cs end = kept_of it.document (text_room it) cs end (b.among end a) in
+      let k : IsKept it.document (text_room it) (keeps_in it.document (text_room it)) cs end =
+      kept_of it.document (text_room it) (keeps_in it.document (text_room it)) cs end (b.among end a) in
       subst (IsEndOf it) (sym k.is)
       (end_of_kept k.candidate
       (same_candidate k.candidate (to ∙ ap (λ (e : End). e.to) k.is) (picks ∙ ap (λ (e : End). e.picks) k.is))

@@ -14,14 +14,15 @@ use Rattle.pg_lemmas.proofs.Numbers.{eq_refl}
 use Rattle.pg_rules.specs.BestPicks.{keeps_text}
 use Rattle.pg_rules.specs.ColumnRules.{column_variants, does_fit, has_room, is_tolerable, is_well_formed, keeps_looseness, keeps_note_limits, passes_breaks, text_is_over}
 use Rattle.pg_rules.specs.Cost.{pick_demerits}
-use Rattle.pg_rules.specs.Room.{ColumnContext, flat_items_of, is_text, items_of, room, size_of, tallest_room}
+use Rattle.pg_rules.specs.Room.{ColumnContext, Document, flat_items_of, is_text, items_of, room, size_of, tallest_room}
 use Rattle.pg_column.specs.Judged.{Walked}
-use Rattle.pg_column.specs.Numbers.{AreNumbers, text_room}
+use Rattle.pg_column.specs.Numbers.{AreNumbers, most_room, text_room}
 use Rattle.pg_column.specs.Passed.{IsPassed, Passed, are_within, fits, is_end_here, least_notes, least_room, nothing, pass_items}
+use Rattle.pg_column.specs.declared.cost.TextRoom.{TextRoom}
 use Rattle.pg_column.proofs.Judging.{steps_within, some_items as some_judged, formed_is as formed_judged, tolerable_is as tolerable_judged, passes_is as passes_judged, room_is as room_judged, limits_is as limits_judged, numbers_at}
 use Rattle.pg_column.proofs.Passing.{agrees, over_least}
 use Rattle.pg_column.proofs.Walking.{IsWalked}
-use Rattle.law_walk.specs.Candidates.{Candidate, IsCandidate, cost_in, is_over_in, keeps_in}
+use Rattle.law_walk.specs.Candidates.{Candidate, IsCandidate, cost_in, has_text, is_over_in, keeps_in}
 
 -- the penalty of a break is there
 pub some_back : (o : Option ℤ) → is_some o ≡ true → o ≡ Some (unwrap_or o (pos 0))
@@ -98,6 +99,28 @@ module _ (it : ColumnContext) (all : AllByRecursion IsBlock it.document.blocks) 
         numbers_at it all is-style named text n size walked went
         (unwrap_or (place_penalty it.document.blocks it.column.to) (pos 0)) two.0
         (some_back (place_penalty it.document.blocks it.column.to) two.1) n size
+
+-- ---- what a column to an end keeps, one by one
+
+pub record KeptParts (doc : Document) (room : TextRoom) (c : Candidate) : Type 0 where
+  pub under : not (is_over_in doc.style room c.passed) ≡ true
+  pub tolerable : (not (is_over_in doc.style room c.passed)
+      && (place_forced doc.blocks c.to || nat_le (cost_in doc room c).badness doc.style.tolerance)) ≡ true
+  pub bound : fits c.passed.bound (most_room room) ≡ true
+  pub text : has_text doc.style room ≡ true
+
+pub kept_parts : (doc : Document) (room : TextRoom) (c : Candidate) → keeps_in doc room c ≡ true → KeptParts doc room c
+kept_parts doc room c k =
+    let two = both_of _ (has_text doc.style room) k in
+    let one = both_of (not (is_over_in doc.style room c.passed)
+    && (place_forced doc.blocks c.to || nat_le (cost_in doc room c).badness doc.style.tolerance))
+    (fits c.passed.bound (most_room room)) two.0 in
+    record {
+      under = (both_of (not (is_over_in doc.style room c.passed)) _ one.0).0;
+      tolerable = one.0;
+      bound = one.1;
+      text = two.1;
+    }
 
 -- ---- a column that keeps the rules has a candidate
 
@@ -182,9 +205,9 @@ module _ (it : ColumnContext) (all : AllByRecursion IsBlock it.document.blocks) 
           loose = t6.1;
           demerits = refl;
         };
-        keeps = both _ _ (sym (tolerable_is it all is-style named text n size p e) ∙ t3.0)
-            (both _ _ (sym (passes_is it all is-style named text n size p e) ∙ t4.0)
-            (sym (room_is it all is-style named text n size p e) ∙ t5.0));
+        keeps = both _ _ (both _ _ (sym (tolerable_is it all is-style named text n size p e) ∙ t3.0)
+            (sym (passes_is it all is-style named text n size p e) ∙ t4.0))
+            (sym (room_is it all is-style named text n size p e) ∙ t5.0);
       }
 
       sized : (o : Option ℕ) → size_of it ≡ o → does_fit it ≡ true → HasCandidate it
@@ -211,18 +234,18 @@ module _ (it : ColumnContext) (all : AllByRecursion IsBlock it.document.blocks) 
   }) ≡ true → keeps_text it ≡ true
   keeps_back p d c k =
       let n = c.size in
-      let two = both_of (not (is_over_in it.document.style (text_room it) p)
-      && (place_forced it.document.blocks it.column.to
-      || nat_le (cost_in it.document (text_room it)
-      (record { to = it.column.to; picks = it.column.picks; passed = p; pick_demerits = d })).badness
-      it.document.style.tolerance)) _ k in
-      let rest = both_of (fits p.bound (tallest_room it)) (int_le it.document.style.min_text (room it)) two.1 in
+      let parts = kept_parts it.document (text_room it) (record {
+        to = it.column.to;
+        picks = it.column.picks;
+        passed = p;
+        pick_demerits = d;
+      }) k in
       both _ _ (ap (λ (o : Option ℕ). option_map_or (λ (n : ℕ). (fronts (flat_items_of it) n == length it.column.picks)
       && (length (column_variants it) == length it.column.picks)) o false) c.leads
       ∙ both _ _ (ap (λ (m : ℕ). m == length it.column.picks) c.fronts_are ∙ eq_refl _)
       (ap (λ (m : ℕ). m == length it.column.picks) c.named ∙ eq_refl _))
       (both _ _ (formed_is it all is-style c.named text n c.leads p c.passes ∙ c.ends)
-      (both _ _ (tolerable_is it all is-style c.named text n c.leads p c.passes ∙ two.0)
-      (both _ _ (passes_is it all is-style c.named text n c.leads p c.passes ∙ rest.0)
-      (both _ _ (room_is it all is-style c.named text n c.leads p c.passes ∙ rest.1)
+      (both _ _ (tolerable_is it all is-style c.named text n c.leads p c.passes ∙ parts.tolerable)
+      (both _ _ (passes_is it all is-style c.named text n c.leads p c.passes ∙ parts.bound)
+      (both _ _ (room_is it all is-style c.named text n c.leads p c.passes ∙ parts.text)
       (both _ _ (limits_is it all is-style c.named text n c.leads p c.passes ∙ c.limits) c.loose)))))

@@ -35,12 +35,20 @@ cost_in doc room c =
     cost_by doc.style room c.passed.totals c.passed.notes (place_spent doc.blocks c.to)
     (unwrap_or (place_penalty doc.blocks c.to) (pos 0))
 
--- a column to this end keeps the rules on its text
-abbrev pub keeps_in : Document → TextRoom → Candidate → Bool
-keeps_in doc room c =
+-- a column to this end keeps the rules on its text, however low its room is
+abbrev pub keeps_text : Document → TextRoom → Candidate → Bool
+keeps_text doc room c =
     (not (is_over_in doc.style room c.passed)
     && (place_forced doc.blocks c.to || nat_le (cost_in doc room c).badness doc.style.tolerance))
-    && (fits c.passed.bound (most_room room) && int_le doc.style.min_text room.size)
+    && fits c.passed.bound (most_room room)
+
+-- the room is not below the least one of a text
+abbrev pub has_text : StyleValue → TextRoom → Bool
+has_text style room = int_le style.min_text room.size
+
+-- a column to this end keeps the rules on its text
+abbrev pub keeps_in : Document → TextRoom → Candidate → Bool
+keeps_in doc room c = keeps_text doc room c && has_text doc.style room
 
 -- the end with its numbers
 abbrev pub end_in : Document → TextRoom → Candidate → End
@@ -50,6 +58,10 @@ end_in doc room c =
 -- the ends of the candidates that keep the rules in a room
 abbrev pub kept_ends : Document → TextRoom → List Candidate → List End
 kept_ends doc room cs = map (end_in doc room) (filter (keeps_in doc room) cs)
+
+-- those of the candidates that keep them however low the room is
+abbrev pub text_ends : Document → TextRoom → List Candidate → List End
+text_ends doc room cs = map (end_in doc room) (filter (keeps_text doc room) cs)
 
 -- the ends in a room: the best of them for each place and fitness, in order
 unfoldable pub ends_in : Document → TextRoom → List Candidate → List End

@@ -1,7 +1,7 @@
 -- Which ends are not needed from a room on.
-use Rattle.std.proofs.Common.{◌≡◌, refl, sym, ap, ◌∙◌, subst, ℕ, ◌+◌, ◌<◌, arith, Bool, true, false, inl, inr, List, Option, Some, None, IfSome, ℤ, pos, ◌≤ℤ◌, ◌<ℤ◌, ◌+ℤ◌, ◌-ℤ◌}
+use Rattle.std.proofs.Common.{◌≡◌, refl, sym, ap, ◌∙◌, ℕ, ◌<◌, arith, Bool, true, false, inl, inr, List, Option, Some, None, IfSome, ℤ, pos, ◌≤ℤ◌, ◌<ℤ◌, ◌+ℤ◌, ◌-ℤ◌}
 use Rattle.std.specs.List.{AllByRecursion}
-use Rattle.std.specs.Prelude.{◌==◌, ◌&&◌, ◌||◌, not, if◌then◌else◌, int_le, int_lt, nat_le}
+use Rattle.std.specs.Prelude.{◌==◌, ◌&&◌, ◌||◌, not, if◌then◌else◌, int_lt, nat_le}
 use Rattle.std.proofs.lemmas.Int.{ints}
 use Rattle.pg_list.specs.declared.galley.Place.{Place}
 use Rattle.pg_breaks.specs.Near.{place_forced, place_spent}
@@ -19,7 +19,7 @@ use Rattle.pg_rules.specs.Room.{Document}
 use Rattle.pg_style.specs.Ranges.{IsClass}
 use Rattle.pg_style.specs.Values.{StyleValue}
 use Rattle.law_walk.specs.Best.{IsCheaper}
-use Rattle.law_walk.specs.Candidates.{Candidate, cost_in, end_in, is_over_in, keeps_in}
+use Rattle.law_walk.specs.Candidates.{Candidate, cost_in, end_in, is_over_in, keeps_text}
 use Rattle.law_walk.proofs.BestLaws.{ends_tied}
 use Rattle.law_walk.proofs.Ends.{fits_more}
 use Rattle.pg_candidates.specs.Nears.{IsHopelessFrom, IsServedFrom, IsWithin, IsWorst, Serves, kind_at}
@@ -52,7 +52,7 @@ pub served_hopeless : (doc : Document) (most : ℤ) (one c : Candidate) (o : Opt
     IfSome o (IsHopelessFrom doc most c) → IfSome o (IsServedFrom doc most one c)
 served_hopeless doc most one c None h = tt
 served_hopeless doc most one c (Some from) h = λ room gives le keeps.
-    absurd (not_both (keeps_in doc room c) keeps (h room gives le))
+    absurd (not_both (keeps_text doc room c) keeps (h room gives le))
 
 -- ---- two of one place, both of the worst badness
 
@@ -80,16 +80,15 @@ module _ (doc : Document) (most : ℤ) (one c : Candidate) (same : one.to ≡ c.
 
   -- one that suits is not over
   keeps_too : is_over_in doc.style room one.passed ≡ false → fits one.passed.bound (most_room room) ≡ true →
-      keeps_in doc room c ≡ true → keeps_in doc room one ≡ true
+      keeps_text doc room c ≡ true → keeps_text doc room one ≡ true
   keeps_too below suits keeps =
       let two = both_of (not (is_over_in doc.style room c.passed)
       && (place_forced doc.blocks c.to || nat_le (cost_in doc room c).badness doc.style.tolerance)) _ keeps in
       let first = both_of (not (is_over_in doc.style room c.passed)) _ two.0 in
-      let rest = both_of (fits c.passed.bound (most_room room)) (int_le doc.style.min_text room.size) two.1 in
       both _ _ (both _ _ (not_false _ below)
       (ap (λ (p : Place). place_forced doc.blocks p || nat_le (cost_in doc room one).badness doc.style.tolerance) same
       ∙ (ap (λ (n : ℕ). place_forced doc.blocks c.to || nat_le n doc.style.tolerance) (own_bad ∙ sym its_bad)
-      ∙ first.1))) (both _ _ suits rest.1)
+      ∙ first.1))) suits
 
   fitness_too : (cost_in doc room one).fitness ≡ (cost_in doc room c).fitness
   fitness_too = loosest (doc.style.version == 1) one.passed.totals.total _ _ own.short own_bad
@@ -101,7 +100,7 @@ module _ (doc : Document) (most : ℤ) (one c : Candidate) (same : one.to ≡ c.
 
   pub serves : IsCheaper one.pick_demerits one.picks c.pick_demerits c.picks →
       is_over_in doc.style room one.passed ≡ false → fits one.passed.bound (most_room room) ≡ true →
-      keeps_in doc room c ≡ true → Serves doc room one c
+      keeps_text doc room c ≡ true → Serves doc room one c
   serves cheaper below suits keeps = record {
     keeps = keeps_too below suits keeps;
     tied = ends_tied (end_in doc room one) (end_in doc room c) same fitness_too;

@@ -17,7 +17,7 @@ use Rattle.pg_list.proofs.BodyLemmas.{all_front}
 use Rattle.pg_rules.specs.Room.{Document}
 use Rattle.pg_sums.specs.declared.totals.Totals.{Totals}
 use Rattle.law_walk.specs.Best.{AreBest, insert_end}
-use Rattle.law_walk.specs.Candidates.{Candidate, cost_in, end_in, is_over_in, keeps_in, kept_ends}
+use Rattle.law_walk.specs.Candidates.{Candidate, cost_in, end_in, is_over_in, keeps_text, text_ends}
 use Rattle.pg_candidates.specs.Nears.{IsNear, IsNearIn, NearValue, needed_in, needed_of}
 use Rattle.pg_candidates.specs.RoomEnds.{end_by, end_of, picks_at}
 use Rattle.pg_candidates.specs.declared.kind.EndKind.{EndKind}
@@ -29,12 +29,10 @@ use Rattle.pg_candidates.proofs.Needed.{needed_more}
 not_below : (z least : ℤ) → int_lt z least ≡ false → int_le least z ≡ true
 not_below z least h = grind (arith, ints, h)
 
-tolerable_alone : (over tolerable suits text : Bool) → (not over && suits) ≡ true → text ≡ true →
-    ((not over && tolerable) && (suits && text)) ≡ tolerable
-tolerable_alone true tolerable suits text h t = absurd cc
-tolerable_alone false true true text h t = t
-tolerable_alone false true false text h t = absurd cc
-tolerable_alone false false suits text h t = refl
+tolerable_alone : (over tolerable suits : Bool) → (not over && suits) ≡ true → ((not over && tolerable) && suits) ≡ tolerable
+tolerable_alone true tolerable suits h = absurd cc
+tolerable_alone false true suits h = h
+tolerable_alone false false suits h = refl
 
 module _ (doc : Document) (most : ℤ) (room : TextRoom) (it : Candidate) (near : NearValue) (is : IsNear doc most it near)
     (cost : TextCost) (made : cost ≡ cost_for doc.style (room.size -ℤ near.notes) (plus_give room.give near.give)
@@ -56,12 +54,12 @@ module _ (doc : Document) (most : ℤ) (room : TextRoom) (it : Candidate) (near 
       ap (λ (k : EndKind). k.is_forced || nat_le cost.badness doc.style.tolerance) is.kind
       ∙ ap (λ (k : TextCost). place_forced doc.blocks it.to || nat_le k.badness doc.style.tolerance) cost_is
 
-  pub keeps_is : int_lt (most_room room) near.least ≡ false → int_le doc.style.min_text room.size ≡ true →
-      keeps_in doc room it ≡ (near.kind.is_forced || nat_le cost.badness doc.style.tolerance)
-  keeps_is high text = tolerable_alone (is_over_in doc.style room it.passed)
+  pub keeps_is : int_lt (most_room room) near.least ≡ false →
+      keeps_text doc room it ≡ (near.kind.is_forced || nat_le cost.badness doc.style.tolerance)
+  keeps_is high = tolerable_alone (is_over_in doc.style room it.passed)
       (place_forced doc.blocks it.to || nat_le (cost_in doc room it).badness doc.style.tolerance)
-      (fits it.passed.bound (most_room room)) (int_le doc.style.min_text room.size)
-      (is.least room ∙ not_below (most_room room) near.least high) text ∙ sym tolerable_is
+      (fits it.passed.bound (most_room room)) (is.least room ∙ not_below (most_room room) near.least high)
+      ∙ sym tolerable_is
 
   pub end_is : (ds : List Candidate) → slice_get ds near.at ≡ Some it → end_of ds (end_by near cost) ≡ end_in doc room it
   end_is ds there = end_same near.to it.to (picks_at ds near.at) it.picks cost (cost_in doc room it) near.pick_demerits
@@ -70,54 +68,53 @@ module _ (doc : Document) (most : ℤ) (room : TextRoom) (it : Candidate) (near 
 
   -- the best with this candidate's end
   module _ (cs ds : List Candidate) (there : slice_get ds near.at ≡ Some it) (bs : List End)
-      (best : AreBest (kept_ends doc room cs) bs) (high : int_lt (most_room room) near.least ≡ false)
-      (text : int_le doc.style.min_text room.size ≡ true) where
+      (best : AreBest (text_ends doc room cs) bs) (high : int_lt (most_room room) near.least ≡ false) where
     pub best_refused : (near.kind.is_forced || nat_le cost.badness doc.style.tolerance) ≡ false →
-        AreBest (kept_ends doc room (cs ++ it ∷ [])) bs
-    best_refused off = subst (AreBest (kept_ends doc room (cs ++ it ∷ [])))
-        (if_false (keeps_in doc room it) _ _ (keeps_is high text ∙ off)) (keep_more doc room cs it bs best)
+        AreBest (text_ends doc room (cs ++ it ∷ [])) bs
+    best_refused off = subst (AreBest (text_ends doc room (cs ++ it ∷ [])))
+        (if_false (keeps_text doc room it) _ _ (keeps_is high ∙ off)) (keep_more doc room cs it bs best)
 
     pub best_kept : (near.kind.is_forced || nat_le cost.badness doc.style.tolerance) ≡ true → (new : List End) →
-        new ≡ insert_end (end_of ds (end_by near cost)) bs → AreBest (kept_ends doc room (cs ++ it ∷ [])) new
-    best_kept on new e = subst (AreBest (kept_ends doc room (cs ++ it ∷ [])))
-        (if_true (keeps_in doc room it) _ _ (keeps_is high text ∙ on)
+        new ≡ insert_end (end_of ds (end_by near cost)) bs → AreBest (text_ends doc room (cs ++ it ∷ [])) new
+    best_kept on new e = subst (AreBest (text_ends doc room (cs ++ it ∷ [])))
+        (if_true (keeps_text doc room it) _ _ (keeps_is high ∙ on)
         ∙ (ap (λ (x : End). insert_end x bs) (sym (end_is ds there)) ∙ sym e)) (keep_more doc room cs it bs best)
 
 -- ---- one turn of the loop
 
 pub best_near : (doc : Document) (most : ℤ) (room : TextRoom) (cs : List Candidate) (more nears : List NearValue)
     (near : NearValue) (bs new : List End) → more ≡ nears ++ near ∷ [] →
-    (AllByRecursion (IsNearIn doc most cs) nears → AreBest (kept_ends doc room (needed_in room.size cs nears)) bs) →
-    (IsNearIn doc most cs near → AreBest (kept_ends doc room (needed_in room.size cs nears)) bs →
-    AreBest (kept_ends doc room (needed_in room.size cs nears ++ needed_of room.size cs near)) new) →
-    AllByRecursion (IsNearIn doc most cs) more → AreBest (kept_ends doc room (needed_in room.size cs more)) new
+    (AllByRecursion (IsNearIn doc most cs) nears → AreBest (text_ends doc room (needed_in room.size cs nears)) bs) →
+    (IsNearIn doc most cs near → AreBest (text_ends doc room (needed_in room.size cs nears)) bs →
+    AreBest (text_ends doc room (needed_in room.size cs nears ++ needed_of room.size cs near)) new) →
+    AllByRecursion (IsNearIn doc most cs) more → AreBest (text_ends doc room (needed_in room.size cs more)) new
 best_near doc most room cs more nears near bs new e best step all =
     let parts = all_front (IsNearIn doc most cs) nears near (subst (AllByRecursion (IsNearIn doc most cs)) e all) in
-    subst (λ (ns : List NearValue). AreBest (kept_ends doc room (needed_in room.size cs ns)) new) (sym e)
-    (subst (λ (ds : List Candidate). AreBest (kept_ends doc room ds) new) (sym (needed_more room.size cs nears near))
+    subst (λ (ns : List NearValue). AreBest (text_ends doc room (needed_in room.size cs ns)) new) (sym e)
+    (subst (λ (ds : List Candidate). AreBest (text_ends doc room ds) new) (sym (needed_more room.size cs nears near))
     (step parts.1 (best parts.0)))
 
 -- with what is needed of one candidate
 pub best_with : (doc : Document) (room : TextRoom) (cs ds own : List Candidate) (near : NearValue)
     (old new : List End) → needed_of room.size ds near ≡ own →
-    (AreBest (kept_ends doc room cs) old → AreBest (kept_ends doc room (cs ++ own)) new) →
-    AreBest (kept_ends doc room cs) old → AreBest (kept_ends doc room (cs ++ needed_of room.size ds near)) new
+    (AreBest (text_ends doc room cs) old → AreBest (text_ends doc room (cs ++ own)) new) →
+    AreBest (text_ends doc room cs) old → AreBest (text_ends doc room (cs ++ needed_of room.size ds near)) new
 best_with doc room cs ds own near old new is step best =
-    subst (λ (xs : List Candidate). AreBest (kept_ends doc room (cs ++ xs)) new) (sym is) (step best)
+    subst (λ (xs : List Candidate). AreBest (text_ends doc room (cs ++ xs)) new) (sym is) (step best)
 
 -- with nothing
 pub best_same : (doc : Document) (room : TextRoom) (cs : List Candidate) (bs : List End) →
-    AreBest (kept_ends doc room cs) bs → AreBest (kept_ends doc room (cs ++ [])) bs
+    AreBest (text_ends doc room cs) bs → AreBest (text_ends doc room (cs ++ [])) bs
 best_same doc room cs bs best =
-    subst (λ (xs : List Candidate). AreBest (kept_ends doc room xs) bs) (sym (append-nil cs)) best
+    subst (λ (xs : List Candidate). AreBest (text_ends doc room xs) bs) (sym (append-nil cs)) best
 
 -- of the whole list
 pub best_of_all : (doc : Document) (most : ℤ) (room : TextRoom) (cs ds : List Candidate) → ds ≡ cs →
     (nears whole : List NearValue) → whole ≡ nears → (bs : List End) →
-    (AllByRecursion (IsNearIn doc most ds) whole → AreBest (kept_ends doc room (needed_in room.size ds whole)) bs) →
-    AllByRecursion (IsNearIn doc most cs) nears → AreBest (kept_ends doc room (needed_in room.size cs nears)) bs
+    (AllByRecursion (IsNearIn doc most ds) whole → AreBest (text_ends doc room (needed_in room.size ds whole)) bs) →
+    AllByRecursion (IsNearIn doc most cs) nears → AreBest (text_ends doc room (needed_in room.size cs nears)) bs
 best_of_all doc most room cs ds same nears whole all bs h =
     subst (λ (xs : List Candidate). AllByRecursion (IsNearIn doc most xs) nears →
-    AreBest (kept_ends doc room (needed_in room.size xs nears)) bs) same
+    AreBest (text_ends doc room (needed_in room.size xs nears)) bs) same
     (subst (λ (ns : List NearValue). AllByRecursion (IsNearIn doc most ds) ns →
-    AreBest (kept_ends doc room (needed_in room.size ds ns)) bs) all h)
+    AreBest (text_ends doc room (needed_in room.size ds ns)) bs) all h)

@@ -8,18 +8,19 @@ use Rattle.std.proofs.lemmas.Grind.{flat_map-append}
 use Rattle.std.proofs.lemmas.Int.{ints}
 use Rattle.std.proofs.lemmas.List.{length-map}
 use Rattle.std.proofs.lemmas.Option.{get_or_from_slice_get, same_Some, slice_get-get_or, slice_get-map, slice_get_past, slice_get_read, slice_get_within}
+use Rattle.std.specs.List.{AllByRecursion}
 use Rattle.pg_column.specs.declared.end.End.{End}
 use Rattle.pg_lemmas.proofs.Bools.{by_bool, either_way, if_false, if_true, not_both}
 use Rattle.pg_lemmas.proofs.Lists.{one_more}
 use Rattle.pg_list.proofs.BodyLemmas.{all_push}
 use Rattle.pg_rules.specs.Room.{Document}
 use Rattle.law_walk.specs.Best.{AreBest, IsAmong, IsUnder, end_cmp}
-use Rattle.law_walk.specs.Candidates.{Candidate, end_in, keeps_in, kept_ends}
+use Rattle.law_walk.specs.Candidates.{Candidate, end_in, keeps_text, text_ends}
 use Rattle.law_walk.proofs.BestLaws.{among_contains, contains_among, end_total, under_chain, under_itself}
 use Rattle.law_walk.proofs.Complete.{among_left, among_right}
 use Rattle.law_walk.proofs.Ends.{kept_listed, kept_of}
 use Rattle.pg_column.specs.declared.cost.TextRoom.{TextRoom}
-use Rattle.pg_candidates.specs.Nears.{IsWithin, AreNear, IsHopelessFrom, IsNear, IsNearIn, IsServedFrom, IsWorst, NearValue, Suffice, is_needed, kind_at, needed_in, needed_of, one_at}
+use Rattle.pg_candidates.specs.Nears.{IsWithin, AreNear, IsHopelessFrom, IsNear, IsNearIn, IsServedFrom, IsWorst, NearValue, NearsValue, Suffice, is_needed, kind_at, needed_in, needed_of, one_at}
 use Rattle.pg_candidates.specs.Seen.{AreSeen, AreServed, HasServer, IsLeading}
 use Rattle.pg_candidates.specs.View.{candidate_of}
 use Rattle.pg_candidates.specs.declared.candidate.Candidate.{Candidate as CandidateParts}
@@ -151,7 +152,7 @@ module _ (doc : Document) (most : ℤ) (cs : List Candidate) (seen : List ℕ) (
 
   module _ (near : NearValue) (at_is : near.at ≡ at) (c : Candidate) (there : slice_get cs at ≡ Some c)
       (is : IsNear doc most c near) where
-    itself : (room : TextRoom) → keeps_in doc room c ≡ true → is_needed room.size near.until ≡ true →
+    itself : (room : TextRoom) → keeps_text doc room c ≡ true → is_needed room.size near.until ≡ true →
         HasServer doc room (needed_in room.size cs (nears ++ near ∷ [])) c
     itself room keeps e = record {
       server = c;
@@ -163,7 +164,7 @@ module _ (doc : Document) (most : ℤ) (cs : List Candidate) (seen : List ℕ) (
       };
     }
 
-    served_one : ((room : TextRoom) → IsWithin most room → keeps_in doc room c ≡ true →
+    served_one : ((room : TextRoom) → IsWithin most room → keeps_text doc room c ≡ true →
         is_needed room.size near.until ≡ false → HasServer doc room (needed_in room.size cs nears) c) →
         AreServed doc most cs (seen ++ at ∷ []) (nears ++ near ∷ [])
     served_one other = record {
@@ -175,7 +176,7 @@ module _ (doc : Document) (most : ℤ) (cs : List Candidate) (seen : List ℕ) (
         | inr p ↦
             let e : c ≡ d = same_Some c d (sym there ∙ (ap (slice_get cs) p ∙ here)) in
             subst (HasServer doc room (needed_in room.size cs (nears ++ near ∷ []))) e
-            (own room gives (ap (keeps_in doc room) e ∙ keeps))
+            (own room gives (ap (keeps_text doc room) e ∙ keeps))
       ];
     }
       where
@@ -187,7 +188,7 @@ module _ (doc : Document) (most : ℤ) (cs : List Candidate) (seen : List ℕ) (
           serves = h.serves;
         }
 
-        own : (room : TextRoom) → IsWithin most room → keeps_in doc room c ≡ true →
+        own : (room : TextRoom) → IsWithin most room → keeps_text doc room c ≡ true →
             HasServer doc room (needed_in room.size cs (nears ++ near ∷ [])) c
         own room gives keeps = by_bool (is_needed room.size near.until) (itself room keeps)
             (λ f. longer room c (other room gives keeps f))
@@ -222,11 +223,11 @@ module _ (doc : Document) (most : ℤ) (cs : List Candidate) (seen : List ℕ) (
     };
   }
     where
-      hopeless : (room : TextRoom) → IsWithin most room → keeps_in doc room c ≡ true →
+      hopeless : (room : TextRoom) → IsWithin most room → keeps_text doc room c ≡ true →
           is_needed room.size near.until ≡ false → ⊥
       hopeless room gives keeps f =
           let w = out_of room.size near.until until f in
-          not_both (keeps_in doc room c) keeps (w.1.1 room gives w.1.0)
+          not_both (keeps_text doc room c) keeps (w.1.1 room gives w.1.0)
 
   -- one behind the first of its place
   pub seen_behind : (same : First) → first ≡ Some same →
@@ -275,17 +276,18 @@ near_all doc most cs order nears all are = record {
   right = are.right;
   suffice = λ room gives. record {
     among = λ x a.
-        let k = kept_of doc room (needed_in room.size cs nears) x a in
-        subst (λ (e : End). IsAmong e (kept_ends doc room cs)) (sym k.is)
-        (kept_listed doc room cs k.candidate (needed_listed room.size cs nears k.candidate k.listed) k.keeps);
+        let k = kept_of doc room (keeps_text doc room) (needed_in room.size cs nears) x a in
+        subst (λ (e : End). IsAmong e (text_ends doc room cs)) (sym k.is)
+        (kept_listed doc room (keeps_text doc room) cs k.candidate
+        (needed_listed room.size cs nears k.candidate k.listed) k.keeps);
     there = λ y a.
-        let k = kept_of doc room cs y a in
+        let k = kept_of doc room (keeps_text doc room) cs y a in
         let at = index_of cs k.candidate k.listed in
         let h = are.served at.0 k.candidate room gives (all at.0 at.1.0) at.1.1 k.keeps in
         let it = end_in doc room h.server in (
           it,
           (
-            kept_listed doc room (needed_in room.size cs nears) h.server h.listed h.serves.keeps,
+            kept_listed doc room (keeps_text doc room) (needed_in room.size cs nears) h.server h.listed h.serves.keeps,
             (
               subst (λ (e : End). end_cmp it e ≡ Equal) (sym k.is) h.serves.tied,
               subst (IsUnder it) (sym k.is) h.serves.under,
@@ -294,6 +296,18 @@ near_all doc most cs order nears all are = record {
         );
   };
 }
+
+-- the best of those that are needed are the best of all
+pub best_of_near : (doc : Document) (most : ℤ) (room : TextRoom) (cs : List Candidate) (it : NearsValue) (bs : List End) →
+    AreNear doc most cs it → IsWithin most room →
+    (AllByRecursion (IsNearIn doc most it.candidates) it.nears →
+    AreBest (text_ends doc room (needed_in room.size it.candidates it.nears)) bs) →
+    AreBest (text_ends doc room cs) bs
+best_of_near doc most room cs it bs near within best =
+    best_of_some (text_ends doc room cs) (text_ends doc room (needed_in room.size cs it.nears)) bs
+    (near.suffice room within)
+    (subst (λ (ds : List Candidate). AllByRecursion (IsNearIn doc most ds) it.nears →
+    AreBest (text_ends doc room (needed_in room.size ds it.nears)) bs) near.same best near.right)
 
 -- made of slices that hold these
 pub near_made : (doc : Document) (most : ℤ) (cs : List Candidate) (ps qs : List CandidateParts) (order is : List ℕ)

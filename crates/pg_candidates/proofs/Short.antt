@@ -15,7 +15,7 @@ use Rattle.pg_lemmas.proofs.Bools.{if_false, if_true}
 use Rattle.pg_rules.specs.Room.{Document}
 use Rattle.pg_sums.specs.Step.{badness_by, has_infinite}
 use Rattle.pg_sums.specs.declared.totals.Totals.{Totals}
-use Rattle.law_walk.specs.Candidates.{Candidate, cost_in, is_over_in, keeps_in}
+use Rattle.law_walk.specs.Candidates.{Candidate, cost_in, is_over_in, keeps_text}
 use Rattle.pg_candidates.specs.Nears.{IsWithin, IsWorst}
 
 -- ---- the badness
@@ -202,12 +202,12 @@ above n h = grind (arith, h)
 -- what is worst in a room keeps the rules there in no way, where that is refused
 pub no_end_in : (doc : Document) (most : ℤ) (room : TextRoom) (c : Candidate) → IsWithin most room →
     place_forced doc.blocks c.to ≡ false → place_spent doc.blocks c.to ≡ false → doc.style.tolerance < 10000 →
-    IsWorst doc.style most c room.size → keeps_in doc room c ≡ false
+    IsWorst doc.style most c room.size → keeps_text doc room c ≡ false
 no_end_in doc most room c le forced spent strict w =
     let here : (cost_in doc room c).badness ≡ 10000 =
     ap (λ (b : Bool). badness_for doc.style (goal_by doc.style room c.passed.notes) (give_by doc.style room c.passed.notes)
     c.passed.totals b) spent ∙ bad_in doc.style most c room le w in
     let none = above doc.style.tolerance strict in
     spoilt (place_forced doc.blocks c.to) _ (not (is_over_in doc.style room c.passed))
-    (fits c.passed.bound (most_room room) && int_le doc.style.min_text room.size) forced
+    (fits c.passed.bound (most_room room)) forced
     (ap (λ (n : ℕ). nat_le n doc.style.tolerance) here ∙ none)

@@ -1,6 +1,6 @@
 -- The least room for a column to a candidate's end.
-use Rattle.std.proofs.Common.{◌≡◌, refl, sym, ap, ◌∙◌, subst, List, [], ◌∷◌, ◌++◌, map, arith, Bool, true, false, Option, Some, None, ℤ, ◌<ℤ◌}
-use Rattle.std.specs.Prelude.{◌&&◌, ◌||◌, not, cond, filter, if◌then◌else◌, int_le, int_lt, nat_le, slice_get}
+use Rattle.std.proofs.Common.{◌≡◌, refl, sym, ap, ◌∙◌, subst, List, [], ◌∷◌, ◌++◌, arith, Bool, true, false, Option, Some, None, ℤ, ◌<ℤ◌}
+use Rattle.std.specs.Prelude.{◌&&◌, ◌||◌, not, if◌then◌else◌, int_le, nat_le, slice_get}
 use Rattle.std.proofs.lemmas.Int.{ints}
 use Rattle.pg_breaks.specs.Near.{place_forced}
 use Rattle.pg_column.specs.Numbers.{most_room}
@@ -11,8 +11,9 @@ use Rattle.pg_column.specs.declared.end.End.{End}
 use Rattle.pg_lemmas.proofs.Bools.{if_false}
 use Rattle.pg_rules.specs.Room.{Document}
 use Rattle.law_walk.specs.Best.{AreBest}
-use Rattle.law_walk.specs.Candidates.{Candidate, cost_in, end_in, is_over_in, keeps_in, kept_ends}
+use Rattle.law_walk.specs.Candidates.{Candidate, cost_in, has_text, is_over_in, keeps_text, kept_ends, text_ends}
 use Rattle.law_walk.proofs.BestLaws.{best_are}
+use Rattle.law_walk.proofs.Ends.{kept_all, kept_none}
 use Rattle.pg_candidates.specs.Nears.{IsLeastRoom, IsNearIn, NearValue, is_needed, needed_of, one_at}
 use Rattle.pg_candidates.proofs.Kept.{keep_more}
 use Rattle.pg_candidates.proofs.Nears.{best_same}
@@ -35,58 +36,42 @@ least_is doc c least own is whole room =
 
 -- ---- one that is not asked
 
-no_way : (over good suits text : Bool) → (not over && suits) ≡ false → ((not over && good) && (suits && text)) ≡ false
-no_way true good suits text h = refl
-no_way false true true text h = absurd cc
-no_way false true false text h = refl
-no_way false false suits text h = refl
+no_way : (over good suits : Bool) → (not over && suits) ≡ false → ((not over && good) && suits) ≡ false
+no_way true good suits h = refl
+no_way false true suits h = h
+no_way false false suits h = refl
 
 hopeless_below : (doc : Document) (c : Candidate) (least : ℤ) (room : TextRoom) → IsLeastRoom doc c least →
-    most_room room <ℤ least → keeps_in doc room c ≡ false
+    most_room room <ℤ least → keeps_text doc room c ≡ false
 hopeless_below doc c least room is low =
     let below : int_le least (most_room room) ≡ false = grind (arith, ints, low) in
     no_way (is_over_in doc.style room c.passed)
     (place_forced doc.blocks c.to || nat_le (cost_in doc room c).badness doc.style.tolerance)
-    (fits c.passed.bound (most_room room)) (int_le doc.style.min_text room.size) (is room ∙ below)
+    (fits c.passed.bound (most_room room)) (is room ∙ below)
 
 pub best_below : (doc : Document) (most : ℤ) (room : TextRoom) (cs ds : List Candidate) (near : NearValue)
-    (bs : List End) → most_room room <ℤ near.least → IsNearIn doc most ds near → AreBest (kept_ends doc room cs) bs →
-    AreBest (kept_ends doc room (cs ++ needed_of room.size ds near)) bs
+    (bs : List End) → most_room room <ℤ near.least → IsNearIn doc most ds near → AreBest (text_ends doc room cs) bs →
+    AreBest (text_ends doc room (cs ++ needed_of room.size ds near)) bs
 best_below doc most room cs ds near bs low is best = by (is_needed room.size near.until) (slice_get ds near.at) refl
   where
     by : (b : Bool) (o : Option Candidate) → slice_get ds near.at ≡ o →
-        AreBest (kept_ends doc room (cs ++ (if b then one_at o else []))) bs
+        AreBest (text_ends doc room (cs ++ (if b then one_at o else []))) bs
     by false o e = best_same doc room cs bs best
     by true None e = best_same doc room cs bs best
-    by true (Some c) e = subst (AreBest (kept_ends doc room (cs ++ c ∷ [])))
-        (if_false (keeps_in doc room c) _ _ (hopeless_below doc c near.least room (is c e).least low))
+    by true (Some c) e = subst (AreBest (text_ends doc room (cs ++ c ∷ [])))
+        (if_false (keeps_text doc room c) _ _ (hopeless_below doc c near.least room (is c e).least low))
         (keep_more doc room cs c bs best)
 
--- ---- less than the least text
-
-too_little : (a b : Bool) → (a && (b && false)) ≡ false
-too_little true true = refl
-too_little true false = refl
-too_little false b = refl
+-- ---- a room below the least one of a text
 
 -- no column to any end keeps the rules
-none_kept : (doc : Document) (room : TextRoom) → int_le doc.style.min_text room.size ≡ false → (cs : List Candidate) →
-    kept_ends doc room cs ≡ []
-none_kept doc room low [] = refl
-none_kept doc room low (c ∷ cs) =
-    by (keeps_in doc room c)
-    (ap (λ (text : Bool). (not (is_over_in doc.style room c.passed)
-    && (place_forced doc.blocks c.to || nat_le (cost_in doc room c).badness doc.style.tolerance))
-    && (fits c.passed.bound (most_room room) && text)) low
-    ∙ too_little (not (is_over_in doc.style room c.passed)
-    && (place_forced doc.blocks c.to || nat_le (cost_in doc room c).badness doc.style.tolerance))
-    (fits c.passed.bound (most_room room))) (none_kept doc room low cs)
-  where
-    by : (b : Bool) → b ≡ false → kept_ends doc room cs ≡ [] →
-        map (end_in doc room) (cond b (c ∷ filter (keeps_in doc room) cs) (filter (keeps_in doc room) cs)) ≡ []
-    by true e none = absurd cc
-    by false e none = none
-
-pub best_none : (doc : Document) (room : TextRoom) → int_le doc.style.min_text room.size ≡ false → (cs : List Candidate) →
+pub best_none : (doc : Document) (room : TextRoom) → has_text doc.style room ≡ false → (cs : List Candidate) →
     AreBest (kept_ends doc room cs) []
-best_none doc room low cs = subst (λ (es : List End). AreBest es []) (sym (none_kept doc room low cs)) (best_are [])
+best_none doc room low cs = subst (λ (es : List End). AreBest es []) (sym (kept_none doc room low cs)) (best_are [])
+
+-- ---- a room that is not
+
+-- the best of those that keep the rules on their text are the best of those that keep the rules
+pub best_text : (doc : Document) (room : TextRoom) → has_text doc.style room ≡ true → (cs : List Candidate)
+    (bs : List End) → AreBest (text_ends doc room cs) bs → AreBest (kept_ends doc room cs) bs
+best_text doc room text cs bs best = subst (λ (es : List End). AreBest es bs) (sym (kept_all doc room text cs)) best

@@ -19,7 +19,7 @@ use Rattle.pg_style.specs.declared.style.Give.{Give}
 use Rattle.pg_sums.specs.Step.{badness_by}
 use Rattle.pg_sums.specs.declared.totals.Totals.{Totals}
 use Rattle.law_walk.specs.Best.{IsAmong, IsUnder, end_cmp}
-use Rattle.law_walk.specs.Candidates.{AreCandidates, Candidate, end_in, is_over_in, keeps_in, kept_ends}
+use Rattle.law_walk.specs.Candidates.{AreCandidates, Candidate, end_in, is_over_in, keeps_text, text_ends}
 use Rattle.law_walk.specs.Reached.{tallest}
 use Rattle.pg_candidates.specs.declared.kind.EndKind.{EndKind}
 
@@ -156,7 +156,7 @@ pub record AreNear (doc : Document) (most : ℤ) (cs : List Candidate) (it : Nea
   pub same : it.candidates ≡ cs
   pub right : AllByRecursion (IsNearIn doc most cs) it.nears
   pub suffice : (room : TextRoom) → IsWithin most room →
-      Suffice (kept_ends doc room cs) (kept_ends doc room (needed_in room.size cs it.nears))
+      Suffice (text_ends doc room cs) (text_ends doc room (needed_in room.size cs it.nears))
 
 -- of candidates that suffice from a place up to a greatest room
 pub record AreNearFrom (doc : Document) (from : Place) (top most : ℤ) (it : NearsValue) : Type 0 where
@@ -176,18 +176,18 @@ IsWorst style most c size =
     IsWorstAt style most c.passed.totals (skips style.classes c.passed.notes)
     (size -ℤ pos (heights style.classes c.passed.notes))
 
--- in a room one candidate keeps the rules, with an end of the other's place and fitness that is no worse
+-- in a room one candidate keeps the rules on its text, with an end of the other's place and fitness that is no worse
 pub record Serves (doc : Document) (room : TextRoom) (one other : Candidate) : Type 0 where
-  pub keeps : keeps_in doc room one ≡ true
+  pub keeps : keeps_text doc room one ≡ true
   pub tied : end_cmp (end_in doc room one) (end_in doc room other) ≡ Equal
   pub under : IsUnder (end_in doc room one) (end_in doc room other)
 
--- from a size on no column to a candidate's end keeps the rules
+-- from a size on no column to a candidate's end keeps the rules on its text
 abbrev pub IsHopelessFrom : Document → ℤ → Candidate → ℤ → Type 0
 IsHopelessFrom doc most c from = (room : TextRoom) → IsWithin most room → from ≤ℤ room.size →
-    keeps_in doc room c ≡ false
+    keeps_text doc room c ≡ false
 
--- from a size on one candidate serves for the other, where that keeps the rules
+-- from a size on one candidate serves for the other, where that keeps the rules on its text
 abbrev pub IsServedFrom : Document → ℤ → Candidate → Candidate → ℤ → Type 0
 IsServedFrom doc most one other from = (room : TextRoom) → IsWithin most room → from ≤ℤ room.size →
-    keeps_in doc room other ≡ true → Serves doc room one other
+    keeps_text doc room other ≡ true → Serves doc room one other

@@ -5,8 +5,9 @@
 //! (`reach_along`) and whether the notes passed take room; `ends_on` finds the ends alone;
 //! `CandidateList::into_near` works out of candidates what no room changes, below which room no column to the end of each
 //! keeps the rules, and from which room on that end is not needed (`AreNear`: in each room the ends of those that are
-//! needed there suffice); `NearList::ends_in` gives the best ends in a room (`AreBest`), and so, of candidates that
-//! suffice (`AreCandidates`), all ends in it (`AreEnds`).
+//! needed there suffice); `NearList::text_ends` gives the best ends in a room however low the room is (`AreBest`);
+//! `NearList::room_ends` and `ends_in` give them where the room is not below the least one of a text, and so, of
+//! candidates that suffice (`AreCandidates`), all ends in it (`AreEnds`).
 #![tactic(auto)]
 
 mod along;
@@ -24,4 +25,5 @@ mod until;
 pub use along::{Walked, ends_on, walk_on};
 pub use candidate::{Candidate, CandidateList};
 pub use near::NearList;
+pub use room::has_text;
 pub use room_end::RoomEnd;

@@ -1,5 +1,5 @@
 //! The ends in a room among candidates.
-ghost use Rattle.std.specs.Prelude.{◌≡◌, ◌<◌, ◌^◌, ◌≤ℤ◌, ◌-ℤ◌, ◌||◌, ◌++◌, ◌∷◌, [], ℤ, List, true, false, int_le, int_lt, map, nat_le, OnOk, IfOk, IfSome, nat_abs, slice_get, Some};
+ghost use Rattle.std.specs.Prelude.{◌≡◌, ◌<◌, ◌^◌, ◌≤ℤ◌, ◌-ℤ◌, ◌||◌, ◌++◌, ◌∷◌, [], ℤ, List, false, int_lt, map, nat_le, OnOk, IfOk, IfSome, nat_abs, slice_get, Some};
 ghost use Rattle.std.specs.List.{AllByRecursion};
 ghost use Rattle.pg_list.specs.GalleyValue.{GalleyValue};
 ghost use Rattle.pg_list.specs.declared.galley.Place.{Place as APlace};
@@ -8,7 +8,7 @@ ghost use Rattle.pg_style.specs.Plain.{plus_give};
 ghost use Rattle.pg_column.specs.Ends.{AreEnds};
 ghost use Rattle.pg_rules.specs.Legal.{document};
 ghost use Rattle.law_walk.specs.Best.{AreBest};
-ghost use Rattle.law_walk.specs.Candidates.{AreCandidates, Candidate as ACandidate, kept_ends};
+ghost use Rattle.law_walk.specs.Candidates.{AreCandidates, Candidate as ACandidate, has_text as has_text_of, kept_ends, text_ends};
 ghost use Rattle.pg_candidates.specs.Nears.{AreNear, IsNear, IsNearIn, IsWithin, IsWorstCost, needed_in, needed_of};
 ghost use Rattle.pg_candidates.specs.RoomEnds.{ends_of};
 ghost use Rattle.pg_candidates.specs.View.{candidate_of};
@@ -76,8 +76,8 @@ fn cost_of(style: &Style, room: &TextRoom, near: &Near) -> TextCost
     }
 }
 
-// Adds the end of the candidate that this is of, where it keeps the rules in a room that is not below its least one and no
-// end there is better.
+// Adds the end of the candidate that this is of, where it keeps the rules on its text in a room that is not below its least
+// one and no end there is better.
 fn keep_end(
     style: &Style,
     room: &TextRoom,
@@ -86,14 +86,13 @@ fn keep_end(
     ends: &mut Vec<RoomEnd>,
 ) -> Result<(), AllocError>
     requires size { IsRoom room.now }
-    requires text { int_le style.now.min_text room.now.size ≡ true }
     requires high { int_lt (most_room room.now) near.now.least ≡ false }
     ensures { OnOk result ((g : GalleyValue) (most : ℤ) → room.now.give.stretch ≤ℤ most → (cs : List ACandidate)
         (c : ACandidate) → slice_get (map candidate_of candidates.now) near.now.at ≡ Some c →
         IsNear (document g style.now) most c near.now →
-        AreBest (kept_ends (document g style.now) room.now cs)
+        AreBest (text_ends (document g style.now) room.now cs)
         (ends_of (map candidate_of candidates.now) ends.old.items) →
-        AreBest (kept_ends (document g style.now) room.now (cs ++ c ∷ []))
+        AreBest (text_ends (document g style.now) room.now (cs ++ c ∷ []))
         (ends_of (map candidate_of candidates.now) ends.new.items)) }
 {
     let cost = cost_of(style, room, near);
@@ -112,12 +111,11 @@ fn keep_near(
     ends: &mut Vec<RoomEnd>,
 ) -> Result<(), AllocError>
     requires size { IsRoom room.now }
-    requires text { int_le style.now.min_text room.now.size ≡ true }
     ensures { OnOk result ((g : GalleyValue) (most : ℤ) → room.now.give.stretch ≤ℤ most → (cs : List ACandidate) →
         IsNearIn (document g style.now) most (map candidate_of candidates.now) near.now →
-        AreBest (kept_ends (document g style.now) room.now cs)
+        AreBest (text_ends (document g style.now) room.now cs)
         (ends_of (map candidate_of candidates.now) ends.old.items) →
-        AreBest (kept_ends (document g style.now) room.now
+        AreBest (text_ends (document g style.now) room.now
         (cs ++ needed_of room.now.size (map candidate_of candidates.now) near.now))
         (ends_of (map candidate_of candidates.now) ends.new.items)) }
 {
@@ -133,14 +131,38 @@ fn keep_near(
     keep_end(style, room, candidates, near, ends)
 }
 
-// Whether a room is at least the style's least.
-fn has_text(style: &Style, room: &TextRoom) -> bool
-    ensures { result ≡ int_le style.now.min_text room.now.size }
+/// Whether a room is at least the style's least.
+pub fn has_text(style: &Style, room: &TextRoom) -> bool
+    ensures { result ≡ has_text_of style.now room.now }
 {
     i64::from(style.min_text) <= room.size
 }
 
 impl NearList {
+    /// The ends in a room of the columns that keep the rules on their text however low the room is, best for each place and
+    /// fitness, each with the number of its candidate.
+    ///
+    /// Condition: the numbers of the room are below 2^40 in size. The one refusal is want of memory.
+    pub fn text_ends(
+        &self,
+        alloc: Global,
+        style: &Style,
+        room: &TextRoom,
+    ) -> Result<Vec<RoomEnd>, AllocError>
+        requires { IsRoom room.now }
+        ensures best { IfOk result (λ ends. (g : GalleyValue) (most : ℤ) → room.now.give.stretch ≤ℤ most →
+            AllByRecursion (IsNearIn (document g style.now) most self.now.candidates) self.now.nears →
+            AreBest (text_ends (document g style.now) room.now
+            (needed_in room.now.size self.now.candidates self.now.nears)) (ends_of self.now.candidates ends.items)) }
+    {
+        let candidates = self.candidates.as_slice();
+        let mut ends = Vec::with_capacity(alloc, self.nears.len().min(ROOM))?;
+        'each: for near in self.nears.as_slice() {
+            keep_near(style, room, candidates, near, &mut ends)?;
+        }
+        Ok(ends)
+    }
+
     /// The ends in a room of the columns from the place whose candidates these are: for each place and fitness the best of
     /// those that keep the rules on one column, each with the number of its candidate. Of candidates that suffice up to a
     /// greatest room they are all ends in each room up to it, where the gaps of its areas are shrunk, and stretched by no
@@ -167,15 +189,10 @@ impl NearList {
         style.stays_in_range();
         let _ = galley.blocks().as_slice();
         candidates_give_ends(galley, style);
-        let candidates = self.candidates.as_slice();
         if !has_text(style, room) {
             return Ok(Vec::new(alloc));
         }
-        let mut ends = Vec::with_capacity(alloc, self.nears.len().min(ROOM))?;
-        'each: for near in self.nears.as_slice() {
-            keep_near(style, room, candidates, near, &mut ends)?;
-        }
-        Ok(ends)
+        self.text_ends(alloc, style, room)
     }
 
     /// The same ends with their picks.

@@ -1,7 +1,7 @@
 -- The steps of all columns.
 use Rattle.std.proofs.Common.{◌≡◌, refl, sym, ap, subst, ◌∙◌, List, [], ◌∷◌, ◌++◌, map, Bool, true, false, ℕ, ℤ}
 use Rattle.std.specs.Prelude.{Contains, if◌then◌else◌, Result, Ok, Err, IfOk, IsErr, OnOk}
-use Rattle.std.specs.List.{filter, flat_map}
+use Rattle.std.specs.List.{AllByRecursion, filter, flat_map}
 use Rattle.pg_list.specs.GalleyValue.{GalleyValue}
 use Rattle.pg_list.specs.declared.galley.Place.{Place}
 use Rattle.pg_plan.specs.declared.pages.PageMove.{PageMove}
@@ -26,10 +26,11 @@ use Rattle.law_moves.specs.Laws.{ListedAreMoves, ReachIsCeiling}
 use Rattle.law_moves.specs.Listed.{beyond, listed_floats, listed_stay, listed_text, stays_on}
 use Rattle.law_moves.specs.Steps.{IsCeiling, text_room}
 use Rattle.pg_rooms.specs.Laid.{laid_of}
+use Rattle.law_walk.specs.Candidates.{has_text}
 use Rattle.law_walk.specs.Laws.{CandidatesGiveEnds}
-use Rattle.pg_rooms.specs.PlaceEnds.{ArePlaceEnds, all_ends, has_behind, has_room}
+use Rattle.pg_rooms.specs.PlaceEnds.{ArePlaceEnds, IsPageRoom, all_ends, has_behind, has_room}
 use Rattle.pg_rooms.specs.declared.place_ends.PlaceEnds.{PlaceEnds}
-use Rattle.pg_rooms.proofs.Kept.{room_right}
+use Rattle.pg_rooms.proofs.Kept.{all_contain, room_right}
 use Rattle.pg_moves.specs.Stepping.{AreTextSteps, all_steps_in, stay_in}
 use Rattle.pg_rooms.specs.declared.laid.Laid.{Laid}
 use Rattle.pg_moves.specs.Thinned.{Adds, Thins}
@@ -45,13 +46,15 @@ laid_own doc u layouts it c = of_map (laid_of doc u) layouts it (contains_among 
 pub text_steps_are : (doc : Document) → CandidatesGiveEnds doc → (u : State) (ceiling : List ℕ) (kept : PlaceEnds)
     (laid : List Laid) (spared : State → ℤ → Bool) (old steps : List (Step State PageMove)) →
     laid ≡ map (laid_of doc u) (text_layouts doc u ceiling) →
-    ((it : Laid) → Contains laid it → has_room kept.rooms.items it.room ≡ true) →
-    ((it : Laid) → Contains laid it → has_behind kept.behind it.room ≡ true) → ArePlaceEnds doc u.place kept →
-    old ≡ [] → Adds spared old (flat_map (all_steps_in doc u kept) laid) steps →
+    AllByRecursion (λ (it : Laid). IsPageRoom doc.style it.room) laid →
+    ((it : Laid) → Contains laid it → has_text doc.style it.room ≡ true → has_room kept.rooms.items it.room ≡ true) →
+    ((it : Laid) → Contains laid it → has_text doc.style it.room ≡ true → has_behind kept.behind it.room ≡ true) →
+    ArePlaceEnds doc u.place kept → old ≡ [] → Adds spared old (flat_map (all_steps_in doc u kept) laid) steps →
     AreTextSteps doc u ceiling spared steps
-text_steps_are doc law u ceiling kept laid spared old steps e held behind right none adds = record {
-  ends = λ layout. all_ends kept (text_room doc u layout);
-  are = λ layout c. room_right doc law u.place kept (text_room doc u layout) right
+text_steps_are doc law u ceiling kept laid spared old steps e low held behind right none adds = record {
+  ends = λ layout. all_ends doc.style kept (text_room doc u layout);
+  are = λ layout c. room_right doc law u.place kept (text_room doc u layout)
+      (all_contain (λ (it : Laid). IsPageRoom doc.style it.room) laid (laid_of doc u layout) low (among layout c)) right
       (held (laid_of doc u layout) (among layout c)) (behind (laid_of doc u layout) (among layout c));
   thins = subst (Thins spared steps)
       (ap (flat_map (all_steps_in doc u kept)) e ∙ laid_steps doc u kept (text_layouts doc u ceiling))

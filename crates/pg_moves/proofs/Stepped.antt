@@ -2,16 +2,19 @@
 use Rattle.std.proofs.Common.{◌≡◌, refl, sym, ap, subst, ◌∙◌, ℕ, ◌+◌, ◌<◌, zero, suc, arith, List, [], ◌∷◌, ◌++◌, append_assoc, length, take, drop, get_or, true, false, Bool, map, Option, Some, None, IfSome, ℤ}
 use Rattle.std.specs.Prelude.{◌&&◌, not, if◌then◌else◌}
 use Rattle.std.specs.List.{AllByRecursion, filter, flat_map}
+use Rattle.std.specs.Option.{option_map_or}
 use Rattle.std.proofs.lemmas.List.{append-nil, get_or_default, map-append, take-append-drop}
 use Rattle.std.proofs.lemmas.List.Elements.{filter-append}
 use Rattle.pg_list.specs.declared.galley.Place.{Place}
 use Rattle.pg_plan.specs.declared.pages.PageMove.{PageMove}
 use Rattle.pg_plan.specs.declared.states.State.{State}
+use Rattle.pg_column.specs.declared.cost.TextRoom.{TextRoom}
 use Rattle.pg_column.specs.declared.end.End.{End}
 use Rattle.pg_candidates.specs.RoomEnds.{end_of, ends_of}
 use Rattle.pg_candidates.specs.declared.room_end.RoomEnd.{RoomEnd}
-use Rattle.law_walk.specs.Candidates.{Candidate}
+use Rattle.law_walk.specs.Candidates.{Candidate, has_text}
 use Rattle.pg_list.specs.Flat.{is_same_place}
+use Rattle.pg_lemmas.proofs.Bools.{if_true}
 use Rattle.pg_lemmas.proofs.Lists.{one_more}
 use Rattle.pg_layouts.specs.declared.layout.Layout.{Layout}
 use Rattle.pg_rules.specs.Follow.{turns}
@@ -24,16 +27,16 @@ use Rattle.pg_sources.specs.Document.{before_of}
 use Rattle.pg_sources.specs.declared.calls.Before.{Before}
 use Rattle.pg_rooms.specs.Laid.{laid_of}
 use Rattle.pg_rooms.specs.declared.laid.Laid.{Laid}
-use Rattle.pg_rooms.specs.PlaceEnds.{AreFrontEnds, AreGroups, AreRoomEnds, all_ends, behind_candidates, behind_rooms, ends_in, groups_in}
+use Rattle.pg_rooms.specs.PlaceEnds.{AreFrontEnds, AreGroups, AreRoomEnds, all_ends, ends_behind, ends_in, ends_left, groups_in, higher_end, room_behind}
+use Rattle.pg_rooms.specs.declared.behind.Behind.{Behind}
 use Rattle.pg_rooms.specs.declared.grouping.Group.{Group}
-use Rattle.pg_rooms.specs.declared.place_ends.FrontEnds.{FrontEnds}
 use Rattle.pg_rooms.specs.declared.place_ends.PlaceEnds.{PlaceEnds}
 use Rattle.pg_rooms.specs.declared.place_ends.RoomEnds.{RoomEnds}
 use Rattle.pg_rooms.proofs.Kept.{groups_right}
 use Rattle.pg_states.specs.Settling.{Settles}
 use Rattle.pg_states.specs.declared.settling.Settled.{Settled}
 use Rattle.pg_layouts.proofs.OneMore.{flat_next}
-use Rattle.pg_moves.specs.Stepping.{IsOpenAt, all_steps_in, steps_in}
+use Rattle.pg_moves.specs.Stepping.{IsOpenAt, all_steps_in, steps_at, steps_behind}
 use Rattle.pg_moves.specs.Thinned.{Adds}
 use Rattle.pg_moves.proofs.Added.{adds_more, adds_none, adds_one, adds_same, adds_spared}
 
@@ -215,18 +218,60 @@ both_lists doc u layout (e ∷ es) fs = by (goes_on doc u layout e) (both_lists 
     by true h = ap (λ (steps : List (Step State PageMove)). listed_end doc u layout e ∷ steps) h
     by false h = h
 
+-- the steps to ends with more height before them are the same
+higher_steps : (doc : Document) (u : State) (layout : Layout) (height : ℤ) (es : List End) →
+    listed_with doc u (λ _. map (higher_end height) es) layout ≡ listed_with doc u (λ _. es) layout
+higher_steps doc u layout height [] = refl
+higher_steps doc u layout height (e ∷ es) = by (goes_on doc u layout e) (higher_steps doc u layout height es)
+  where
+    by : (b : Bool) → listed_with doc u (λ _. map (higher_end height) es) layout ≡ listed_with doc u (λ _. es) layout →
+        map (listed_end doc u layout)
+        (if b then higher_end height e ∷ filter (goes_on doc u layout) (map (higher_end height) es)
+        else filter (goes_on doc u layout) (map (higher_end height) es))
+        ≡ map (listed_end doc u layout)
+        (if b then e ∷ filter (goes_on doc u layout) es else filter (goes_on doc u layout) es)
+    by true h = ap (λ (steps : List (Step State PageMove)). listed_end doc u layout e ∷ steps) h
+    by false h = h
+
+-- the steps behind a front are those to the ends there
+steps_there : (doc : Document) (u : State) (o : Option Behind) (it : Laid) →
+    steps_behind doc u o it ≡ listed_with doc u (λ _. ends_behind o it.room) it.layout
+steps_there doc u None it = refl
+steps_there doc u (Some behind) it = by (room_behind behind it.room)
+  where
+    by : (left : Option TextRoom) → option_map_or (λ (x : TextRoom).
+        steps_at doc u behind.ends.walk.near.candidates behind.ends.rooms.items x it) left []
+        ≡ listed_with doc u (λ _. option_map_or (λ (x : TextRoom).
+        map (higher_end behind.by) (ends_left behind x)) left []) it.layout
+    by None = refl
+    by (Some x) = sym (higher_steps doc u it.layout behind.by (ends_left behind x))
+
+-- the steps of a laid layout are those to all ends in its room
+steps_all : (doc : Document) (u : State) (kept : PlaceEnds) (it : Laid) →
+    all_steps_in doc u kept it ≡ listed_with doc u (λ _. all_ends doc.style kept it.room) it.layout
+steps_all doc u kept it = by (has_text doc.style it.room)
+  where
+    first : List End
+    first = ends_of kept.walk.near.candidates (ends_in kept.rooms.items it.room)
+
+    by : (b : Bool) → (if b then listed_with doc u (λ _. first) it.layout ++ steps_behind doc u kept.behind it else [])
+        ≡ listed_with doc u (λ _. if b then first ++ ends_behind kept.behind it.room else []) it.layout
+    by true = ap (λ (steps : List (Step State PageMove)). listed_with doc u (λ _. first) it.layout ++ steps)
+        (steps_there doc u kept.behind it)
+        ∙ both_lists doc u it.layout first (ends_behind kept.behind it.room)
+    by false = refl
+
 -- the steps of laid layouts are those of the layouts, by all ends in their rooms
 pub laid_steps : (doc : Document) (u : State) (kept : PlaceEnds) (layouts : List Layout) →
     flat_map (all_steps_in doc u kept) (map (laid_of doc u) layouts)
-    ≡ flat_map (listed_with doc u (λ layout. all_ends kept (text_room doc u layout))) layouts
+    ≡ flat_map (listed_with doc u (λ layout. all_ends doc.style kept (text_room doc u layout))) layouts
 laid_steps doc u kept [] = refl
 laid_steps doc u kept (layout ∷ layouts) =
     ap (λ (steps : List (Step State PageMove)).
     steps ++ flat_map (all_steps_in doc u kept) (map (laid_of doc u) layouts))
-    (both_lists doc u layout (ends_of kept.walk.near.candidates (ends_in kept.rooms.items (text_room doc u layout)))
-    (ends_of (behind_candidates kept.behind) (ends_in (behind_rooms kept.behind) (text_room doc u layout))))
+    (steps_all doc u kept (laid_of doc u layout))
     ∙ ap (λ (steps : List (Step State PageMove)).
-    listed_with doc u (λ _. all_ends kept (text_room doc u layout)) layout ++ steps)
+    listed_with doc u (λ _. all_ends doc.style kept (text_room doc u layout)) layout ++ steps)
     (laid_steps doc u kept layouts)
 
 -- what holds of each of a list holds at an index
@@ -301,33 +346,44 @@ groups_done doc u spared cs layout groups [] ends rest old new less so_far all =
 groups_done doc u spared cs layout groups (group ∷ left) ends rest old new less so_far all =
     absurd (omega (arith, less))
 
--- the steps to the ends that are kept of the room of a layout
+-- the steps to the ends that are kept of a room
 pub in_room : (doc : Document) (u : State) (spared : State → ℤ → Bool) (it : Laid) (cs : List Candidate)
-    (rooms : List RoomEnds) (groups : List Group) (ends : List RoomEnd) (old new : List (Step State PageMove)) →
-    groups ≡ groups_in rooms it.room → ends ≡ ends_in rooms it.room →
+    (rooms : List RoomEnds) (room : TextRoom) (groups : List Group) (ends : List RoomEnd)
+    (old new : List (Step State PageMove)) → groups ≡ groups_in rooms room → ends ≡ ends_in rooms room →
     (AreGroups doc groups ends → Adds spared old (listed_of doc u cs it.layout ends) new) →
-    AllByRecursion (AreRoomEnds doc cs) rooms → Adds spared old (steps_in doc u cs rooms it) new
-in_room doc u spared it cs rooms groups ends old new g e step right =
+    AllByRecursion (AreRoomEnds doc cs) rooms → Adds spared old (steps_at doc u cs rooms room it) new
+in_room doc u spared it cs rooms room groups ends old new g e step right =
     subst (λ (xs : List RoomEnd). Adds spared old (listed_of doc u cs it.layout xs) new) e
     (step (subst (λ (gs : List Group). AreGroups doc gs ends) (sym g)
-    (subst (AreGroups doc (groups_in rooms it.room)) (sym e) (groups_right doc cs rooms it.room right))))
+    (subst (AreGroups doc (groups_in rooms room)) (sym e) (groups_right doc cs rooms room right))))
 
--- none are added where nothing is kept behind the front
-pub none_behind : (doc : Document) (u : State) (spared : State → ℤ → Bool) (it : Laid) (o : Option FrontEnds)
-    (old : List (Step State PageMove)) → o ≡ None →
-    Adds spared old (steps_in doc u (behind_candidates o) (behind_rooms o) it) old
-none_behind doc u spared it o old e = subst (λ (o : Option FrontEnds).
-    Adds spared old (steps_in doc u (behind_candidates o) (behind_rooms o) it) old) (sym e) (adds_none spared old)
+module _ (doc : Document) (u : State) (spared : State → ℤ → Bool) (it : Laid) (kept : PlaceEnds)
+    (text : has_text doc.style it.room ≡ true) where
+  abbrev first_steps : List (Step State PageMove)
+  first_steps = steps_at doc u kept.walk.near.candidates kept.rooms.items it.room it
 
--- those of what is kept there
-pub some_behind : (doc : Document) (u : State) (spared : State → ℤ → Bool) (it : Laid) (o : Option FrontEnds)
-    (ends : FrontEnds) (old new : List (Step State PageMove)) → o ≡ Some ends → IfSome o (AreFrontEnds doc) →
-    (AllByRecursion (AreRoomEnds doc ends.walk.near.candidates) ends.rooms.items →
-    Adds spared old (steps_in doc u ends.walk.near.candidates ends.rooms.items it) new) →
-    Adds spared old (steps_in doc u (behind_candidates o) (behind_rooms o) it) new
-some_behind doc u spared it o ends old new e are step = subst (λ (o : Option FrontEnds).
-    Adds spared old (steps_in doc u (behind_candidates o) (behind_rooms o) it) new) (sym e)
-    (step (subst (λ (o : Option FrontEnds). IfSome o (AreFrontEnds doc)) e are).rooms)
+  -- those along the first stretch, and then those behind the front
+  added_on : (old mid new : List (Step State PageMove)) → Adds spared old first_steps mid →
+      Adds spared mid (steps_behind doc u kept.behind it) new → Adds spared old (all_steps_in doc u kept it) new
+  added_on old mid new first later = adds_same spared old new (first_steps ++ steps_behind doc u kept.behind it)
+      (all_steps_in doc u kept it)
+      (sym (if_true (has_text doc.style it.room) (first_steps ++ steps_behind doc u kept.behind it) [] text))
+      (adds_more spared old mid new first_steps (steps_behind doc u kept.behind it) first later)
+
+  -- where nothing is kept behind it
+  pub added_alone : (old mid : List (Step State PageMove)) → kept.behind ≡ None → Adds spared old first_steps mid →
+      Adds spared old (all_steps_in doc u kept it) mid
+  added_alone old mid none first = added_on old mid mid first
+      (subst (λ (o : Option Behind). Adds spared mid (steps_behind doc u o it) mid) (sym none) (adds_none spared mid))
+
+  -- where something is
+  pub added_both : (behind : Behind) (old mid new : List (Step State PageMove)) → kept.behind ≡ Some behind →
+      IfSome kept.behind (λ (b : Behind). AreFrontEnds doc b.ends) → Adds spared old first_steps mid →
+      (AreFrontEnds doc behind.ends → Adds spared mid (steps_behind doc u (Some behind) it) new) →
+      Adds spared old (all_steps_in doc u kept it) new
+  added_both behind old mid new some are first step = added_on old mid new first
+      (subst (λ (o : Option Behind). Adds spared mid (steps_behind doc u o it) new) (sym some)
+      (step (subst (λ (o : Option Behind). IfSome o (λ (b : Behind). AreFrontEnds doc b.ends)) some are)))
 
 -- the steps of one layout more
 pub layouts_more : {X : Type 0} (f : X → List (Step State PageMove)) (spared : State → ℤ → Bool)

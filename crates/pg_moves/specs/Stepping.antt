@@ -1,5 +1,7 @@
 -- The parts of a step to an end, from what is settled there.
 use Rattle.std.specs.Prelude.{◌≡◌, ℕ, ◌+◌, ◌*◌, ◌^◌, ◌≤◌, nat_abs, Bool, true, ◌==◌, ◌&&◌, ◌||◌, nat_lt, if◌then◌else◌, is_some, List, [], ◌∷◌, ◌++◌, Option, Some, None, ℤ, pos, ◌+ℤ◌}
+use Rattle.std.specs.Option.{option_map_or}
+use Rattle.pg_column.specs.declared.cost.TextRoom.{TextRoom}
 use Rattle.pg_list.specs.declared.galley.Place.{Place}
 use Rattle.pg_plan.specs.declared.states.State.{State}
 use Rattle.pg_style.specs.Values.{StyleValue}
@@ -12,12 +14,13 @@ use Rattle.pg_plan.specs.declared.pages.PageMove.{PageMove}
 use Rattle.pg_rules.specs.Room.{Document}
 use Rattle.pg_table.specs.declared.step.Step.{Step}
 use Rattle.pg_layouts.specs.declared.layout.Layout.{Layout}
-use Rattle.law_walk.specs.Candidates.{Candidate}
+use Rattle.law_walk.specs.Candidates.{Candidate, has_text}
 use Rattle.pg_candidates.specs.RoomEnds.{ends_of}
 use Rattle.pg_candidates.specs.declared.room_end.RoomEnd.{RoomEnd}
 use Rattle.law_moves.specs.Laws.{AreEndsOf}
 use Rattle.law_moves.specs.Listed.{column_fits, listed_stay, listed_text, listed_with, opens, stays_on}
-use Rattle.pg_rooms.specs.PlaceEnds.{behind_candidates, behind_rooms, ends_in}
+use Rattle.pg_rooms.specs.PlaceEnds.{ends_in, room_behind}
+use Rattle.pg_rooms.specs.declared.behind.Behind.{Behind as BehindFront}
 use Rattle.pg_rooms.specs.declared.place_ends.PlaceEnds.{PlaceEnds}
 use Rattle.pg_rooms.specs.declared.place_ends.RoomEnds.{RoomEnds}
 use Rattle.pg_states.specs.Settling.{Settles}
@@ -67,15 +70,24 @@ abbrev pub IsOpenAt : Document → State → Laid → Settled → Place → Type
 IsOpenAt doc u laid settled at =
     (opens doc u at laid.after ≡ true) × Settles doc u at laid.after (Some settled)
 
--- the steps to the ends in the room of a layout, with the picks of these candidates
-abbrev pub steps_in : Document → State → List Candidate → List RoomEnds → Laid → List (Step State PageMove)
-steps_in doc u cs rooms it = listed_with doc u (λ layout. ends_of cs (ends_in rooms it.room)) it.layout
+-- the steps to the ends in a room, with the picks of these candidates, where a layout is that of the column
+abbrev pub steps_at : Document → State → List Candidate → List RoomEnds → TextRoom → Laid → List (Step State PageMove)
+steps_at doc u cs rooms room it = listed_with doc u (λ layout. ends_of cs (ends_in rooms room)) it.layout
 
--- the steps to all ends that a place keeps in that room
+-- those to the ends behind a front, in what the room of a layout leaves there
+abbrev pub steps_behind : Document → State → Option BehindFront → Laid → List (Step State PageMove)
+steps_behind doc u None it = []
+steps_behind doc u (Some behind) it =
+    option_map_or
+    (λ (left : TextRoom). steps_at doc u behind.ends.walk.near.candidates behind.ends.rooms.items left it)
+    (room_behind behind it.room) []
+
+-- the steps to all ends that a place keeps in that room, where it is not below the least one
 abbrev pub all_steps_in : Document → State → PlaceEnds → Laid → List (Step State PageMove)
 all_steps_in doc u kept it =
-    steps_in doc u kept.walk.near.candidates kept.rooms.items it
-    ++ steps_in doc u (behind_candidates kept.behind) (behind_rooms kept.behind) it
+    if has_text doc.style it.room
+    then steps_at doc u kept.walk.near.candidates kept.rooms.items it.room it ++ steps_behind doc u kept.behind it
+    else []
 
 -- the steps of the columns of text with counts up to a ceiling, by the ends of each layout, but for some that are spared
 pub record AreTextSteps (doc : Document) (u : State) (ceiling : List ℕ) (spared : State → ℤ → Bool)

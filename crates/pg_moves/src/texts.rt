@@ -1,27 +1,29 @@
 //! The steps of columns of text, layout by layout.
-ghost use Rattle.std.specs.Prelude.{◌≡◌, Contains, IfOk, OnOk};
+ghost use Rattle.std.specs.Prelude.{◌≡◌, Contains, IfOk, OnOk, Some};
 ghost use Rattle.std.specs.List.{AllByRecursion, flat_map};
+ghost use Rattle.pg_column.specs.Numbers.{IsRoom};
 ghost use Rattle.pg_rules.specs.IsState.{IsState};
 ghost use Rattle.pg_sources.specs.Document.{doc_of};
 ghost use Rattle.pg_rooms.specs.Laid.{HasSoMany, laid_of};
-ghost use Rattle.pg_rooms.specs.PlaceEnds.{ArePlaceEnds, AreRoomEnds, behind_candidates, behind_rooms};
+ghost use Rattle.pg_rooms.specs.PlaceEnds.{AreFrontEnds, ArePlaceEnds, AreRoomEnds};
 ghost use Rattle.pg_states.specs.Settling.{known_of};
-ghost use Rattle.pg_moves.specs.Stepping.{AreTextSteps, all_steps_in, steps_in};
+ghost use Rattle.pg_moves.specs.Stepping.{AreTextSteps, all_steps_in, steps_at, steps_behind};
 ghost use Rattle.pg_moves.specs.Thinned.{Adds};
 ghost use Rattle.pg_rooms.specs.declared.laid.Laid.{Laid as ALaid};
 
 use crate::groups::add_groups;
 use law_walk::laws::candidates_give_ends;
-use pg_candidates::NearList;
+use pg_candidates::{NearList, has_text};
+use pg_column::TextRoom;
 use pg_plan::{Counts, State};
-use pg_rooms::{Laid, PlaceEnds, RoomEnds, ends_in, groups_in, lay_texts};
+use pg_rooms::{Behind, Laid, PlaceEnds, RoomEnds, ends_in, groups_in, lay_texts};
 use pg_small::{SmallMove, SmallState};
 use pg_sources::Sources;
 use pg_states::Known;
 use pg_table::{StepList, Wants};
 use std::alloc::AllocError;
 
-// Adds the wanted steps to the ends of some candidates in the room of a layout.
+// Adds the wanted steps to the ends of some candidates in a room, where a layout is that of the column.
 fn add_kept<W: Wants<State = SmallState>>(
     sources: &Sources<'_>,
     state: &State,
@@ -29,6 +31,7 @@ fn add_kept<W: Wants<State = SmallState>>(
     laid: &Laid,
     near: &NearList,
     rooms: &[RoomEnds],
+    room: &TextRoom,
     wants: &W,
     steps: &mut StepList<SmallState, SmallMove>,
 ) -> Result<(), AllocError>
@@ -37,40 +40,41 @@ fn add_kept<W: Wants<State = SmallState>>(
     requires laid { laid.now ≡ laid_of (doc_of sources.now) state.now laid.now.layout }
     ensures { OnOk result (AllByRecursion (AreRoomEnds (doc_of sources.now) near.now.candidates) rooms.now →
         Adds (W.spares wants.now) steps.old
-        (steps_in (doc_of sources.now) state.now near.now.candidates rooms.now laid.now) steps.new) }
+        (steps_at (doc_of sources.now) state.now near.now.candidates rooms.now room.now laid.now) steps.new) }
 {
-    let groups = groups_in(rooms, &laid.room);
-    let ends = ends_in(rooms, &laid.room);
+    let groups = groups_in(rooms, room);
+    let ends = ends_in(rooms, room);
     add_groups(
         sources, near, state, known, laid, groups, ends, wants, steps,
     )
 }
 
-// Adds the wanted steps to those behind a front, where something is kept there.
+// Adds the wanted steps to the ends behind a front, in what the room of a layout leaves there.
 fn add_behind<W: Wants<State = SmallState>>(
     sources: &Sources<'_>,
     state: &State,
     known: &Known,
     laid: &Laid,
-    kept: &PlaceEnds,
+    behind: &Behind,
     wants: &W,
     steps: &mut StepList<SmallState, SmallMove>,
 ) -> Result<(), AllocError>
     requires own { IsState (doc_of sources.now) state.now }
     requires known { known.now ≡ known_of (doc_of sources.now) state.now }
     requires laid { laid.now ≡ laid_of (doc_of sources.now) state.now laid.now.layout }
-    ensures { OnOk result (ArePlaceEnds (doc_of sources.now) state.now.place kept.now →
-        Adds (W.spares wants.now) steps.old (steps_in (doc_of sources.now) state.now
-        (behind_candidates kept.now.behind) (behind_rooms kept.now.behind) laid.now) steps.new) }
+    requires room { IsRoom laid.now.room }
+    ensures { OnOk result (AreFrontEnds (doc_of sources.now) behind.now.ends →
+        Adds (W.spares wants.now) steps.old
+        (steps_behind (doc_of sources.now) state.now (Some behind.now) laid.now) steps.new) }
 {
-    match &kept.behind {
-        None => Ok(()),
-        Some(it) => {
-            let near = &it.walk.near;
-            let rooms = it.rooms.as_slice();
-            add_kept(sources, state, known, laid, near, rooms, wants, steps)
-        }
-    }
+    let Some(left) = behind.room_behind(&laid.room) else {
+        return Ok(());
+    };
+    let near = &behind.ends.walk.near;
+    let rooms = behind.ends.rooms.as_slice();
+    add_kept(
+        sources, state, known, laid, near, rooms, &left, wants, steps,
+    )
 }
 
 // Adds the wanted steps to all ends in the room of a layout.
@@ -86,13 +90,22 @@ fn add_laid<W: Wants<State = SmallState>>(
     requires own { IsState (doc_of sources.now) state.now }
     requires known { known.now ≡ known_of (doc_of sources.now) state.now }
     requires laid { laid.now ≡ laid_of (doc_of sources.now) state.now laid.now.layout }
+    requires room { IsRoom laid.now.room }
     ensures { OnOk result (ArePlaceEnds (doc_of sources.now) state.now.place kept.now →
         Adds (W.spares wants.now) steps.old (all_steps_in (doc_of sources.now) state.now kept.now laid.now) steps.new) }
 {
+    if !has_text(sources.style, &laid.room) {
+        return Ok(());
+    }
     let near = &kept.walk.near;
     let rooms = kept.rooms.as_slice();
-    add_kept(sources, state, known, laid, near, rooms, wants, steps)?;
-    add_behind(sources, state, known, laid, kept, wants, steps)
+    add_kept(
+        sources, state, known, laid, near, rooms, &laid.room, wants, steps,
+    )?;
+    match &kept.behind {
+        Some(behind) => add_behind(sources, state, known, laid, behind, wants, steps),
+        None => Ok(()),
+    }
 }
 
 /// Adds the wanted steps of columns of text in these layouts, by the ends in their rooms.
@@ -108,6 +121,7 @@ pub fn add_all<W: Wants<State = SmallState>>(
     requires own { IsState (doc_of sources.now) state.now }
     requires known { known.now ≡ known_of (doc_of sources.now) state.now }
     requires laid { (it : ALaid) → Contains laid.now it → it ≡ laid_of (doc_of sources.now) state.now it.layout }
+    requires rooms { AllByRecursion (λ (it : ALaid). IsRoom it.room) laid.now }
     ensures { OnOk result (ArePlaceEnds (doc_of sources.now) state.now.place kept.now →
         Adds (W.spares wants.now) steps.old
         (flat_map (all_steps_in (doc_of sources.now) state.now kept.now) laid.now) steps.new) }

@@ -1,6 +1,6 @@
 -- The ends in a room of two lists of candidates, of which the one stand before the other.
-use Rattle.std.proofs.Common.{◌≡◌, refl, sym, ap, subst, ◌∙◌, inl, inr, true, false, Bool, List, [], ◌∷◌, ◌++◌, map}
-use Rattle.std.specs.Prelude.{◌⊎◌, if◌then◌else◌}
+use Rattle.std.proofs.Common.{◌≡◌, refl, ap, ◌∙◌, inl, inr, true, false, Bool, List, [], ◌∷◌, ◌++◌, map}
+use Rattle.std.specs.Prelude.{if◌then◌else◌}
 use Rattle.std.specs.List.{filter}
 use Rattle.std.specs.Ordering.{nat_cmp, ordering_reverse, ordering_then}
 use Rattle.std.specs.declared.cmp.Ordering.{Ordering}
@@ -40,8 +40,8 @@ kept_append doc room (c ∷ cs) ds = by (keeps_in doc room c) (kept_append doc r
 pub kept_apart : (doc : Document) (room : TextRoom) (cs ds : List Candidate) → AreApart cs ds →
     ComeBefore (kept_ends doc room cs) (kept_ends doc room ds)
 kept_apart doc room cs ds apart x y a b =
-    let c : IsKept doc room cs x = kept_of doc room cs x a in
-    let d : IsKept doc room ds y = kept_of doc room ds y b in
+    let c : IsKept doc room (keeps_in doc room) cs x = kept_of doc room (keeps_in doc room) cs x a in
+    let d : IsKept doc room (keeps_in doc room) ds y = kept_of doc room (keeps_in doc room) ds y b in
     let at : x.to ≡ c.candidate.to = ap (λ (e : End). e.to) c.is in
     let to : y.to ≡ d.candidate.to = ap (λ (e : End). e.to) d.is in
     ap (λ (o : Ordering). ordering_then o (nat_cmp x.cost.fitness y.cost.fitness))

@@ -1,11 +1,15 @@
 -- What is kept of a place.
-use Rattle.std.proofs.Common.{Ok, Err, Result, ◌≡◌, refl, sym, ap, subst, ◌∙◌, ℕ, zero, suc, ◌+◌, ◌<◌, true, false, Bool, ℤ, arith, get_or, append-nil, Option, Some, None, IfSome}
-use Rattle.std.specs.Prelude.{◌&&◌, List, [], ◌∷◌, ◌++◌, length, take, if◌then◌else◌, Contains, OnOk}
+use Rattle.std.proofs.Common.{Ok, Err, Result, ◌≡◌, refl, sym, ap, subst, ◌∙◌, ℕ, zero, suc, ◌+◌, ◌<◌, true, false, Bool, ℤ, pos, ◌+ℤ◌, ◌-ℤ◌, ◌≤ℤ◌, arith, get_or, append-nil, Option, Some, None, IfSome}
+use Rattle.std.specs.Prelude.{◌&&◌, List, [], ◌∷◌, ◌++◌, length, map, take, if◌then◌else◌, Contains, OnOk}
+use Rattle.std.specs.Option.{option_map_or}
+use Rattle.std.proofs.lemmas.Int.{ints}
+use Rattle.std.proofs.lemmas.Option.{same_Some}
 use Rattle.std.specs.List.{AllByRecursion}
 use Rattle.std.specs.Ordering.{int_eq}
-use Rattle.std.proofs.Math.Seq.{take-length}
 use Rattle.std.proofs.lemmas.Bool.Decides.{Decides-int_eq}
 use Rattle.pg_column.specs.Ends.{AreEnds}
+use Rattle.pg_column.specs.Numbers.{most_room}
+use Rattle.pg_column.specs.Passed.{fits}
 use Rattle.pg_column.specs.declared.cost.TextRoom.{TextRoom}
 use Rattle.pg_column.specs.declared.end.End.{End}
 use Rattle.pg_lemmas.proofs.Bools.{both, both_of, by_bool, if_false, if_true}
@@ -15,25 +19,31 @@ use Rattle.pg_list.specs.declared.galley.Place.{Place}
 use Rattle.pg_rules.specs.Floats.{gap_stretch}
 use Rattle.pg_rules.specs.Reach.{greatest_areas}
 use Rattle.pg_rules.specs.Room.{Document}
+use Rattle.pg_style.specs.Values.{StyleValue}
 use Rattle.pg_walk.specs.Fronts.{AreApart, ComesTo, IsFrontWalk, Serves}
+use Rattle.pg_walk.specs.Moved.{moved_candidate}
+use Rattle.pg_walk.proofs.Lifted.{among_map, origin_of}
 use Rattle.pg_walk.specs.declared.front.Front.{Front}
 use Rattle.pg_walk.specs.declared.front.FrontWalk.{FrontWalk}
 use Rattle.pg_walk.specs.declared.place.PlaceWalk.{PlaceWalk}
-use Rattle.law_walk.specs.Best.{AreBest, IsAmong}
-use Rattle.law_walk.specs.Candidates.{AreCandidates, Candidate, kept_ends}
+use Rattle.law_walk.specs.Best.{AreBest, Ascend, IsAmong, IsFirst, IsUnder, end_cmp}
+use Rattle.law_walk.specs.Candidates.{AreCandidates, Candidate, has_text, kept_ends, text_ends}
 use Rattle.law_walk.specs.Laws.{CandidatesGiveEnds}
 use Rattle.law_walk.specs.Reached.{tallest}
 use Rattle.law_walk.proofs.BestLaws.{none_best}
-use Rattle.pg_candidates.specs.Nears.{AreNear, AreNearOnPages, NearsValue}
+use Rattle.law_walk.proofs.Ends.{kept_all, kept_none}
+use Rattle.pg_candidates.specs.Nears.{AreNear, AreNearOnPages}
 use Rattle.pg_candidates.specs.RoomEnds.{ends_of}
 use Rattle.pg_candidates.specs.declared.room_end.RoomEnd.{RoomEnd}
 use Rattle.pg_rooms.proofs.Grouped.{all_more}
 use Rattle.pg_rooms.specs.Calls.{AreCalls}
+use Rattle.pg_rooms.proofs.Higher.{kept_moved, lower_room, none_moved}
 use Rattle.pg_rooms.proofs.Joined.{best_append, kept_apart, kept_append}
-use Rattle.pg_rooms.specs.PlaceEnds.{AreFrontEnds, AreGroups, ArePlaceEnds, AreRoomEnds, IsNearOnPages, IsPageRoom, all_ends, behind_candidates, behind_rooms, ends_in, groups_in, has_behind, has_room, is_same_room}
+use Rattle.pg_rooms.specs.PlaceEnds.{AreFrontEnds, AreGroups, ArePlaceEnds, AreRoomEnds, IsNearOnPages, IsPageRoom, IsSameBehind, all_ends, behind_candidates, ends_behind, ends_in, ends_left, groups_in, has_behind, has_room, higher_end, is_same_room, room_behind}
 use Rattle.pg_rooms.specs.declared.calls.Calls.{Calls}
 use Rattle.pg_rooms.specs.declared.grouping.Group.{Group}
-use Rattle.pg_rooms.specs.declared.place_ends.FrontEnds.{FrontEnds}
+use Rattle.pg_rooms.specs.declared.behind.Behind.{Behind}
+use Rattle.pg_rooms.specs.declared.behind.FrontEnds.{FrontEnds}
 use Rattle.pg_rooms.specs.declared.place_ends.PlaceEnds.{PlaceEnds}
 use Rattle.pg_rooms.specs.declared.place_ends.RoomEnds.{RoomEnds}
 
@@ -107,20 +117,21 @@ all_contain P (y ∷ ys) x a (zero, l, e) = subst P e a.0
 all_contain P (y ∷ ys) x a (suc k, l, e) = all_contain P ys x a.1 (k, omega arith, e)
 
 -- those that were asked for still are kept, and one more is
-pub has_more : (rooms now : List RoomEnds) (laid : List Laid) (i : ℕ) (it : Laid) → i < length laid →
-    it ≡ get_or laid i it →
-    AllByRecursion (λ (x : Laid). has_room rooms x.room ≡ true) (take i laid) → has_room now it.room ≡ true →
-    ((room : TextRoom) → has_room rooms room ≡ true → has_room now room ≡ true) →
-    AllByRecursion (λ (x : Laid). has_room now x.room ≡ true) (take (i + 1) laid)
-has_more rooms now laid i it less is all own keeps =
-    all_more (λ (x : Laid). has_room now x.room ≡ true) laid i it less is (still (take i laid) all) own
+pub asked_more : (P Q : TextRoom → Type 0) (laid : List Laid) (i : ℕ) (it : Laid) → i < length laid →
+    it ≡ get_or laid i it → AllByRecursion (λ (x : Laid). P x.room) (take i laid) → Q it.room →
+    ((room : TextRoom) → P room → Q room) → AllByRecursion (λ (x : Laid). Q x.room) (take (i + 1) laid)
+asked_more P Q laid i it less is all own keeps =
+    all_more (λ (x : Laid). Q x.room) laid i it less is (still (take i laid) all) own
   where
-    still : (xs : List Laid) → AllByRecursion (λ (x : Laid). has_room rooms x.room ≡ true) xs →
-        AllByRecursion (λ (x : Laid). has_room now x.room ≡ true) xs
+    still : (xs : List Laid) → AllByRecursion (λ (x : Laid). P x.room) xs → AllByRecursion (λ (x : Laid). Q x.room) xs
     still [] a = tt
     still (x ∷ xs) a = (keeps x.room a.0, still xs a.1)
 
 -- ---- what is kept of a place before any room is asked for
+
+-- what is kept behind a front, where something is
+abbrev pub AreBehind : Document → Option Behind → Type 0
+AreBehind doc o = IfSome o (λ (behind : Behind). AreFrontEnds doc behind.ends)
 
 -- a walk is, with the calls of any places
 pub begun : (doc : Document) (from : Place) (it : PlaceEnds) (walk : PlaceWalk) (calls : Calls) → it.walk ≡ walk →
@@ -128,14 +139,14 @@ pub begun : (doc : Document) (from : Place) (it : PlaceEnds) (walk : PlaceWalk) 
     AreCalls doc calls.items.items → ArePlaceEnds doc from it
 begun doc from it walk calls w r k b near are = record {
   near = subst (λ (x : PlaceWalk). IsNearOnPages doc x.near) (sym w) own;
-  candidates = subst (λ (o : Option FrontEnds).
+  candidates = subst (λ (o : Option Behind).
       AreCandidates doc from (tallest doc.style) (it.walk.near.candidates ++ behind_candidates o)) (sym b)
       (subst (AreCandidates doc from (tallest doc.style)) (sym (append-nil it.walk.near.candidates))
       (subst (λ (x : PlaceWalk). AreCandidates doc from (tallest doc.style) x.near.candidates) (sym w)
       (subst (AreCandidates doc from (tallest doc.style)) (sym near.near.same) near.found)));
-  apart = λ c d a e. absurd (subst (λ (o : Option FrontEnds). IsAmong d (behind_candidates o)) b e);
+  apart = λ c d a e. absurd (subst (λ (o : Option Behind). IsAmong d (behind_candidates o)) b e);
   rooms = subst (AllByRecursion (AreRoomEnds doc it.walk.near.candidates)) (sym r) tt;
-  behind = subst (λ (o : Option FrontEnds). IfSome o (AreFrontEnds doc)) (sym b) tt;
+  behind = subst (AreBehind doc) (sym b) tt;
   calls = subst (λ (kept : Calls). AreCalls doc kept.items.items) (sym k) are;
 }
   where
@@ -144,21 +155,22 @@ begun doc from it walk calls w r k b near are = record {
         (sym near.near.same) near.near
 
 -- a first stretch is, with what is kept behind the front there
-pub before : (doc : Document) (from : Place) (it : PlaceEnds) (near : NearsValue) (front : Front) (behind : FrontEnds)
-    (calls : Calls) → it.walk.near ≡ near → it.rooms.items ≡ [] → it.calls ≡ calls → it.behind ≡ Some behind →
-    ComesTo doc from near front → AreFrontEnds doc behind → Serves doc from near behind.walk →
-    AreCalls doc calls.items.items → ArePlaceEnds doc from it
-before doc from it near front behind calls n r k b comes ends serves are = record {
-  near = subst (IsNearOnPages doc) (sym n) comes.near;
-  candidates = subst (λ (o : Option FrontEnds).
+pub before : (doc : Document) (from : Place) (it : PlaceEnds) (walk : PlaceWalk) (front : Front) (behind : Behind)
+    (calls : Calls) → it.walk ≡ walk → it.rooms.items ≡ [] → it.calls ≡ calls → it.behind ≡ Some behind →
+    ComesTo doc from walk.near front → AreFrontEnds doc behind.ends →
+    Serves doc from walk.near behind.by behind.bound behind.ends.walk → AreCalls doc calls.items.items →
+    ArePlaceEnds doc from it
+before doc from it walk front behind calls w r k b comes ends serves are = record {
+  near = subst (λ (x : PlaceWalk). IsNearOnPages doc x.near) (sym w) comes.near;
+  candidates = subst (λ (o : Option Behind).
       AreCandidates doc from (tallest doc.style) (it.walk.near.candidates ++ behind_candidates o)) (sym b)
-      (subst (λ (x : NearsValue).
-      AreCandidates doc from (tallest doc.style) (x.candidates ++ behind.walk.near.candidates)) (sym n)
+      (subst (λ (x : PlaceWalk).
+      AreCandidates doc from (tallest doc.style) (x.near.candidates ++ behind_candidates (Some behind))) (sym w)
       serves.candidates);
-  apart = subst (λ (o : Option FrontEnds). AreApart it.walk.near.candidates (behind_candidates o)) (sym b)
-      (subst (λ (x : NearsValue). AreApart x.candidates behind.walk.near.candidates) (sym n) serves.apart);
+  apart = subst (λ (o : Option Behind). AreApart it.walk.near.candidates (behind_candidates o)) (sym b)
+      (subst (λ (x : PlaceWalk). AreApart x.near.candidates (behind_candidates (Some behind))) (sym w) serves.apart);
   rooms = subst (AllByRecursion (AreRoomEnds doc it.walk.near.candidates)) (sym r) tt;
-  behind = subst (λ (o : Option FrontEnds). IfSome o (AreFrontEnds doc)) (sym b) ends;
+  behind = subst (AreBehind doc) (sym b) ends;
   calls = subst (λ (kept : Calls). AreCalls doc kept.items.items) (sym k) are;
 }
 
@@ -173,8 +185,8 @@ front_begun doc it walk w r is = record {
 -- with rooms asked for there is still the same behind the front
 pub still_kept : (doc : Document) (from : Place) (old new : PlaceEnds) → new.walk ≡ old.walk →
     behind_candidates new.behind ≡ behind_candidates old.behind → ArePlaceEnds doc from old →
-    AllByRecursion (AreRoomEnds doc old.walk.near.candidates) new.rooms.items →
-    IfSome new.behind (AreFrontEnds doc) → AreCalls doc new.calls.items.items → ArePlaceEnds doc from new
+    AllByRecursion (AreRoomEnds doc old.walk.near.candidates) new.rooms.items → AreBehind doc new.behind →
+    AreCalls doc new.calls.items.items → ArePlaceEnds doc from new
 still_kept doc from old new w b are rooms behind calls = record {
   near = subst (λ (x : PlaceWalk). IsNearOnPages doc x.near) (sym w) are.near;
   candidates = subst (λ (ds : List Candidate).
@@ -187,6 +199,65 @@ still_kept doc from old new w b are rooms behind calls = record {
   behind = behind;
   calls = calls;
 }
+
+-- ---- behind a front
+
+-- it is so much lower
+pub left_is : (it : Behind) (room left : TextRoom) → room_behind it room ≡ Some left → lower_room it.by room ≡ left
+left_is it room left e = by_bool (fits it.bound (most_room room))
+    (λ t. same_Some (lower_room it.by room) left
+    (sym (if_true (fits it.bound (most_room room)) (Some (lower_room it.by room)) None t) ∙ e))
+    (λ f. absurd (none_is left
+    (sym (if_false (fits it.bound (most_room room)) (Some (lower_room it.by room)) None f) ∙ e)))
+  where
+    none_is : (left : TextRoom) → None ≡ Some left → ⊥
+    none_is left e = absurd cc
+
+-- what a room of a page leaves there is one too
+pub left_page : (style : StyleValue) (room left : TextRoom) (it : Behind) → pos 0 ≤ℤ it.by →
+    room_behind it room ≡ Some left → IsPageRoom style room → IsPageRoom style left
+left_page style room left it up e page = subst (IsPageRoom style) (left_is it room left e) (record {
+  low = low room.size room.give.shrink it.by (tallest style) up page.low;
+  within = record { stretch = page.within.stretch; shrink = page.within.shrink };
+})
+  where
+    low : (size shrink by top : ℤ) → pos 0 ≤ℤ by → (size +ℤ shrink) ≤ℤ top → ((size -ℤ by) +ℤ shrink) ≤ℤ top
+    low size shrink by top u l = omega (arith, ints, u, l)
+
+-- with more rooms asked for there the same candidates stand behind the front
+pub same_candidates : (a b : Behind) → IsSameBehind a b → behind_candidates (Some b) ≡ behind_candidates (Some a)
+same_candidates a b s = same _ _ _ _ _ _ s.by s.bound (ap (λ (walk : FrontWalk). walk.near.candidates) s.walk)
+  where
+    same : (m n : ℤ) (o p : Option ℤ) (cs ds : List Candidate) → m ≡ n → o ≡ p → cs ≡ ds →
+        map (moved_candidate m o) cs ≡ map (moved_candidate n p) ds
+    same m n o p cs ds e f g = rw (e, f, g) refl
+
+-- the ends of candidates with more height before them are the best, where the ends in the lower room are
+best_higher : (by : ℤ) (es bs : List End) → AreBest es bs → AreBest (map (higher_end by) es) (map (higher_end by) bs)
+best_higher by es bs best = record {
+  ascend = ascend bs best.ascend;
+  among = λ x a. let w = origin_of (higher_end by) bs x a in
+      subst (λ (y : End). IsAmong y (map (higher_end by) es)) w.is
+      (among_map (higher_end by) es w.origin (best.among w.origin w.among));
+  under = λ x y a b t.
+      let v = origin_of (higher_end by) bs x a in
+      let w = origin_of (higher_end by) es y b in
+      subst (λ (z : End). IsUnder z y) v.is (subst (IsUnder (higher_end by v.origin)) w.is
+      (best.under v.origin w.origin v.among w.among
+      (ap (λ (z : End). end_cmp z (higher_end by w.origin)) v.is ∙ (ap (end_cmp x) w.is ∙ t))));
+  there = λ y b.
+      let w = origin_of (higher_end by) es y b in
+      let u = best.there w.origin w.among in
+      (higher_end by u.0, (among_map (higher_end by) bs u.0 u.1.0, sym (ap (end_cmp (higher_end by u.0)) w.is) ∙ u.1.1));
+}
+  where
+    first : (b : End) (cs : List End) → IsFirst b cs → IsFirst (higher_end by b) (map (higher_end by) cs)
+    first b [] h = tt
+    first b (c ∷ cs) h = (h.0, first b cs h.1)
+
+    ascend : (cs : List End) → Ascend cs → Ascend (map (higher_end by) cs)
+    ascend [] h = tt
+    ascend (c ∷ cs) h = (first c cs h.0, ascend cs h.1)
 
 -- ---- the ends in a room
 
@@ -202,39 +273,73 @@ joined doc room cs ds bs es apart first rest =
 -- in a room that is kept of some candidates
 pub room_best : (doc : Document) (cs : List Candidate) (rooms : List RoomEnds) (room : TextRoom) →
     AllByRecursion (AreRoomEnds doc cs) rooms → has_room rooms room ≡ true →
-    IsPageRoom doc.style room × AreBest (kept_ends doc room cs) (ends_of cs (ends_in rooms room))
+    AreBest (text_ends doc room cs) (ends_of cs (ends_in rooms room))
 room_best doc cs [] room all h = absurd cc
 room_best doc cs (first ∷ rooms) room all h = by_bool (is_same_room first.room room)
-    (λ t. let same = same_is first.room room t in (
-      subst (IsPageRoom doc.style) same all.0.page,
-      subst AreOf (sym (if_true (is_same_room first.room room) first.ends.items (ends_in rooms room) t))
-          (subst (λ (z : TextRoom). AreBest (kept_ends doc z cs) (ends_of cs first.ends.items)) same all.0.best),
-    ))
-    (λ f. let more = room_best doc cs rooms room all.1
-    (sym (if_false (is_same_room first.room room) true (has_room rooms room) f) ∙ h) in (
-      more.0,
-      subst AreOf (sym (if_false (is_same_room first.room room) first.ends.items (ends_in rooms room) f)) more.1,
-    ))
+    (λ t. subst AreOf (sym (if_true (is_same_room first.room room) first.ends.items (ends_in rooms room) t))
+    (subst (λ (z : TextRoom). AreBest (text_ends doc z cs) (ends_of cs first.ends.items))
+    (same_is first.room room t) all.0.best))
+    (λ f. subst AreOf (sym (if_false (is_same_room first.room room) first.ends.items (ends_in rooms room) f))
+    (room_best doc cs rooms room all.1
+    (sym (if_false (is_same_room first.room room) true (has_room rooms room) f) ∙ h)))
   where
     AreOf : List RoomEnd → Type 0
-    AreOf ends = AreBest (kept_ends doc room cs) (ends_of cs ends)
+    AreOf ends = AreBest (text_ends doc room cs) (ends_of cs ends)
 
-behind_best : (doc : Document) (o : Option FrontEnds) (room : TextRoom) → IfSome o (AreFrontEnds doc) →
-    has_behind o room ≡ true →
-    AreBest (kept_ends doc room (behind_candidates o)) (ends_of (behind_candidates o) (ends_in (behind_rooms o) room))
-behind_best doc None room are h = none_best
-behind_best doc (Some it) room are h = (room_best doc it.walk.near.candidates it.rooms.items room are.rooms h).1
+module _ (doc : Document) (room : TextRoom) (text : has_text doc.style room ≡ true) where
+  left_best : (it : Behind) → AreFrontEnds doc it.ends → has_behind (Some it) room ≡ true →
+      AreBest (kept_ends doc room (behind_candidates (Some it))) (ends_behind (Some it) room)
+  left_best it are h = by_bool (fits it.bound (most_room room))
+      (λ f.
+      let left = if_true (fits it.bound (most_room room)) (Some (lower_room it.by room)) None f in
+      subst (AreBest (kept_ends doc room (behind_candidates (Some it)))) (sym (ap (λ (o : Option TextRoom).
+      option_map_or (λ (r : TextRoom). map (higher_end it.by) (ends_left it r)) o []) left))
+      (subst (λ (es : List End). AreBest es (map (higher_end it.by) (ends_left it (lower_room it.by room))))
+      (sym (kept_moved doc room it.by it.bound text f it.ends.walk.near.candidates))
+      (best_higher it.by _ _ (room_best doc it.ends.walk.near.candidates it.ends.rooms.items (lower_room it.by room)
+      are.rooms (sym (ap (λ (o : Option TextRoom). option_map_or (has_room it.ends.rooms.items) o true) left) ∙ h)))))
+      (λ f.
+      let left = if_false (fits it.bound (most_room room)) (Some (lower_room it.by room)) None f in
+      subst (AreBest (kept_ends doc room (behind_candidates (Some it)))) (sym (ap (λ (o : Option TextRoom).
+      option_map_or (λ (r : TextRoom). map (higher_end it.by) (ends_left it r)) o []) left))
+      (subst (λ (es : List End). AreBest es [])
+      (sym (none_moved doc room it.by it.bound text f it.ends.walk.near.candidates)) none_best))
 
--- all ends in a room that was asked for
+  behind_best : (o : Option Behind) → AreBehind doc o → has_behind o room ≡ true →
+      AreBest (kept_ends doc room (behind_candidates o)) (ends_behind o room)
+  behind_best None are h = none_best
+  behind_best (Some it) are h = left_best it are h
+
+  both_best : (from : Place) (it : PlaceEnds) → ArePlaceEnds doc from it → has_room it.rooms.items room ≡ true →
+      has_behind it.behind room ≡ true →
+      AreBest (kept_ends doc room (it.walk.near.candidates ++ behind_candidates it.behind))
+      (ends_of it.walk.near.candidates (ends_in it.rooms.items room) ++ ends_behind it.behind room)
+  both_best from it are h b =
+      joined doc room it.walk.near.candidates (behind_candidates it.behind) _ _ are.apart
+      (subst (λ (es : List End). AreBest es (ends_of it.walk.near.candidates (ends_in it.rooms.items room)))
+      (sym (kept_all doc room text it.walk.near.candidates))
+      (room_best doc it.walk.near.candidates it.rooms.items room are.rooms h))
+      (behind_best it.behind are.behind b)
+
+-- all ends in a room that was asked for, where it is not below the least one
 pub room_right : (doc : Document) → CandidatesGiveEnds doc → (from : Place) (it : PlaceEnds) (room : TextRoom) →
-    ArePlaceEnds doc from it → has_room it.rooms.items room ≡ true → has_behind it.behind room ≡ true →
-    AreEnds doc from room (all_ends it room)
-room_right doc law from it room are h b =
-    let first = room_best doc it.walk.near.candidates it.rooms.items room are.rooms h in
-    law from (tallest doc.style) room (it.walk.near.candidates ++ behind_candidates it.behind) (all_ends it room)
-    first.0.low are.candidates
-    (joined doc room it.walk.near.candidates (behind_candidates it.behind) _ _ are.apart first.1
-    (behind_best doc it.behind room are.behind b))
+    IsPageRoom doc.style room → ArePlaceEnds doc from it →
+    (has_text doc.style room ≡ true → has_room it.rooms.items room ≡ true) →
+    (has_text doc.style room ≡ true → has_behind it.behind room ≡ true) →
+    AreEnds doc from room (all_ends doc.style it room)
+room_right doc law from it room page are h b =
+    law from (tallest doc.style) room (it.walk.near.candidates ++ behind_candidates it.behind)
+    (all_ends doc.style it room) page.low are.candidates
+    (by_bool (has_text doc.style room)
+    (λ t. subst (AreBest (kept_ends doc room (it.walk.near.candidates ++ behind_candidates it.behind)))
+    (sym (if_true (has_text doc.style room)
+    (ends_of it.walk.near.candidates (ends_in it.rooms.items room) ++ ends_behind it.behind room) [] t))
+    (both_best doc room t from it are (h t) (b t)))
+    (λ f. subst (AreBest (kept_ends doc room (it.walk.near.candidates ++ behind_candidates it.behind)))
+    (sym (if_false (has_text doc.style room)
+    (ends_of it.walk.near.candidates (ends_in it.rooms.items room) ++ ends_behind it.behind room) [] f))
+    (subst (λ (es : List End). AreBest es [])
+    (sym (kept_none doc room f (it.walk.near.candidates ++ behind_candidates it.behind))) none_best)))
 
 -- the groups of ends, also where the room is not kept
 pub groups_right : (doc : Document) (cs : List Candidate) (rooms : List RoomEnds) (room : TextRoom) →

@@ -1,3 +1,4 @@
+pub mod Higher
 pub mod Joined
 pub mod Dealt
 pub mod FloatLaid

@@ -1,9 +1,11 @@
 -- The ends of columns of text from a place, room by room.
-use Rattle.std.specs.Prelude.{◌≡◌, ◌&&◌, ◌≤ℤ◌, Bool, true, false, if◌then◌else◌, List, [], ◌∷◌, ◌++◌, take, drop, Option, Some, None, IfSome}
+use Rattle.std.specs.Prelude.{◌≡◌, ◌&&◌, ◌≤ℤ◌, ◌+ℤ◌, ◌-ℤ◌, Bool, true, false, if◌then◌else◌, List, [], ◌∷◌, ◌++◌, map, take, drop, Option, Some, None, IfSome, ℤ}
 use Rattle.std.specs.List.{AllByRecursion}
+use Rattle.std.specs.Option.{option_map_or}
 use Rattle.std.specs.Ordering.{int_eq}
 use Rattle.pg_list.specs.declared.galley.Place.{Place}
 use Rattle.pg_column.specs.Numbers.{most_room}
+use Rattle.pg_column.specs.Passed.{fits}
 use Rattle.pg_column.specs.declared.cost.TextRoom.{TextRoom}
 use Rattle.pg_column.specs.declared.end.End.{End}
 use Rattle.pg_rules.specs.Floats.{gap_stretch}
@@ -11,16 +13,18 @@ use Rattle.pg_rules.specs.Reach.{greatest_areas}
 use Rattle.pg_rules.specs.Room.{Document}
 use Rattle.pg_style.specs.Values.{StyleValue}
 use Rattle.law_walk.specs.Best.{AreBest}
-use Rattle.law_walk.specs.Candidates.{AreCandidates, Candidate, kept_ends}
+use Rattle.law_walk.specs.Candidates.{AreCandidates, Candidate, has_text, text_ends}
 use Rattle.law_walk.specs.Reached.{tallest}
 use Rattle.pg_candidates.specs.Nears.{AreNear, IsWithin, NearsValue}
 use Rattle.pg_candidates.specs.RoomEnds.{ends_of}
 use Rattle.pg_candidates.specs.declared.room_end.RoomEnd.{RoomEnd}
 use Rattle.pg_sources.specs.Document.{before_of}
 use Rattle.pg_walk.specs.Fronts.{AreApart, IsFrontWalk}
+use Rattle.pg_walk.specs.Moved.{moved_candidate}
 use Rattle.pg_rooms.specs.Calls.{AreCalls}
 use Rattle.pg_rooms.specs.declared.grouping.Group.{Group}
-use Rattle.pg_rooms.specs.declared.place_ends.FrontEnds.{FrontEnds}
+use Rattle.pg_rooms.specs.declared.behind.Behind.{Behind}
+use Rattle.pg_rooms.specs.declared.behind.FrontEnds.{FrontEnds}
 use Rattle.pg_rooms.specs.declared.place_ends.PlaceEnds.{PlaceEnds}
 use Rattle.pg_rooms.specs.declared.place_ends.RoomEnds.{RoomEnds}
 
@@ -41,10 +45,10 @@ AreGroups doc (group ∷ groups) ends =
 abbrev pub IsNearOnPages : Document → NearsValue → Type 0
 IsNearOnPages doc near = AreNear doc (greatest_areas gap_stretch doc.style) near.candidates near
 
--- the best ends of these candidates in a room of a page, and their groups
+-- the best ends of these candidates in a room of a page or in what one leaves, and their groups
 pub record AreRoomEnds (doc : Document) (cs : List Candidate) (it : RoomEnds) : Type 0 where
   pub page : IsPageRoom doc.style it.room
-  pub best : AreBest (kept_ends doc it.room cs) (ends_of cs it.ends.items)
+  pub best : AreBest (text_ends doc it.room cs) (ends_of cs it.ends.items)
   pub groups : AreGroups doc it.groups.items it.ends.items
 
 -- what is kept behind a front: its walk, and the ends in some rooms
@@ -52,15 +56,16 @@ pub record AreFrontEnds (doc : Document) (it : FrontEnds) : Type 0 where
   pub walk : IsFrontWalk doc it.walk
   pub rooms : AllByRecursion (AreRoomEnds doc it.walk.near.candidates) it.rooms.items
 
--- the candidates there
-abbrev pub behind_candidates : Option FrontEnds → List Candidate
+-- its candidates, as columns from a place come there
+abbrev pub behind_candidates : Option Behind → List Candidate
 behind_candidates None = []
-behind_candidates (Some it) = it.walk.near.candidates
+behind_candidates (Some it) = map (moved_candidate it.by it.bound) it.ends.walk.near.candidates
 
--- and the ends in rooms
-abbrev pub behind_rooms : Option FrontEnds → List RoomEnds
-behind_rooms None = []
-behind_rooms (Some it) = it.rooms.items
+-- the same walk behind a front, to which columns come alike
+pub record IsSameBehind (a b : Behind) : Type 0 where
+  pub walk : b.ends.walk ≡ a.ends.walk
+  pub by : b.by ≡ a.by
+  pub bound : b.bound ≡ a.bound
 
 -- what a place keeps: candidates that suffice, those behind the front last, the ends in some rooms, and what is called
 -- before them
@@ -69,7 +74,7 @@ pub record ArePlaceEnds (doc : Document) (from : Place) (it : PlaceEnds) : Type 
   pub candidates : AreCandidates doc from (tallest doc.style) (it.walk.near.candidates ++ behind_candidates it.behind)
   pub apart : AreApart it.walk.near.candidates (behind_candidates it.behind)
   pub rooms : AllByRecursion (AreRoomEnds doc it.walk.near.candidates) it.rooms.items
-  pub behind : IfSome it.behind (AreFrontEnds doc)
+  pub behind : IfSome it.behind (λ (behind : Behind). AreFrontEnds doc behind.ends)
   pub calls : AreCalls doc it.calls.items.items
 
 -- the same size, beside gaps that give the same
@@ -92,13 +97,36 @@ abbrev pub groups_in : List RoomEnds → TextRoom → List Group
 groups_in [] room = []
 groups_in (first ∷ rooms) room = if is_same_room first.room room then first.groups.items else groups_in rooms room
 
--- a room is among those that were asked for behind a front, if something is kept there
-abbrev pub has_behind : Option FrontEnds → TextRoom → Bool
-has_behind None room = true
-has_behind (Some it) room = has_room it.rooms.items room
+-- ---- behind a front
 
--- all ends in a room: those along the first stretch, and those behind the front
-abbrev pub all_ends : PlaceEnds → TextRoom → List End
-all_ends it room =
-    ends_of it.walk.near.candidates (ends_in it.rooms.items room)
-    ++ ends_of (behind_candidates it.behind) (ends_in (behind_rooms it.behind) room)
+-- what a room leaves behind the front, if a column comes there in it
+abbrev pub room_behind : Behind → TextRoom → Option TextRoom
+room_behind it room =
+    if fits it.bound (most_room room) then Some (record { size = room.size -ℤ it.by; give = room.give }) else None
+
+-- what a room leaves is among the rooms that were asked for behind a front, if something is kept there
+abbrev pub has_behind : Option Behind → TextRoom → Bool
+has_behind None room = true
+has_behind (Some it) room = option_map_or (has_room it.ends.rooms.items) (room_behind it room) true
+
+-- the end with so much more height before it
+abbrev pub higher_end : ℤ → End → End
+higher_end by end =
+    record end { cost = record end.cost { goal = end.cost.goal +ℤ by; total = end.cost.total +ℤ by } }
+
+-- the ends behind the front in what a room leaves there
+abbrev pub ends_left : Behind → TextRoom → List End
+ends_left it left = ends_of it.ends.walk.near.candidates (ends_in it.ends.rooms.items left)
+
+-- those in the room
+abbrev pub ends_behind : Option Behind → TextRoom → List End
+ends_behind None room = []
+ends_behind (Some it) room =
+    option_map_or (λ (left : TextRoom). map (higher_end it.by) (ends_left it left)) (room_behind it room) []
+
+-- all ends in a room: those along the first stretch, and those behind the front; none where the room is below the least
+abbrev pub all_ends : StyleValue → PlaceEnds → TextRoom → List End
+all_ends style it room =
+    if has_text style room
+    then ends_of it.walk.near.candidates (ends_in it.rooms.items room) ++ ends_behind it.behind room
+    else []

@@ -5,17 +5,21 @@
 //! them (`specs/Laid`); each deals out floats that are there, and no room is above that of the tallest run.
 //!
 //! `PlaceEnds` keeps for each room that it was asked for all ends in it, from one walk, as pg_column defines them with
-//! the picks of their candidates, in groups before which the same floats are called (`specs/PlaceEnds`).
+//! the picks of their candidates, in groups before which the same floats are called (`specs/PlaceEnds`). What is kept
+//! behind the front of a choice serves columns of every height there: `Behind` tells which room one leaves.
 #![tactic(auto)]
 
+mod behind;
 mod calls;
 mod grouping;
 mod laid;
 mod laying;
+mod left;
 mod place_ends;
 
+pub use behind::{Behind, FrontEnds};
 pub use calls::{Call, Calls};
 pub use grouping::Group;
 pub use laid::{Laid, has_floats};
 pub use laying::{lay_floats, lay_texts};
-pub use place_ends::{FrontEnds, PlaceEnds, RoomEnds, ends_in, groups_in};
+pub use place_ends::{PlaceEnds, RoomEnds, ends_in, groups_in};

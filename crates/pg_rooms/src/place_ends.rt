@@ -1,21 +1,24 @@
 //! The ends in the rooms of a place.
-ghost use Rattle.std.specs.Prelude.{◌≡◌, [], true, is_some, Contains, IfOk, IfSome, MatchOption, None, OnOk, Some};
+ghost use Rattle.std.specs.Prelude.{◌≡◌, [], true, is_some, Contains, IfOk, MatchOption, None, OnOk, Some};
 ghost use Rattle.std.specs.List.{AllByRecursion};
 ghost use Rattle.pg_list.specs.declared.galley.Place.{Place as APlace};
 ghost use Rattle.pg_column.specs.Numbers.{IsRoom};
 ghost use Rattle.pg_column.specs.declared.cost.TextRoom.{TextRoom as ATextRoom};
+ghost use Rattle.law_walk.specs.Candidates.{has_text as has_text_of};
 ghost use Rattle.pg_rooms.specs.declared.laid.Laid.{Laid as ALaid};
 ghost use Rattle.pg_sources.specs.Document.{doc_of};
 ghost use Rattle.pg_rooms.specs.Calls.{AreCalls};
-ghost use Rattle.pg_rooms.specs.PlaceEnds.{AreFrontEnds, ArePlaceEnds, AreRoomEnds, IsNearOnPages, IsPageRoom, behind_candidates, ends_in as ends_in_of, groups_in as groups_in_of, has_behind, has_room, is_same_room};
+ghost use Rattle.pg_rooms.specs.PlaceEnds.{ArePlaceEnds, AreRoomEnds, IsNearOnPages, IsPageRoom, ends_in as ends_in_of, groups_in as groups_in_of, has_behind, has_room, is_same_room};
 
 use crate::Laid;
+use crate::behind::Behind;
 use crate::calls::Calls;
 use crate::grouping::{Group, group_ends};
-use pg_candidates::{NearList, RoomEnd};
+use crate::left::ask_behind;
+use pg_candidates::{NearList, RoomEnd, has_text};
 use pg_column::TextRoom;
 use pg_sources::Sources;
-use pg_walk::{FrontWalk, PlaceWalk};
+use pg_walk::PlaceWalk;
 use std::alloc::{AllocError, Global};
 
 /// The ends in a room, of the candidates of a place, and their groups.
@@ -42,14 +45,6 @@ impl RoomEnds {
     }
 }
 
-/// What is kept behind the front of a choice: its walk, and the ends in the rooms that were asked for. It serves each place
-/// whose columns come to the front alike.
-#[derive(Drop)]
-pub struct FrontEnds {
-    pub walk: FrontWalk,
-    pub rooms: Vec<RoomEnds>,
-}
-
 /// What is kept of a place: its walk, the ends in the rooms that were asked for, what is called before them, and what is kept
 /// behind the front up to which the walk goes, where it does not go on itself.
 #[derive(Drop)]
@@ -57,7 +52,7 @@ pub struct PlaceEnds {
     pub walk: PlaceWalk,
     pub rooms: Vec<RoomEnds>,
     pub calls: Calls,
-    pub behind: Option<FrontEnds>,
+    pub behind: Option<Behind>,
 }
 
 // What is kept of a room.
@@ -93,7 +88,7 @@ fn room_ends(
     ensures calls { OnOk result (AreCalls (doc_of sources.now) calls.old.items.items →
         AreCalls (doc_of sources.now) calls.new.items.items) }
 {
-    let ends = near.room_ends(sources.alloc, sources.galley, sources.style, room)?;
+    let ends = near.text_ends(sources.alloc, sources.style, room)?;
     let groups = group_ends(sources, calls, ends.as_slice())?;
     Ok(RoomEnds {
         room: *room,
@@ -102,8 +97,8 @@ fn room_ends(
     })
 }
 
-// Works out the ends in a room, where they are not kept yet.
-fn add_room(
+/// Works out the ends in a room, where they are not kept yet.
+pub(crate) fn add_room(
     sources: &Sources<'_>,
     near: &NearList,
     room: &TextRoom,
@@ -129,7 +124,33 @@ fn add_room(
     Ok(())
 }
 
-// Works out the ends in the rooms of layouts, where they are not kept yet.
+// Works out the ends in a room that is not below the least one, where they are not kept yet.
+fn ask_room(
+    sources: &Sources<'_>,
+    near: &NearList,
+    room: &TextRoom,
+    rooms: &mut Vec<RoomEnds>,
+    calls: &mut Calls,
+) -> Result<(), AllocError>
+    requires { IsRoom room.now }
+    ensures has { OnOk result (has_text_of sources.now.style.now room.now ≡ true →
+        has_room rooms.new.items room.now ≡ true) }
+    ensures keeps { OnOk result ((other : ATextRoom) → has_room rooms.old.items other ≡ true →
+        has_room rooms.new.items other ≡ true) }
+    ensures right { OnOk result (IsNearOnPages (doc_of sources.now) near.now →
+        IsPageRoom sources.now.style.now room.now → AreCalls (doc_of sources.now) calls.old.items.items →
+        AllByRecursion (AreRoomEnds (doc_of sources.now) near.now.candidates) rooms.old.items →
+        AllByRecursion (AreRoomEnds (doc_of sources.now) near.now.candidates) rooms.new.items) }
+    ensures calls { OnOk result (AreCalls (doc_of sources.now) calls.old.items.items →
+        AreCalls (doc_of sources.now) calls.new.items.items) }
+{
+    if !has_text(sources.style, room) {
+        return Ok(());
+    }
+    add_room(sources, near, room, rooms, calls)
+}
+
+// Works out the ends in the rooms of layouts that are not below the least one, where they are not kept yet.
 fn add_rooms(
     sources: &Sources<'_>,
     near: &NearList,
@@ -138,7 +159,8 @@ fn add_rooms(
     calls: &mut Calls,
 ) -> Result<(), AllocError>
     requires small { AllByRecursion (λ (it : ALaid). IsRoom it.room) laid.now }
-    ensures has { OnOk result ((it : ALaid) → Contains laid.now it → has_room rooms.new.items it.room ≡ true) }
+    ensures has { OnOk result ((it : ALaid) → Contains laid.now it → has_text_of sources.now.style.now it.room ≡ true →
+        has_room rooms.new.items it.room ≡ true) }
     ensures right { OnOk result (IsNearOnPages (doc_of sources.now) near.now →
         AllByRecursion (λ (it : ALaid). IsPageRoom sources.now.style.now it.room) laid.now →
         AreCalls (doc_of sources.now) calls.old.items.items →
@@ -148,31 +170,9 @@ fn add_rooms(
         AreCalls (doc_of sources.now) calls.new.items.items) }
 {
     for it in laid {
-        add_room(sources, near, &it.room, rooms, calls)?;
+        ask_room(sources, near, &it.room, rooms, calls)?;
     }
     Ok(())
-}
-
-// Works out the ends behind a front in the rooms of layouts, where they are not kept yet.
-fn ask_behind(
-    sources: &Sources<'_>,
-    laid: &[Laid],
-    behind: &mut Option<FrontEnds>,
-    calls: &mut Calls,
-) -> Result<(), AllocError>
-    requires small { AllByRecursion (λ (it : ALaid). IsRoom it.room) laid.now }
-    ensures has { OnOk result ((it : ALaid) → Contains laid.now it → has_behind behind.new it.room ≡ true) }
-    ensures right { OnOk result (AllByRecursion (λ (it : ALaid). IsPageRoom sources.now.style.now it.room) laid.now →
-        AreCalls (doc_of sources.now) calls.old.items.items →
-        IfSome behind.old (AreFrontEnds (doc_of sources.now)) → IfSome behind.new (AreFrontEnds (doc_of sources.now))) }
-    ensures walk { OnOk result (behind_candidates behind.new ≡ behind_candidates behind.old) }
-    ensures calls { OnOk result (AreCalls (doc_of sources.now) calls.old.items.items →
-        AreCalls (doc_of sources.now) calls.new.items.items) }
-{
-    match behind {
-        None => Ok(()),
-        Some(it) => add_rooms(sources, &it.walk.near, laid, &mut it.rooms, calls),
-    }
 }
 
 /// The ends in a room, and none where they are not kept.
@@ -195,19 +195,6 @@ pub fn groups_in<'a>(rooms: &'a [RoomEnds], room: &TextRoom) -> &'a [Group]
     }
 }
 
-impl FrontEnds {
-    /// A walk behind a front, with no room asked for. No memory is taken.
-    pub fn new(alloc: Global, walk: FrontWalk) -> FrontEnds
-        ensures walk { result.walk ≡ walk }
-        ensures rooms { result.rooms.items ≡ [] }
-    {
-        FrontEnds {
-            walk,
-            rooms: Vec::new(alloc),
-        }
-    }
-}
-
 impl PlaceEnds {
     /// A walk, with no room asked for, and calls of any places. No memory is taken.
     pub fn new(alloc: Global, walk: PlaceWalk, calls: Calls) -> PlaceEnds
@@ -226,29 +213,30 @@ impl PlaceEnds {
 
     /// The ends along the first stretch from a place, with no room asked for, what is kept behind the front there, and calls
     /// of any places. No memory is taken.
-    pub fn before(alloc: Global, near: NearList, behind: FrontEnds, calls: Calls) -> PlaceEnds
-        ensures walk { result.walk ≡ record { near = near; reach = behind.walk.reach } }
+    pub fn before(alloc: Global, walk: PlaceWalk, behind: Behind, calls: Calls) -> PlaceEnds
+        ensures walk { result.walk ≡ walk }
         ensures rooms { result.rooms.items ≡ [] }
         ensures calls { result.calls ≡ calls }
         ensures behind { result.behind ≡ Some behind }
     {
-        let reach = behind.walk.reach;
         PlaceEnds {
-            walk: PlaceWalk { near, reach },
+            walk,
             rooms: Vec::new(alloc),
             calls,
             behind: Some(behind),
         }
     }
 
-    /// Works out the ends in the rooms of layouts, where they are not kept yet.
+    /// Works out the ends in the rooms of layouts that are not below the least one, where they are not kept yet.
     ///
     /// Condition: the numbers of each room are below 2^40 in size. The one refusal is want of memory.
     pub fn ask_all(&mut self, sources: &Sources<'_>, laid: &[Laid]) -> Result<(), AllocError>
         requires small { AllByRecursion (λ (it : ALaid). IsRoom it.room) laid.now }
         ensures walk { OnOk result (self.new.walk ≡ self.old.walk) }
-        ensures has { OnOk result ((it : ALaid) → Contains laid.now it → has_room self.new.rooms.items it.room ≡ true) }
-        ensures behind { OnOk result ((it : ALaid) → Contains laid.now it → has_behind self.new.behind it.room ≡ true) }
+        ensures has { OnOk result ((it : ALaid) → Contains laid.now it → has_text_of sources.now.style.now it.room ≡ true →
+            has_room self.new.rooms.items it.room ≡ true) }
+        ensures behind { OnOk result ((it : ALaid) → Contains laid.now it → has_text_of sources.now.style.now it.room ≡ true →
+            has_behind self.new.behind it.room ≡ true) }
         ensures right { OnOk result ((from : APlace) →
             AllByRecursion (λ (it : ALaid). IsPageRoom sources.now.style.now it.room) laid.now →
             ArePlaceEnds (doc_of sources.now) from self.old → ArePlaceEnds (doc_of sources.now) from self.new) }

@@ -1,10 +1,11 @@
 -- What is kept of a place is kept for an equal document.
-use Rattle.std.proofs.Common.{◌≡◌, sym, subst, List, [], true, Option, Some, IfSome, ℕ}
+use Rattle.std.proofs.Common.{◌≡◌, ◌∙◌, sym, ap, subst, List, [], true, Option, Some, IfSome, ℕ, ℤ}
 use Rattle.std.proofs.Props.{props}
 use Rattle.std.proofs.Math.Logic.{∥∥₁_elim, ∥∥₁_map₂}
 use Rattle.pg_list.specs.GalleyValue.{GalleyValue}
 use Rattle.pg_list.specs.declared.galley.Place.{Place}
 use Rattle.pg_style.specs.Values.{StyleValue}
+use Rattle.pg_hops.specs.declared.state.State.{State}
 use Rattle.pg_rules.specs.Legal.{document}
 use Rattle.pg_rooms.specs.Calls.{AreCalls}
 use Rattle.pg_rooms.specs.PlaceEnds.{AreFrontEnds, ArePlaceEnds}
@@ -13,12 +14,19 @@ use Rattle.pg_rules.specs.IsState.{IsPlace}
 use Rattle.pg_rules.specs.Room.{Document}
 use Rattle.law_space.specs.ReachAt.{reach_at}
 use Rattle.law_space.specs.ReachLaws.{IsTheReach}
-use Rattle.pg_candidates.specs.Nears.{NearsValue}
-use Rattle.pg_walk.specs.Fronts.{ComesTo, FrontsServe, Serves, is_same_front}
+use Rattle.law_walk.specs.Reached.{quiet, tallest}
+use Rattle.law_walk.specs.Space.{WalkState}
+use Rattle.pg_walk.specs.Blocks.{IsBegun}
+use Rattle.pg_walk.specs.Fronts.{ComesTo, FrontsServe, IsReachBehind, ReachesServe, Serves, is_same_state}
+use Rattle.pg_walk.specs.Meaning.{state_of}
+use Rattle.pg_walk.specs.Moved.{IsMoved}
 use Rattle.pg_walk.specs.declared.front.Front.{Front}
+use Rattle.pg_walk.specs.declared.place.PlaceWalk.{PlaceWalk}
+use Rattle.pg_walk.proofs.Behind.{same_state}
 use Rattle.pg_rooms.specs.declared.calls.Calls.{Calls}
 use Rattle.pg_rooms.specs.declared.calls.Call.{Call}
-use Rattle.pg_rooms.specs.declared.place_ends.FrontEnds.{FrontEnds}
+use Rattle.pg_rooms.specs.declared.behind.Behind.{Behind}
+use Rattle.pg_rooms.specs.declared.behind.FrontEnds.{FrontEnds}
 use Rattle.pg_rooms.specs.declared.place_ends.PlaceEnds.{PlaceEnds}
 use Rattle.pg_space.proofs.Telling.{of_equal}
 
@@ -45,33 +53,49 @@ with_calls g h s t from it calls p q = of_equal (λ (a : GalleyValue) (b : Style
     AreCalls (document a b) calls → ArePlaceEnds (document a b) from it) g h s t p q
 
 -- what serves of a place for others: what is kept behind its front, if something is
-pub front_of : (doc : Document) (from : Place) (it : PlaceEnds) (ends : FrontEnds) → it.behind ≡ Some ends →
-    ArePlaceEnds doc from it → AreFrontEnds doc ends
-front_of doc from it ends e right = subst (λ (o : Option FrontEnds). IfSome o (AreFrontEnds doc)) e right.behind
+pub front_of : (doc : Document) (from : Place) (it : PlaceEnds) (behind : Behind) → it.behind ≡ Some behind →
+    ArePlaceEnds doc from it → AreFrontEnds doc behind.ends
+front_of doc from it behind e right =
+    subst (λ (o : Option Behind). IfSome o (λ (b : Behind). AreFrontEnds doc b.ends)) e right.behind
 
 one_reach : (m n : ℕ) → IsProp (m ≡ n)
 one_reach m n = hlevel props
 
--- a first stretch with what is merely known to be kept behind the front there
-module _ (g h : GalleyValue) (s t : StyleValue) (p : g ≡ h) (q : s ≡ t) (from : Place) (near : NearsValue)
-    (front : Front) (ends : FrontEnds) (law : FrontsServe (document g s)) (at : IsPlace g.blocks from)
-    (comes : ComesTo (document g s) from near front) (alike : is_same_front ends.walk.front front ≡ true)
-    (right : ∥ AreFrontEnds (document h t) ends ∥₁) where
-  here : AreFrontEnds (document h t) ends → AreFrontEnds (document g s) ends
-  here = of_equal (λ (a : GalleyValue) (b : StyleValue). AreFrontEnds (document a b) ends) h g t s (sym p) (sym q)
-
-  serves : AreFrontEnds (document h t) ends → Serves (document g s) from near ends.walk
-  serves are = law from near front ends.walk at comes alike (here are).walk
-
-  pub before_front : (it : PlaceEnds) (calls : Calls) → it.walk.near ≡ near → it.rooms.items ≡ [] → it.calls ≡ calls →
-      it.behind ≡ Some ends → ∥ AreCalls (document h t) calls.items.items ∥₁ → ∥ ArePlaceEnds (document h t) from it ∥₁
-  before_front it calls n r k b called = ∥∥₁_map₂ right called (λ are those.
+module _ (g h : GalleyValue) (s t : StyleValue) (p : g ≡ h) (q : s ≡ t) (from : Place) (at : IsPlace g.blocks from) where
+  -- a first stretch with what is merely known to be kept behind the front there, from a state that is moved to it
+  pub before_front : (it : PlaceEnds) (walk : PlaceWalk) (front : Front) (base : State) (height : ℤ)
+      (bound : Option ℤ) (ends : FrontEnds) (behind : Behind) (calls : Calls) → FrontsServe (document g s) →
+      ComesTo (document g s) from walk.near front → IsMoved height bound (state_of base) (state_of front.start) →
+      is_same_state (state_of ends.walk.base) (state_of base) ≡ true → ∥ AreFrontEnds (document h t) ends ∥₁ →
+      behind.ends ≡ ends → behind.by ≡ height → behind.bound ≡ bound → it.walk ≡ walk → it.rooms.items ≡ [] →
+      it.calls ≡ calls → it.behind ≡ Some behind → ∥ AreCalls (document h t) calls.items.items ∥₁ →
+      ∥ ArePlaceEnds (document h t) from it ∥₁
+  before_front it walk front base height bound ends behind calls law comes moved alike right e b o w r k is called =
+      ∥∥₁_map₂ right called (λ are those.
       of_equal (λ (a : GalleyValue) (b : StyleValue). ArePlaceEnds (document a b) from it) g h s t p q
-      (before (document g s) from it near front ends calls n r k b comes (here are) (serves are)
+      (before (document g s) from it walk front behind calls w r k is comes (here are)
+      (law from walk.near front behind.by behind.bound behind.ends.walk at comes there (here are).walk)
       (of_equal (λ (a : GalleyValue) (b : StyleValue). AreCalls (document a b) calls.items.items) h g t s
       (sym p) (sym q) those)))
+    where
+      here : AreFrontEnds (document h t) ends → AreFrontEnds (document g s) behind.ends
+      here are = subst (AreFrontEnds (document g s)) (sym e)
+          (of_equal (λ (a : GalleyValue) (b : StyleValue). AreFrontEnds (document a b) ends) h g t s (sym p) (sym q) are)
 
-  pub reach_before : IsTheReach (document g s) → ends.walk.reach ≡ reach_at (document h t) from
-  reach_before reach = of_equal (λ (a : GalleyValue) (b : StyleValue). ends.walk.reach ≡ reach_at (document a b) from)
-      g h s t p q (∥∥₁_elim right (one_reach ends.walk.reach (reach_at (document g s) from))
-      (λ are. (reach from at).1 ends.walk.reach (serves are).reach))
+      same : state_of behind.ends.walk.base ≡ state_of base
+      same = ap (λ (x : FrontEnds). state_of x.walk.base) e ∙ same_state (state_of ends.walk.base) (state_of base) alike
+
+      there : IsMoved behind.by behind.bound (state_of behind.ends.walk.base) (state_of front.start)
+      there = subst (λ (z : ℤ). IsMoved z behind.bound (state_of behind.ends.walk.base) (state_of front.start)) (sym b)
+          (subst (λ (x : Option ℤ). IsMoved height x (state_of behind.ends.walk.base) (state_of front.start)) (sym o)
+          (subst (λ (u : WalkState). IsMoved height bound u (state_of front.start)) (sym same) moved))
+
+  -- how far columns go that come to a front in a state of which it is merely known
+  pub kept_reach : (start kept : State) (reach : ℕ) → ReachesServe (document g s) → IsTheReach (document g s) →
+      IsBegun (quiet (document g s)) (tallest s) from start → is_same_state (state_of kept) (state_of start) ≡ true →
+      ∥ IsReachBehind (document h t) kept reach ∥₁ → reach ≡ reach_at (document g s) from
+  kept_reach start kept reach law one begun alike right =
+      ∥∥₁_elim right (one_reach reach (reach_at (document g s) from)) (λ is.
+      (one from at).1 reach (law from start kept reach at begun alike
+      (of_equal (λ (a : GalleyValue) (b : StyleValue). IsReachBehind (document a b) kept reach) h g t s (sym p) (sym q)
+      is)))

@@ -1,6 +1,6 @@
-//! The space of pages of one document, which keeps the walk of the place that was opened last, and what is called before
-//! all ends.
-ghost use Rattle.std.specs.Prelude.{◌≡◌, [], true, pos, IfOk, IfSome};
+//! The space of pages of one document, which keeps the walk of the place that was opened last, what stands behind the front
+//! of the next choice, and what is called before all ends.
+ghost use Rattle.std.specs.Prelude.{◌≡◌, ◌<ℤ◌, ◌≤ℤ◌, ◌^◌, [], true, pos, IfOk};
 ghost use Rattle.pg_floats.specs.AreFloats.{AreFloats};
 ghost use Rattle.pg_hops.specs.Index.{AreHops};
 ghost use Rattle.pg_hops.specs.OneProof.{AreHops_prop};
@@ -8,8 +8,11 @@ ghost use Rattle.pg_list.specs.GalleyValue.{GalleyValue};
 ghost use Rattle.pg_sources.specs.Document.{doc_of};
 ghost use Rattle.law_space.specs.ReachAt.{reach_at};
 ghost use Rattle.pg_rooms.specs.Calls.{AreCalls};
-ghost use Rattle.pg_rooms.specs.PlaceEnds.{AreFrontEnds, ArePlaceEnds};
-ghost use Rattle.pg_walk.specs.Fronts.{ComesTo, IsAhead, is_same_front};
+ghost use Rattle.pg_rooms.specs.PlaceEnds.{ArePlaceEnds};
+ghost use Rattle.law_walk.specs.Reached.{quiet, tallest};
+ghost use Rattle.pg_walk.specs.Blocks.{IsBegun};
+ghost use Rattle.pg_walk.specs.Fronts.{ComesTo, is_same_state};
+ghost use Rattle.pg_walk.specs.Meaning.{IsOwn, state_of};
 ghost use Rattle.pg_rules.specs.IsState.{IsPlace, IsState};
 ghost use Rattle.pg_candidates.specs.Nears.{AreNearOnPages};
 ghost use Rattle.pg_rules.specs.Legal.{document};
@@ -20,19 +23,23 @@ ghost use Rattle.pg_style.specs.Values.{StyleValue};
 ghost use Rattle.pg_table.specs.Space.{AreWanted};
 ghost use Rattle.pg_space.specs.OneProof.{galley_set, style_set};
 
+use crate::fronts::{Fronts, KeptFront, KeptReach};
 use crate::space::PageSpace;
 use law_space::reach_laws::reach_is_the_greatest;
 use pg_floats::FloatList;
-use pg_hops::BreakIndex;
+use pg_hops::{BreakIndex, State as FrontState};
 use pg_list::{Galley, Place};
 use pg_moves::open_by;
 use pg_plan::{PageKey, State};
-use pg_rooms::{Calls, FrontEnds, PlaceEnds};
+use pg_rooms::{Behind, Calls, FrontEnds, PlaceEnds};
 use pg_small::{SmallMove, SmallState};
 use pg_states::no_worse;
 use pg_style::Style;
 use pg_table::{EveryMove, Offering, Opened, Space, Steps, Wants};
-use pg_walk::{Front, NearList, PlaceWalk, fronts_serve, walk_behind, walk_first};
+use pg_walk::{
+    Front, LoweredState, NearList, PlaceWalk, fronts_serve, lowered, reach_behind, reaches_serve,
+    walk_behind, walk_first,
+};
 use std::alloc::{AllocError, Global};
 use std::cell::RefCell;
 use std::cmp::Ordering;
@@ -52,20 +59,12 @@ impl Document for Brand {
     ghost style = { plain (pos 65536) };
 }
 
-/// What is kept behind the front of a choice of the document.
-#[derive(Drop)]
-struct KeptFront<D: Document> {
-    ends: FrontEnds,
-    of: PhantomData<D>,
-    ghost right: { ∥ AreFrontEnds (document D.galley D.style) ends ∥₁ },
-}
-
 /// What is kept of a place of the document, and behind the front of the next choice for columns from other places.
 #[derive(Drop)]
 struct Kept<D: Document> {
     from: Place,
     ends: PlaceEnds,
-    fronts: Vec<KeptFront<D>>,
+    fronts: Fronts<D>,
     of: PhantomData<D>,
     ghost right: { ∥ ArePlaceEnds (document D.galley D.style) from ends ∥₁ },
     ghost reach: { ends.walk.reach ≡ reach_at (document D.galley D.style) from },
@@ -75,7 +74,7 @@ struct Kept<D: Document> {
 #[derive(Drop)]
 struct Shared<D: Document> {
     calls: Calls,
-    fronts: Vec<KeptFront<D>>,
+    fronts: Fronts<D>,
     ghost right: { ∥ AreCalls (document D.galley D.style) calls.items.items ∥₁ },
 }
 
@@ -83,7 +82,7 @@ struct Shared<D: Document> {
 fn nothing_shared<D: Document>(alloc: Global) -> Shared<D> {
     Shared {
         calls: Calls::none(alloc),
-        fronts: Vec::new(alloc),
+        fronts: Fronts::none(alloc),
     }
 }
 
@@ -92,43 +91,29 @@ fn shared_of<D: Document>(kept: Kept<D>) -> Result<Shared<D>, AllocError> {
     let ends = kept.ends;
     let mut fronts = kept.fronts;
     let PlaceEnds { calls, behind, .. } = ends;
-    if let Some(ends) = behind {
+    if let Some(behind) = behind {
         let front = KeptFront {
-            ends,
+            ends: behind.ends,
             of: PhantomData,
         };
-        fronts.push(front)?;
+        fronts.ends.push(front)?;
     }
     Ok(Shared { calls, fronts })
 }
 
-// Whether these are kept behind another front than the one at a block.
-fn is_other<D: Document>(fronts: &[KeptFront<D>], block: u32) -> bool {
-    match fronts.first() {
-        Some(first) => first.ends.walk.front.start.block != block,
-        None => false,
-    }
-}
-
-// Whether this is kept for columns that come to a front alike.
-fn is_for<D: Document>(kept: &KeptFront<D>, front: &Front) -> bool
-    ensures { result ≡ is_same_front kept.now.ends.walk.front front.now }
+// What is kept behind a front, for columns that come there in a state that was lowered.
+fn behind_by(ends: FrontEnds, lowered: &LoweredState) -> Behind
+    requires up { pos 0 ≤ℤ lowered.now.by }
+    requires small { lowered.now.by <ℤ pos (2 ^ 39) }
+    ensures ends { result.ends ≡ ends }
+    ensures by { result.by ≡ lowered.now.by }
+    ensures bound { result.bound ≡ lowered.now.bound }
 {
-    kept.ends.walk.front.is_same(front)
-}
-
-// Takes out what is kept for columns that come to a front alike.
-fn take_front<D: Document>(fronts: &mut Vec<KeptFront<D>>, front: &Front) -> Option<KeptFront<D>>
-    ensures { IfSome result (λ it. is_same_front it.ends.walk.front front.now ≡ true) }
-{
-    let mut at = 0;
-    'fronts: while at < fronts.len() {
-        if is_for(&fronts[at], front) {
-            return Some(fronts.swap_remove(at));
-        }
-        at += 1;
+    Behind {
+        ends,
+        by: lowered.by,
+        bound: lowered.bound,
     }
-    None
 }
 
 /// The columns behind a state, and what is kept of its place.
@@ -175,41 +160,58 @@ impl<'a, D: Document> KeptPages<'a, D> {
         }
     }
 
-    // A walk behind a front to which columns from a place come.
-    fn walk_behind(&self, from: Place, front: Front) -> Result<KeptFront<D>, AllocError>
-        requires place { IsPlace self.now.pages.sources.galley.now.blocks from }
-        requires ahead { IsAhead (doc_of self.now.pages.sources) from front }
-        ensures { IfOk result (λ it. is_same_front it.ends.walk.front front ≡ true) }
+    // A walk behind a front, from a state before it.
+    fn walk_behind(&self, base: FrontState) -> Result<KeptFront<D>, AllocError>
+        requires { IsOwn (doc_of self.now.pages.sources) (tallest self.now.pages.sources.style.now) base }
+        ensures { IfOk result (λ it. is_same_state (state_of it.ends.walk.base) (state_of base) ≡ true) }
     {
         let sources = &self.pages.sources;
         let alloc = sources.alloc;
-        let galley = sources.galley;
-        let style = sources.style;
-        let walk = walk_behind(alloc, galley, style, self.index, from, front)?;
+        let walk = walk_behind(alloc, sources.galley, sources.style, self.index, base)?;
         Ok(KeptFront {
             ends: FrontEnds::new(alloc, walk),
             of: PhantomData,
         })
     }
 
-    // What stands behind that front: what is kept for others that come there alike, or a walk where nothing is.
-    fn behind(
-        &self,
-        from: Place,
-        front: Front,
-        fronts: &mut Vec<KeptFront<D>>,
-    ) -> Result<KeptFront<D>, AllocError>
-        requires place { IsPlace self.now.pages.sources.galley.now.blocks from }
-        requires ahead { IsAhead (doc_of self.now.pages.sources) from front }
-        ensures { IfOk result (λ it. is_same_front it.ends.walk.front front ≡ true) }
+    // What stands behind a front, from a state before it: what is kept of it, or a walk where nothing is.
+    fn behind(&self, base: FrontState, fronts: &mut Fronts<D>) -> Result<KeptFront<D>, AllocError>
+        requires { IsOwn (doc_of self.now.pages.sources) (tallest self.now.pages.sources.style.now) base }
+        ensures { IfOk result (λ it. is_same_state (state_of it.ends.walk.base) (state_of base) ≡ true) }
     {
-        if is_other(fronts.as_slice(), front.start.block) {
-            fronts.clear();
-        }
-        let Some(kept) = take_front(fronts, &front) else {
-            return self.walk_behind(from, front);
+        let Some(kept) = fronts.take(&base) else {
+            return self.walk_behind(base);
         };
         Ok(kept)
+    }
+
+    // How far columns from a place may go, which come to the front of a choice in a state where they pass no notes.
+    fn reach_behind(
+        &self,
+        from: Place,
+        start: FrontState,
+        fronts: &mut Fronts<D>,
+    ) -> Result<u32, AllocError>
+        requires place { IsPlace self.now.pages.sources.galley.now.blocks from }
+        requires start { IsBegun (quiet (doc_of self.now.pages.sources)) (tallest self.now.pages.sources.style.now) from start }
+        ensures { IfOk result (λ reach. reach ≡ reach_at (doc_of self.now.pages.sources) from) }
+    {
+        let sources = &self.pages.sources;
+        let galley = sources.galley;
+        let style = sources.style;
+        reaches_serve(galley, style);
+        reach_is_the_greatest(galley, style);
+        if let Some(kept) = fronts.reach_from(&start) {
+            return Ok(kept.reach);
+        }
+        let reach = reach_behind(sources.alloc, galley, style, self.index, from, start)?;
+        let told = KeptReach {
+            start,
+            reach,
+            of: PhantomData,
+        };
+        fronts.reaches.push(told)?;
+        Ok(reach)
     }
 
     // What is kept of a place whose columns come to a front: the ends up to it, and what is kept behind it.
@@ -225,11 +227,15 @@ impl<'a, D: Document> KeptPages<'a, D> {
         ensures { IfOk result (λ kept. kept.from ≡ from) }
     {
         let sources = &self.pages.sources;
-        let mut fronts = shared.fronts;
-        let kept = self.behind(from, front, &mut fronts)?;
         fronts_serve(sources.galley, sources.style);
-        reach_is_the_greatest(sources.galley, sources.style);
-        let ends = PlaceEnds::before(sources.alloc, near, kept.ends, shared.calls);
+        let mut fronts = shared.fronts;
+        fronts.go_on_to(front.start.block);
+        let reach = self.reach_behind(from, front.quiet, &mut fronts)?;
+        let lowered = lowered(&front.start);
+        let kept = self.behind(lowered.base, &mut fronts)?;
+        let behind = behind_by(kept.ends, &lowered);
+        let walk = PlaceWalk { near, reach };
+        let ends = PlaceEnds::before(sources.alloc, walk, behind, shared.calls);
         Ok(Kept {
             from,
             ends,

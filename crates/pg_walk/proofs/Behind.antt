@@ -1,5 +1,5 @@
--- What stands behind a front serves each place whose columns come there alike.
-use Rattle.std.proofs.Common.{◌≡◌, refl, sym, ap, ◌∙◌, subst, ℕ, ◌+◌, ◌≤◌, inl, inr, List, [], ◌∷◌, ◌++◌, drop, arith, Bool, true, Option, Some, None, ℤ}
+-- Where the ends behind a front stand, and how far columns go there.
+use Rattle.std.proofs.Common.{◌≡◌, refl, sym, ap, ◌∙◌, subst, ℕ, ◌+◌, ◌≤◌, inl, inr, List, [], ◌∷◌, ◌++◌, drop, arith, true, Option, Some, None, ℤ}
 use Rattle.std.specs.Prelude.{◌<◌, reverse, slice_get, ◌⊎◌}
 use Rattle.std.specs.List.{AllByRecursion}
 use Rattle.pg_column.specs.Passed.{nothing}
@@ -14,30 +14,25 @@ use Rattle.pg_rules.specs.Reach.{IsReach}
 use Rattle.pg_rules.specs.Room.{Document}
 use Rattle.pg_sums.specs.declared.totals.Totals.{Totals}
 use Rattle.pg_table.specs.Space.{Run}
-use Rattle.pg_table.specs.declared.table.Entry.{Entry}
 use Rattle.law_places.proofs.Tests.{both_same, le_int}
 use Rattle.law_walk.specs.Best.{IsAmong}
-use Rattle.law_walk.specs.Candidates.{AreCandidates, Candidate, is_no_greater}
-use Rattle.law_walk.specs.Laws.{LabelsSuffice, LabelsTellReach}
+use Rattle.law_walk.specs.Candidates.{Candidate, is_no_greater}
+use Rattle.law_walk.specs.Laws.{LabelsTellReach}
 use Rattle.law_walk.specs.Reached.{first_reach, quiet, tallest}
 use Rattle.law_walk.specs.Space.{IsStart, WalkState, first_ends, is_no_worse}
-use Rattle.law_walk.specs.Walk.{first_front, first_items, past_stretch, picked_front, variants_at}
+use Rattle.law_walk.specs.Walk.{first_front, first_items, picked_front, variants_at}
 use Rattle.law_walk.proofs.SpaceLaws.{are_same, no_worse_of, past_parts}
 use Rattle.law_walk.proofs.Bounds.{no_greater_itself}
 use Rattle.law_walk.proofs.Stretches.{front_behind}
-use Rattle.pg_candidates.specs.Nears.{NearsValue}
 use Rattle.pg_walk.specs.Blocks.{IsBegun, IsGreatestFrom}
-use Rattle.pg_walk.specs.Collected.{Collects, HasEnds, IsOfLabels}
-use Rattle.pg_walk.specs.Fronts.{AreApart, ComesTo, FrontsServe, IsFrontWalk, Serves, is_same_front, is_same_state}
+use Rattle.pg_walk.specs.Collected.{Collects, IsOfLabels}
+use Rattle.pg_walk.specs.Fronts.{AreApart, ReachesServe, is_same_state}
 use Rattle.pg_walk.specs.Furthest.{GoesTo, IsFurthest}
 use Rattle.pg_walk.specs.Meaning.{space_meaning, state_of}
 use Rattle.pg_walk.specs.Reaching.{along_to, along_whole}
-use Rattle.pg_walk.specs.declared.front.Front.{Front}
-use Rattle.pg_walk.specs.declared.front.FrontWalk.{FrontWalk}
-use Rattle.pg_walk.proofs.Collecting.{are_collected, has_pick}
+use Rattle.pg_walk.proofs.Collecting.{has_pick}
 use Rattle.pg_walk.proofs.Greatest.{is_greatest}
 use Rattle.pg_walk.proofs.Lifted.{entries_of, lifted}
-use Rattle.pg_walk.proofs.Moves.{among_cases, among_left, among_right}
 use Rattle.pg_walk.proofs.Standing.{IsPast, before_between, first_before, in_turn, past_front, past_lower, up_to}
 
 -- ---- states that are the same
@@ -61,16 +56,22 @@ same_state u v e =
         (record { block = n; passed = record { totals = t'; notes = ns'; bound = o' } })
     make m n t t' ns ns' o o' p q r s = rw (p, q, r, s) refl
 
--- ---- the state before a front that another place's columns come to
+-- each is the same as itself
+pub state_itself : (u : WalkState) → is_same_state u u ≡ true
+state_itself u = both _ _ itself itself
+  where
+    itself : is_no_worse u u ≡ true
+    itself = no_worse_of u u
+        (record { block = refl; totals = refl; notes = refl; bound = no_greater_itself u.passed.bound })
 
-start_of : (doc : Document) (top : ℤ) (from : Place) (start kept : State) → IsBegun doc top from start →
-    state_of kept ≡ state_of start → IsStart doc top from (state_of kept)
-start_of doc top from start kept is same =
-    subst (IsStart doc top from) (sym same) (record { block = is.front; past = sym is.past })
+-- ---- the state before a front
+
+-- columns from a place come to the front in this state
+pub start_of : (doc : Document) (top : ℤ) (from : Place) (start : State) → IsBegun doc top from start →
+    IsStart doc top from (state_of start)
+start_of doc top from start is = record { block = is.front; past = sym is.past }
 
 module _ (doc : Document) (top : ℤ) (from : Place) (kept : State) (start : IsStart doc top from (state_of kept)) where
-  -- ---- how far columns go
-
   -- what is passed goes up to the front
   front_reach : kept.block ≡ first_reach doc top from
   front_reach =
@@ -80,27 +81,6 @@ module _ (doc : Document) (top : ℤ) (from : Place) (kept : State) (start : IsS
       let high = along_to doc top 0 (first_front doc.blocks from) nothing (first_items doc.blocks from)
       (before_between (first_front doc.blocks from) (first_items doc.blocks from) (first_before doc.blocks from)) in
       let same : kept.block ≡ first_front doc.blocks from = start.block in omega (arith, low, high, same)
-
-  -- ---- the candidates
-
-  with_first : (old cs : List Candidate) (es : List (Entry State ℕ)) → HasEnds doc top es es [] cs →
-      HasEnds doc top es es old (old ++ cs)
-  with_first old cs es h = record {
-    each = λ c a. elim (among_cases old cs c a) [
-      | inl p ↦ inl p
-      | inr q ↦ elim (h.each c q) [ inl n ↦ absurd n | inr l ↦ inr l ]
-    ];
-    kept = λ c a. among_left old cs c a;
-    labels = λ c l. among_right old cs c (h.labels c l);
-  }
-
-  suffice : LabelsSuffice doc → IsPlace doc.blocks from → (cs : List Candidate) → Collects doc top kept [] cs →
-      AreCandidates doc from top (first_ends doc top from ++ cs)
-  suffice law at cs all =
-      law from top (state_of kept) (entries_of all.es) (first_ends doc top from ++ cs) at start
-      (lifted doc top kept all.es all.table)
-      (are_collected doc top from kept all.es all.table (first_ends doc top from ++ cs)
-      (with_first (first_ends doc top from) cs all.es all.ends))
 
 -- ---- where they stand
 
@@ -142,7 +122,7 @@ pub alone_at : (doc : Document) (z top : ℤ) → z ≡ top → (from : Place) (
 alone_at doc z top t from old new none is =
     is ∙ (ap (λ (xs : List Candidate). xs ++ first_ends doc z from) none ∙ ap (λ (y : ℤ). first_ends doc y from) t)
 
--- ---- all of it
+-- ---- how far columns go
 
 reaches : (doc : Document) (law : LabelsTellReach doc) (from : Place) (kept : State) (n : ℕ) → IsPlace doc.blocks from →
     IsStart (quiet doc) (tallest doc.style) from (state_of kept) →
@@ -164,34 +144,13 @@ greatest_behind doc from start n is goes = inr (record {
   past = is.past;
   goes = subst (λ (b : ℕ). GoesTo (quiet doc) (tallest doc.style) start b n)
       (front_reach (quiet doc) (tallest doc.style) from start
-      (start_of (quiet doc) (tallest doc.style) from start start is refl)) goes;
+      (start_of (quiet doc) (tallest doc.style) from start is)) goes;
 })
 
--- columns come to one front as they come there
-pub front_itself : (front : Front) → is_same_front front front ≡ true
-front_itself front = both _ _ (state_itself (state_of front.start)) (state_itself (state_of front.quiet))
-  where
-    itself : (u : WalkState) → is_no_worse u u ≡ true
-    itself u = no_worse_of u u
-        (record { block = refl; totals = refl; notes = refl; bound = no_greater_itself u.passed.bound })
-
-    state_itself : (u : WalkState) → is_same_state u u ≡ true
-    state_itself u = both _ _ (itself u) (itself u)
-
-pub serve : (doc : Document) → AllByRecursion IsBlock doc.blocks → LabelsSuffice doc → LabelsTellReach doc →
-    FrontsServe doc
-serve doc blocks labels reach from near front it at comes alike walk =
-    let two = both_of (is_same_state (state_of it.front.start) (state_of front.start)) _ alike in
-    let start = start_of doc (tallest doc.style) from front.start it.front.start comes.ahead.start
-    (same_state _ _ two.0) in
-    let still = start_of (quiet doc) (tallest doc.style) from front.quiet it.front.quiet comes.ahead.quiet
-    (same_state _ _ two.1) in
-    record {
-      candidates = subst (λ (cs : List Candidate).
-          AreCandidates doc from (tallest doc.style) (cs ++ it.near.candidates)) (sym comes.ends)
-          (suffice doc (tallest doc.style) from it.front.start start labels at it.near.candidates walk.ends);
-      apart = subst (λ (cs : List Candidate). AreApart cs it.near.candidates) (sym comes.ends)
-          (apart doc (tallest doc.style) from it.front.start start.block blocks at it.near.candidates walk.ends);
-      reach = subst (IsReach doc from) (sym walk.reach.is)
-          (reaches doc reach from it.front.quiet walk.reach.greatest at still walk.reach.goes);
-    }
+pub reaches_all : (doc : Document) → LabelsTellReach doc → ReachesServe doc
+reaches_all doc law from start kept reach at begun alike is =
+    subst (IsReach doc from) (sym is.is)
+    (reaches doc law from kept is.greatest at
+    (subst (IsStart (quiet doc) (tallest doc.style) from)
+    (sym (same_state (state_of kept) (state_of start) alike))
+    (start_of (quiet doc) (tallest doc.style) from start begun)) is.goes)

@@ -16,7 +16,7 @@ use Rattle.pg_rules.specs.IsState.{IsPlace}
 use Rattle.pg_rules.specs.Legal.{document}
 use Rattle.pg_rules.specs.Reach.{IsReach, greatest_extra}
 use Rattle.pg_rules.specs.Room.{Document}
-use Rattle.pg_hops.specs.View.{IsFor, view, views}
+use Rattle.pg_hops.specs.View.{IsFor, views}
 use Rattle.pg_hops.specs.declared.passed.Passed.{Passed}
 use Rattle.pg_hops.specs.declared.state.State.{State}
 use Rattle.pg_style.specs.Values.{StyleValue}

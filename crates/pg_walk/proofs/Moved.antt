@@ -18,6 +18,7 @@ use Rattle.pg_style.specs.Values.{StyleValue}
 use Rattle.pg_sums.specs.Step.{counted, with_item}
 use Rattle.pg_sums.specs.declared.totals.Totals.{Totals}
 use Rattle.pg_column.specs.Passed.{Passed, are_within, crossed, fits, is_end_here, least_notes, least_room, nothing, pass_item, pass_items, raised, with_next}
+use Rattle.pg_rules.specs.IsState.{IsPlace}
 use Rattle.pg_rules.specs.Room.{Document}
 use Rattle.pg_breaks.specs.Near.{place_forced}
 use Rattle.pg_hops.specs.declared.state.State.{State}
@@ -31,6 +32,7 @@ use Rattle.law_places.proofs.Tests.{int_le_of, int_le_trans, le_int}
 use Rattle.law_walk.specs.Best.{IsAmong}
 use Rattle.law_walk.specs.Candidates.{AreCandidates, Candidate, is_no_greater, is_usable}
 use Rattle.law_walk.specs.Laws.{LabelsSuffice}
+use Rattle.law_walk.specs.Reached.{tallest}
 use Rattle.law_walk.specs.Space.{AreCollected, HasLabels, IsFromLabel, IsStart, Picks, WalkState, first_ends, is_no_worse, walk_meaning}
 use Rattle.law_walk.specs.Walk.{end_here, ends_along, first_front, first_items, past_stretch, picked_front, picked_stretch, variants_at}
 use Rattle.law_walk.proofs.BestLaws.{among_contains, contains_among}
@@ -40,8 +42,9 @@ use Rattle.law_walk.proofs.SpaceLaws.{AreSame, are_same, no_worse_of, past_of, p
 use Rattle.law_walk.proofs.Stretches.{items_fit}
 use Rattle.pg_walk.specs.Collected.{Collects, IsOfLabels}
 use Rattle.pg_walk.specs.Meaning.{state_of}
-use Rattle.pg_walk.specs.Moved.{IsMoved, MovedApart, MovedSuffice, moved, moved_candidate, over}
-use Rattle.pg_walk.proofs.Behind.{apart}
+use Rattle.pg_walk.specs.Fronts.{AreApart, FrontsServe}
+use Rattle.pg_walk.specs.Moved.{IsMoved, moved, moved_candidate, over}
+use Rattle.pg_walk.proofs.Behind.{apart, start_of}
 use Rattle.pg_walk.proofs.Collecting.{from_label, to_label}
 use Rattle.pg_walk.proofs.Lifted.{HasOrigin, among_map, entries_of, lifted, origin_of, run_of_mapped, with_state}
 use Rattle.pg_walk.proofs.Moves.{among_cases, among_left, among_right}
@@ -74,7 +77,7 @@ over_less (Some z) (Some x) (Some y) by n =
     int_le_of (int_max z (x +ℤ by)) (int_max z (y +ℤ by)) (omega (arith, ints, clamps, a))
 
 -- where the bound before lets pass, the moved bound lets pass in the moved room what the bound does in the room
-fits_over : (bound o : Option ℤ) (by top : ℤ) → fits bound (top +ℤ by) ≡ true →
+pub fits_over : (bound o : Option ℤ) (by top : ℤ) → fits bound (top +ℤ by) ≡ true →
     fits (over bound by o) (top +ℤ by) ≡ fits o top
 fits_over bound None by top f = f
 fits_over None (Some x) by top f = both_ways (int_le (x +ℤ by) (top +ℤ by)) (int_le x top)
@@ -581,7 +584,21 @@ module _ (doc : Document) (from : Place) (top by : ℤ) (bound : Option ℤ) (ba
             (among_map (moved_candidate by bound) cs e.end
             (all.ends.labels e.end (to_label doc top base all.es all.table e.end e.from))))
 
-pub moved_suffice : (doc : Document) → LabelsSuffice doc → MovedSuffice doc
+-- with the ends along the first stretch from a place those behind the base suffice, moved
+abbrev MovedSuffice : Document → Type 0
+MovedSuffice doc = (from : Place) (top by : ℤ) (bound : Option ℤ) (base : State) (start : WalkState)
+    (cs : List Candidate) → IsPlace doc.blocks from → IsStart doc top from start →
+    IsMoved by bound (state_of base) start → Collects doc top base [] cs →
+    AreCandidates doc from top (first_ends doc top from ++ map (moved_candidate by bound) cs)
+
+-- the ends along the first stretch stand before them
+abbrev MovedApart : Document → Type 0
+MovedApart doc = (from : Place) (top by : ℤ) (bound : Option ℤ) (base : State) (start : WalkState)
+    (cs : List Candidate) → IsPlace doc.blocks from → IsStart doc top from start →
+    IsMoved by bound (state_of base) start → Collects doc top base [] cs →
+    AreApart (first_ends doc top from) (map (moved_candidate by bound) cs)
+
+moved_suffice : (doc : Document) → LabelsSuffice doc → MovedSuffice doc
 moved_suffice doc law from top by bound base start cs at begun is all =
     let fits = room doc from top by bound base start begun is in
     fewer_rooms doc from top (top +ℤ by) (first_ends doc top from ++ map (moved_candidate by bound) cs)
@@ -596,8 +613,23 @@ moved_suffice doc law from top by bound base start cs at begun is all =
     (labels doc from top by bound base start begun is cs all)))
     (collected doc from top by bound base start begun is cs all))
 
-pub moved_apart : (doc : Document) → AllByRecursion IsBlock doc.blocks → MovedApart doc
+moved_apart : (doc : Document) → AllByRecursion IsBlock doc.blocks → MovedApart doc
 moved_apart doc blocks from top by bound base start cs at begun is all c d a b =
     let o : HasOrigin (moved_candidate by bound) cs d = origin_of (moved_candidate by bound) cs d b in
     subst (λ (x : Candidate). place_cmp c.to x.to ≡ Less) o.is
     (apart doc top from base (sym is.block ∙ begun.block) blocks at cs all c o.origin a o.among)
+
+pub serve : (doc : Document) → AllByRecursion IsBlock doc.blocks → LabelsSuffice doc → FrontsServe doc
+serve doc blocks labels from near front by bound it at comes is walk =
+    let start = start_of doc (tallest doc.style) from front.start comes.ahead.start in
+    record {
+      candidates = subst (λ (cs : List Candidate).
+          AreCandidates doc from (tallest doc.style) (cs ++ map (moved_candidate by bound) it.near.candidates))
+          (sym comes.ends)
+          (moved_suffice doc labels from (tallest doc.style) by bound it.base (state_of front.start)
+          it.near.candidates at start is walk.ends);
+      apart = subst (λ (cs : List Candidate). AreApart cs (map (moved_candidate by bound) it.near.candidates))
+          (sym comes.ends)
+          (moved_apart doc blocks from (tallest doc.style) by bound it.base (state_of front.start)
+          it.near.candidates at start is walk.ends);
+    }

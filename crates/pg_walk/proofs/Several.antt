@@ -1,6 +1,6 @@
 -- The ends in several rooms.
-use Rattle.std.proofs.Common.{◌≡◌, refl, sym, ap, ◌∙◌, subst, ℕ, ◌≤◌, ◌<◌, ◌-◌, ◌^◌, List, [], ◌∷◌, ◌++◌, append-nil, length, take, drop, arith, Bool, true, false, Result, Ok, Err, IfOk, ℤ, ◌≤ℤ◌}
-use Rattle.std.specs.Prelude.{get_or, if◌then◌else◌, int_lt, map, nat_abs}
+use Rattle.std.proofs.Common.{◌≡◌, refl, sym, ap, ◌∙◌, subst, ℕ, ◌≤◌, ◌-◌, List, [], ◌∷◌, ◌++◌, append-nil, length, take, drop, arith, Bool, true, false, Result, Ok, Err, IfOk, ℤ, ◌≤ℤ◌}
+use Rattle.std.specs.Prelude.{get_or, if◌then◌else◌, int_lt, map}
 use Rattle.std.specs.List.{AllByRecursion}
 use Rattle.std.proofs.lemmas.Int.{ints}
 use Rattle.std.proofs.lemmas.List.{append_assoc, take_all}

@@ -1,5 +1,5 @@
--- What stands behind the front of a choice, for all places whose columns come there alike.
-use Rattle.std.specs.Prelude.{◌≡◌, ◌&&◌, ℕ, ◌+◌, Bool, true, List, [], ◌++◌, Some}
+-- What stands behind the front of a choice, for all places whose columns come there alike but for their height.
+use Rattle.std.specs.Prelude.{◌≡◌, ◌&&◌, ℕ, ◌+◌, Bool, true, List, [], ◌++◌, map, Option, ℤ}
 use Rattle.std.specs.declared.cmp.Ordering.TheVariants.{Less}
 use Rattle.pg_list.specs.declared.galley.Place.{Place}
 use Rattle.pg_plan.specs.Order.{place_cmp}
@@ -17,17 +17,13 @@ use Rattle.pg_walk.specs.Blocks.{IsBegun}
 use Rattle.pg_walk.specs.Collected.{Collects}
 use Rattle.pg_walk.specs.Furthest.{GoesTo}
 use Rattle.pg_walk.specs.Meaning.{state_of}
+use Rattle.pg_walk.specs.Moved.{IsMoved, moved_candidate}
 use Rattle.pg_walk.specs.declared.front.Front.{Front}
 use Rattle.pg_walk.specs.declared.front.FrontWalk.{FrontWalk}
 
 -- each is no worse than the other: one front, the same sums and notes, the same bound
 abbrev pub is_same_state : WalkState → WalkState → Bool
 is_same_state u v = is_no_worse u v && is_no_worse v u
-
--- columns come to one front alike, with their notes and without
-abbrev pub is_same_front : Front → Front → Bool
-is_same_front a b =
-    is_same_state (state_of a.start) (state_of b.start) && is_same_state (state_of a.quiet) (state_of b.quiet)
 
 -- so columns from a place come to the first front, with their notes and without, in the tallest room
 pub record IsAhead (doc : Document) (from : Place) (front : Front) : Type 0 where
@@ -40,30 +36,37 @@ pub record ComesTo (doc : Document) (from : Place) (first : NearsValue) (front :
   pub near : AreNear doc (greatest_areas gap_stretch doc.style) first.candidates first
   pub ahead : IsAhead doc from front
 
+-- what stands behind a state at a front: the ends along the picks of the labels, with what no room changes
+pub record IsFrontWalk (doc : Document) (it : FrontWalk) : Type 0 where
+  pub ends : Collects doc (tallest doc.style) it.base [] it.near.candidates
+  pub near : AreNear doc (greatest_areas gap_stretch doc.style) it.near.candidates it.near
+
+-- each of the one stands before each of the other
+abbrev pub AreApart : List Candidate → List Candidate → Type 0
+AreApart cs ds = (c d : Candidate) → IsAmong c cs → IsAmong d ds → place_cmp c.to d.to ≡ Less
+
+-- with the ends along the first stretch from a place those behind a front, moved, suffice, and they stand behind them
+pub record Serves (doc : Document) (from : Place) (near : NearsValue) (by : ℤ) (bound : Option ℤ) (it : FrontWalk) : Type 0 where
+  pub candidates : AreCandidates doc from (tallest doc.style)
+      (near.candidates ++ map (moved_candidate by bound) it.near.candidates)
+  pub apart : AreApart near.candidates (map (moved_candidate by bound) it.near.candidates)
+
+-- so it is for each place whose columns come to the front as the walk behind it does, but for their height
+abbrev pub FrontsServe : Document → Type 0
+FrontsServe doc = (from : Place) (near : NearsValue) (front : Front) (by : ℤ) (bound : Option ℤ) (it : FrontWalk) →
+    IsPlace doc.blocks from → ComesTo doc from near front →
+    IsMoved by bound (state_of it.base) (state_of front.start) → IsFrontWalk doc it → Serves doc from near by bound it
+
+-- ---- how far columns go
+
 -- one more than the greatest block behind the state before a front, where no notes are passed
 pub record IsReachBehind (doc : Document) (start : State) (reach : ℕ) : Type 0 where
   pub greatest : ℕ
   pub goes : GoesTo (quiet doc) (tallest doc.style) start start.block greatest
   pub is : reach ≡ greatest + 1
 
--- what stands behind a front: the ends along the picks of the labels with what no room changes, and how far columns go
-pub record IsFrontWalk (doc : Document) (it : FrontWalk) : Type 0 where
-  pub ends : Collects doc (tallest doc.style) it.front.start [] it.near.candidates
-  pub near : AreNear doc (greatest_areas gap_stretch doc.style) it.near.candidates it.near
-  pub reach : IsReachBehind doc it.front.quiet it.reach
-
--- each of the one stands before each of the other
-abbrev pub AreApart : List Candidate → List Candidate → Type 0
-AreApart cs ds = (c d : Candidate) → IsAmong c cs → IsAmong d ds → place_cmp c.to d.to ≡ Less
-
--- with the ends along the first stretch from a place those behind the front suffice, they stand behind them, and columns
--- from the place go so far
-pub record Serves (doc : Document) (from : Place) (near : NearsValue) (it : FrontWalk) : Type 0 where
-  pub candidates : AreCandidates doc from (tallest doc.style) (near.candidates ++ it.near.candidates)
-  pub apart : AreApart near.candidates it.near.candidates
-  pub reach : IsReach doc from it.reach
-
--- so it is for each place whose columns come to the front alike
-abbrev pub FrontsServe : Document → Type 0
-FrontsServe doc = (from : Place) (near : NearsValue) (front : Front) (it : FrontWalk) → IsPlace doc.blocks from →
-    ComesTo doc from near front → is_same_front it.front front ≡ true → IsFrontWalk doc it → Serves doc from near it
+-- it is the reach of each place whose columns come to the front in this state, where they pass no notes
+abbrev pub ReachesServe : Document → Type 0
+ReachesServe doc = (from : Place) (start kept : State) (reach : ℕ) → IsPlace doc.blocks from →
+    IsBegun (quiet doc) (tallest doc.style) from start → is_same_state (state_of kept) (state_of start) ≡ true →
+    IsReachBehind doc kept reach → IsReach doc from reach

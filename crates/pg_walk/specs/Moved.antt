@@ -1,15 +1,8 @@
 -- The walk behind a front with more height before it.
-use Rattle.std.specs.Prelude.{◌≡◌, List, [], ◌++◌, map, Option, Some, None, ℤ, pos, ◌+ℤ◌, ◌≤ℤ◌}
-use Rattle.pg_list.specs.declared.galley.Place.{Place}
+use Rattle.std.specs.Prelude.{◌≡◌, Option, Some, None, ℤ, pos, ◌+ℤ◌, ◌≤ℤ◌}
 use Rattle.pg_column.specs.Passed.{Passed, raised}
-use Rattle.pg_rules.specs.IsState.{IsPlace}
-use Rattle.pg_rules.specs.Room.{Document}
-use Rattle.pg_hops.specs.declared.state.State.{State}
-use Rattle.law_walk.specs.Candidates.{AreCandidates, Candidate}
-use Rattle.law_walk.specs.Space.{IsStart, WalkState, first_ends}
-use Rattle.pg_walk.specs.Collected.{Collects}
-use Rattle.pg_walk.specs.Fronts.{AreApart}
-use Rattle.pg_walk.specs.Meaning.{state_of}
+use Rattle.law_walk.specs.Candidates.{Candidate}
+use Rattle.law_walk.specs.Space.{WalkState}
 
 -- a bound, and one more that is moved up
 abbrev pub over : Option ℤ → ℤ → Option ℤ → Option ℤ
@@ -33,17 +26,3 @@ pub record IsMoved (by : ℤ) (bound : Option ℤ) (base start : WalkState) : Ty
   pub block : start.block ≡ base.block
   pub passed : start.passed ≡ moved by bound base.passed
   pub up : pos 0 ≤ℤ by
-
--- with the ends along the first stretch from a place those behind the base suffice, moved
-abbrev pub MovedSuffice : Document → Type 0
-MovedSuffice doc = (from : Place) (top by : ℤ) (bound : Option ℤ) (base : State) (start : WalkState)
-    (cs : List Candidate) → IsPlace doc.blocks from → IsStart doc top from start →
-    IsMoved by bound (state_of base) start → Collects doc top base [] cs →
-    AreCandidates doc from top (first_ends doc top from ++ map (moved_candidate by bound) cs)
-
--- the ends along the first stretch stand before them
-abbrev pub MovedApart : Document → Type 0
-MovedApart doc = (from : Place) (top by : ℤ) (bound : Option ℤ) (base : State) (start : WalkState)
-    (cs : List Candidate) → IsPlace doc.blocks from → IsStart doc top from start →
-    IsMoved by bound (state_of base) start → Collects doc top base [] cs →
-    AreApart (first_ends doc top from) (map (moved_candidate by bound) cs)

@@ -9,6 +9,10 @@
 //! with what no room changes (`AreNearFrom` of pg_candidates). Where no choice is reached and the notes on the way take
 //! no room, the walk for the candidates tells the reach too.
 //!
+//! The program cuts that walk at the first choice: `walk_first` goes so far, and `walk_behind` goes on from the state
+//! there without its height (`lowered`). What it finds serves all places whose columns come to the front alike but for
+//! their height (`fronts_serve`), and so does the reach told there (`reaches_serve`).
+//!
 //! Below that: `WalkSpace` keeps the laws that the table wants of a space (`specs/WalkLawful`), with the moves of the
 //! walk of law_walk (`specs/Meaning`); `collect` adds what stands along the picks of the labels of a filled table
 //! (`specs/Collected`), and `furthest` tells the greatest block along them (`specs/Furthest`).
@@ -28,13 +32,16 @@ mod space;
 mod table;
 mod walking;
 
-pub use front::{Front, FrontWalk, fronts_serve, moved_suffices, walk_behind};
+pub use front::{
+    Front, FrontWalk, LoweredState, fronts_serve, is_same_state, lowered, reaches_serve,
+    walk_behind,
+};
 pub use labels_reach::furthest;
 pub use pg_candidates::{CandidateList, NearList};
 pub use pg_column::{End, EndList, EndLists, TextCost};
 pub use picks::{is_loose_enough, variants_at};
 pub use place::{FirstWalk, PlaceWalk, walk_first, walk_from};
-pub use reach::reach_of;
+pub use reach::{reach_behind, reach_of};
 pub use rooms::{ends, ends_many};
 pub use space::{Key, WalkSpace};
 pub use table::collect;

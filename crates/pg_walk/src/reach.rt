@@ -217,7 +217,10 @@ pub(crate) fn quiet_state(
 
 /// One more than the greatest block of a place that columns from this place may reach, which come to the first front in
 /// this state where they pass no notes.
-pub(crate) fn reach_behind(
+///
+/// Conditions: the place is the galley's and its columns come there so, and the index is of the galley and style. The one
+/// refusal is want of memory.
+pub fn reach_behind(
     alloc: Global,
     galley: &Galley,
     style: &Style,

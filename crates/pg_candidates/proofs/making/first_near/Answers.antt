@@ -1,4 +1,4 @@
-use Rattle.std.proofs.Common.{subst, IfSome, ℤ}
+use Rattle.std.proofs.Common.{subst, IfSome}
 use Rattle.pg_style.specs.declared.style.Give.{Give}
 use Rattle.pg_candidates.specs.Nears.{IsWorstGoal}
 use Rattle.pg_candidates.proofs.making.first_near.Goals as goal

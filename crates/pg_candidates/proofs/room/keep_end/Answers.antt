@@ -12,7 +12,7 @@ returns-then-not-is_tolerable c = λ g most gives cs it there is best.
     let ds = map candidate_of c.args.candidates.now in
     best_refused doc most c.args.room.now it c.args.near.now is c.cost_of-cost.result
     (c.cost_of-cost.ensures most gives is.worst) cs ds there (ends_of ds c.args.ends.now.items) best
-    c.requires.high c.requires.text (sym c.is_tolerable.ensures ∙ c.if-not-is_tolerable.true)
+    c.requires.high (sym c.is_tolerable.ensures ∙ c.if-not-is_tolerable.true)
 
 pub returns : goal.returns
 returns c = on_ok_weaker c.keep_best.result (λ added g most gives cs it there is best.
@@ -20,5 +20,5 @@ returns c = on_ok_weaker c.keep_best.result (λ added g most gives cs it there i
     let ds = map candidate_of c.args.candidates.now in
     best_kept doc most c.args.room.now it c.args.near.now is c.cost_of-cost.result
     (c.cost_of-cost.ensures most gives is.worst) cs ds there (ends_of ds c.args.ends.now.items) best
-    c.requires.high c.requires.text (sym c.is_tolerable.ensures ∙ c.if-not-is_tolerable.false)
+    c.requires.high (sym c.is_tolerable.ensures ∙ c.if-not-is_tolerable.false)
     (ends_of ds c.keep_best.new.ends.items) (added best.ascend)) c.keep_best.ensures

@@ -1,7 +1,10 @@
-use Rattle.std.proofs.Common.{rules, ◌≡◌, ◌∙◌, ap, length, take, ℕ}
+use Rattle.std.proofs.Common.{rules, ◌≡◌, ◌∙◌, sym, ap, length, take, ℕ}
 use Rattle.std.specs.List.{flat_map}
 use Rattle.std.proofs.Math.Seq.{take-length}
+use Rattle.pg_column.specs.Numbers.{IsRoom}
 use Rattle.pg_sources.specs.Document.{doc_of}
+use Rattle.pg_rooms.specs.declared.laid.Laid.{Laid}
+use Rattle.pg_rooms.proofs.Kept.{all_contain}
 use Rattle.pg_moves.specs.Stepping.{all_steps_in}
 use Rattle.pg_moves.proofs.Added.{adds_none, adds_same}
 use Rattle.pg_moves.proofs.Stepped.{layouts_more}
@@ -9,6 +12,10 @@ use Rattle.pg_moves.proofs.texts.add_all.Goals as goal
 
 pub loop-it-init : goal.loop-it-init
 loop-it-init g c = λ right. adds_none (g.W.Wants.spares c.args.wants.now) c.args.steps.now
+
+pub add_laid-requires-clause-room : goal.add_laid-requires-clause-room
+add_laid-requires-clause-room g c = all_contain (λ (it : Laid). IsRoom it.room) c.args.laid.now c.it-item.result
+    c.requires.rooms (c.loop-it.it-index, c.loop-it-test.true, sym c.it-item.is)
 
 pub loop-it-preserved : goal.loop-it-preserved
 loop-it-preserved g c = λ right. layouts_more

@@ -1,6 +1,7 @@
 use Rattle.std.proofs.Common.{◌∙◌, ap, ℕ, subst, sym, List, map}
 use Rattle.std.specs.Prelude.{Contains}
 use Rattle.std.specs.List.{AllByRecursion}
+use Rattle.pg_column.specs.Numbers.{IsRoom}
 use Rattle.pg_layouts.specs.Layouts.{text_layouts}
 use Rattle.pg_sources.specs.Document.{doc_of}
 use Rattle.pg_rooms.specs.Laid.{HasSoMany, laid_of}
@@ -24,16 +25,20 @@ add_all-requires-clause-laid g c = λ it m. laid_own (doc_of c.args.sources.now)
     (text_layouts (doc_of c.args.sources.now) c.args.state.now c.as_slice.result.now) it
     (subst (λ (xs : List Laid). Contains xs it) (c.as_slice-laid.ensures.value ∙ c.in_ok-layouts.ensures.laid) m)
 
+pub add_all-requires-clause-rooms : goal.add_all-requires-clause-rooms
+add_all-requires-clause-rooms g c = subst (AllByRecursion (λ (it : Laid). IsRoom it.room))
+    (sym c.as_slice-laid.ensures.value) c.in_ok-layouts.ensures.small
+
 pub returns-clause-steps : goal.returns-clause-steps
 returns-clause-steps g c = λ right.
-    let now = c.in_ok-ask_all.ensures.right c.args.state.now.place
-    (subst (AllByRecursion (λ (it : Laid). IsPageRoom c.args.sources.now.style.now it.room))
-    (sym c.as_slice-laid.ensures.value) c.in_ok-layouts.ensures.low) right in
+    let low = subst (AllByRecursion (λ (it : Laid). IsPageRoom c.args.sources.now.style.now it.room))
+    (sym c.as_slice-laid.ensures.value) c.in_ok-layouts.ensures.low in
+    let now = c.in_ok-ask_all.ensures.right c.args.state.now.place low right in
     text_steps_are (doc_of c.args.sources.now) c.candidates_give_ends.ensures.one c.args.state.now c.args.ceiling.now c.ask_all.new.self
     c.as_slice-laid.result.now (g.W.Wants.spares c.args.wants.now) c.new-steps.result c.add_all.new.steps
     (c.as_slice-laid.ensures.value ∙ (c.in_ok-layouts.ensures.laid
     ∙ ap (λ (counts : List ℕ). map (laid_of (doc_of c.args.sources.now) c.args.state.now)
-    (text_layouts (doc_of c.args.sources.now) c.args.state.now counts)) c.as_slice.ensures))
+    (text_layouts (doc_of c.args.sources.now) c.args.state.now counts)) c.as_slice.ensures)) low
     c.in_ok-ask_all.ensures.has c.in_ok-ask_all.ensures.behind now c.new-steps.ensures (c.in_ok-add_all.ensures now)
 
 pub returns-clause-kept : goal.returns-clause-kept

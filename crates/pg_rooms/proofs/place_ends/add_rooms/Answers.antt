@@ -1,8 +1,10 @@
-use Rattle.std.proofs.Common.{sym}
+use Rattle.std.proofs.Common.{◌≡◌, sym, true}
 use Rattle.pg_column.specs.Numbers.{IsRoom}
-use Rattle.pg_rooms.specs.PlaceEnds.{IsPageRoom}
+use Rattle.pg_column.specs.declared.cost.TextRoom.{TextRoom}
+use Rattle.law_walk.specs.Candidates.{has_text}
+use Rattle.pg_rooms.specs.PlaceEnds.{IsPageRoom, has_room}
 use Rattle.pg_rooms.specs.declared.laid.Laid.{Laid}
-use Rattle.pg_rooms.proofs.Kept.{all_contain, has_more}
+use Rattle.pg_rooms.proofs.Kept.{all_contain, asked_more}
 use Rattle.pg_rooms.proofs.place_ends.add_rooms.Goals as goal
 
 pub loop-it-init : goal.loop-it-init
@@ -10,18 +12,21 @@ loop-it-init c = record { has = tt; right = λ near page calls are. are; calls =
 
 pub loop-it-preserved : goal.loop-it-preserved
 loop-it-preserved c = record {
-  has = has_more c.loop-it.rooms.items c.add_room.new.rooms.items c.args.laid.now c.loop-it.it-index
-      c.it-item.result c.loop-it-test.true c.it-item.is c.loop-it.invariant.has c.in_ok-add_room.ensures.has
-      c.in_ok-add_room.ensures.keeps;
-  right = λ near page calls are. c.in_ok-add_room.ensures.right near
+  has = asked_more
+      (λ (room : TextRoom). has_text c.args.sources.now.style.now room ≡ true → has_room c.loop-it.rooms.items room ≡ true)
+      (λ (room : TextRoom).
+      has_text c.args.sources.now.style.now room ≡ true → has_room c.ask_room.new.rooms.items room ≡ true)
+      c.args.laid.now c.loop-it.it-index c.it-item.result c.loop-it-test.true c.it-item.is c.loop-it.invariant.has
+      c.in_ok-ask_room.ensures.has (λ room h t. c.in_ok-ask_room.ensures.keeps room (h t));
+  right = λ near page calls are. c.in_ok-ask_room.ensures.right near
       (all_contain (λ (it : Laid). IsPageRoom c.args.sources.now.style.now it.room) c.args.laid.now c.it-item.result
       page (c.loop-it.it-index, c.loop-it-test.true, sym c.it-item.is))
       (c.loop-it.invariant.calls calls) (c.loop-it.invariant.right near page calls are);
-  calls = λ calls. c.in_ok-add_room.ensures.calls (c.loop-it.invariant.calls calls);
+  calls = λ calls. c.in_ok-ask_room.ensures.calls (c.loop-it.invariant.calls calls);
 }
 
-pub add_room-requires : goal.add_room-requires
-add_room-requires c = all_contain (λ (it : Laid). IsRoom it.room) c.args.laid.now c.it-item.result c.requires.small
+pub ask_room-requires : goal.ask_room-requires
+ask_room-requires c = all_contain (λ (it : Laid). IsRoom it.room) c.args.laid.now c.it-item.result c.requires.small
     (c.loop-it.it-index, c.loop-it-test.true, sym c.it-item.is)
 
 pub returns-clause-right : goal.returns-clause-right

@@ -5,7 +5,7 @@ use Rattle.pg_candidates.specs.RoomEnds.{ends_of}
 use Rattle.pg_rules.specs.Floats.{gap_stretch}
 use Rattle.pg_rules.specs.Reach.{greatest_areas}
 use Rattle.pg_sources.specs.Document.{doc_of}
-use Rattle.law_walk.specs.Candidates.{kept_ends}
+use Rattle.law_walk.specs.Candidates.{text_ends}
 use Rattle.pg_rooms.specs.PlaceEnds.{AreGroups}
 use Rattle.pg_rooms.proofs.place_ends.room_ends.Goals as goal
 
@@ -14,11 +14,11 @@ returns-clause-right c = λ near page calls.
     let doc = doc_of c.args.sources.now in
     let cs = c.args.near.now.candidates in record {
       page = page;
-      best = best_of_some (kept_ends doc c.args.room.now cs)
-          (kept_ends doc c.args.room.now (needed_in c.args.room.now.size cs c.args.near.now.nears))
+      best = best_of_some (text_ends doc c.args.room.now cs)
+          (text_ends doc c.args.room.now (needed_in c.args.room.now.size cs c.args.near.now.nears))
           (ends_of cs c.in_ok-ends.ends.items) (near.suffice c.args.room.now page.within)
-          (c.in_ok-ends.ensures.best (greatest_areas gap_stretch c.args.sources.now.style.now) page.within.stretch
-          near.right);
+          (c.in_ok-ends.ensures.best c.args.sources.now.galley.now (greatest_areas gap_stretch c.args.sources.now.style.now)
+          page.within.stretch near.right);
       groups = subst (AreGroups doc c.in_ok-groups.groups.items) c.as_slice.ensures.value
           (c.in_ok-groups.ensures.groups calls);
     }

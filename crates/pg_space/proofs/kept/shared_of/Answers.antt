@@ -4,7 +4,7 @@ use Rattle.pg_space.proofs.kept.shared_of.Goals as goal
 
 pub invariant_of-front : goal.invariant_of-front
 invariant_of-front g c = record {
-  right = ∥∥₁_map c.args.kept.right (front_of _ c.args.kept.from c.args.kept.ends c.in-Some.ends c.in-Some.is);
+  right = ∥∥₁_map c.args.kept.right (front_of _ c.args.kept.from c.args.kept.ends c.in-Some.behind c.in-Some.is);
 }
 
 pub invariant_of-result : goal.invariant_of-result

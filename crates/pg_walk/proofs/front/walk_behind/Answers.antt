@@ -12,26 +12,21 @@ use Rattle.pg_walk.proofs.front.walk_behind.Goals as goal
 
 pub collect-requires-clause-own : goal.collect-requires-clause-own
 collect-requires-clause-own c =
-    let top = to_z-of_z w64 c.tallest.result (record { sfits = search rules }) ∙ c.tallest.ensures in
-    subst (λ (z : ℤ). IsOwn (document c.args.galley.now c.args.style.now) z c.args.front.start) (sym top)
-    c.requires.ahead.start.own
-
-pub reach_behind-requires-clause-start : goal.reach_behind-requires-clause-start
-reach_behind-requires-clause-start c = c.requires.ahead.quiet
+    let top = to_z-of_z w64 c.tallest-top.result (record { sfits = search rules }) ∙ c.tallest-top.ensures in
+    subst (λ (z : ℤ). IsOwn (document c.args.galley.now c.args.style.now) z c.args.base) (sym top) c.requires.own
 
 pub returns-clause-right : goal.returns-clause-right
 returns-clause-right c =
     let doc = document c.args.galley.now c.args.style.now in
-    let top = to_z-of_z w64 c.tallest.result (record { sfits = search rules }) ∙ c.tallest.ensures in
+    let top = to_z-of_z w64 c.tallest-top.result (record { sfits = search rules }) ∙ c.tallest-top.ensures in
     let near = subst (λ (most : ℤ). AreNear doc most c.collect.new.found c.in_ok-near.near)
     c.areas_give.ensures.stretch c.in_ok-near.ensures in
     record {
-      ends = subst (Collects doc (tallest doc.style) c.args.front.start []) (sym near.same)
-          (subst (λ (xs : List Candidate). Collects doc (tallest doc.style) c.args.front.start xs c.collect.new.found)
+      ends = subst (Collects doc (tallest doc.style) c.args.base []) (sym near.same)
+          (subst (λ (xs : List Candidate). Collects doc (tallest doc.style) c.args.base xs c.collect.new.found)
           c.in_ok-found.ensures
-          (subst (λ (z : ℤ). Collects doc z c.args.front.start c.in_ok-found.found c.collect.new.found) top
+          (subst (λ (z : ℤ). Collects doc z c.args.base c.in_ok-found.found c.collect.new.found) top
           c.in_ok-collect.ensures));
       near = subst (λ (cs : List Candidate). AreNear doc (greatest_areas gap_stretch doc.style) cs c.in_ok-near.near)
           (sym near.same) near;
-      reach = c.in_ok-reach.ensures;
     }

@@ -1,8 +1,6 @@
-use Rattle.std.proofs.Common.{rules, subst, ap, ◌∙◌, ◌++◌, List, ℤ, w64}
+use Rattle.std.proofs.Common.{rules, subst, ◌∙◌, ℤ, w64}
 use Rattle.std.proofs.lemmas.Int.{to_z-of_z}
 use Rattle.pg_rules.specs.Legal.{document}
-use Rattle.law_walk.specs.Candidates.{Candidate}
-use Rattle.law_walk.specs.Space.{first_ends}
 use Rattle.pg_walk.specs.Blocks.{HasStart, TellsAlone}
 use Rattle.pg_walk.proofs.Behind.{alone_at}
 use Rattle.pg_walk.proofs.First.{has_start, tells_alone}

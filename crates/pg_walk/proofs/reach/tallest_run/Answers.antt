@@ -1,8 +1,7 @@
-use Rattle.std.proofs.Common.{◌≡◌, ◌∙◌, ap, rules, w32, w64, to_z, of_z, List}
+use Rattle.std.proofs.Common.{◌≡◌, ◌∙◌, ap, rules, w32, w64, to_z, of_z}
 use Rattle.std.proofs.lemmas.Int.{to_z-of_z}
 use Rattle.pg_rules.specs.Reach.{greatest_extra}
 use Rattle.pg_style.specs.Values.{StyleValue}
-use Rattle.pg_style.specs.declared.style.Run.{Run}
 use Rattle.pg_walk.proofs.Gives.{same_sum}
 use Rattle.pg_walk.proofs.reach.tallest_run.Goals as goal
 

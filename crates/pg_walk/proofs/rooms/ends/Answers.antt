@@ -1,10 +1,8 @@
-use Rattle.std.proofs.Common.{subst, sym, ◌∙◌, ℤ, w64, rules, ◌≤ℤ◌}
-use Rattle.std.proofs.lemmas.Int.{ints, to_z-of_z}
+use Rattle.std.proofs.Common.{sym, ◌∙◌, w64, rules}
+use Rattle.std.proofs.lemmas.Int.{to_z-of_z}
 use Rattle.std.proofs.lemmas.Result.{IfOk-weaker}
 use Rattle.pg_rules.specs.Legal.{document}
-use Rattle.pg_column.specs.Ends.{AreEnds}
 use Rattle.pg_column.specs.Numbers.{most_room}
-use Rattle.pg_candidates.specs.Nears.{IsWithin}
 use Rattle.pg_walk.proofs.Several.{in_room, no_more}
 use Rattle.pg_walk.proofs.rooms.ends.Goals as goal
 

@@ -1,4 +1,4 @@
-use Rattle.std.proofs.Common.{rules, refl, arith, pos}
+use Rattle.std.proofs.Common.{refl, arith, pos}
 use Rattle.pg_lemmas.proofs.Lists.{all_drop, all_take, no_items}
 use Rattle.pg_rules.specs.Legal.{document}
 use Rattle.pg_style.specs.Plain.{no_give}

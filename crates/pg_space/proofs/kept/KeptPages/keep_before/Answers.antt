@@ -1,23 +1,36 @@
-use Rattle.std.proofs.Common.{◌∙◌, ap}
+use Rattle.std.proofs.Common.{◌≡◌, ◌∙◌, ap}
+use Rattle.pg_list.specs.GalleyValue.{GalleyValue}
+use Rattle.law_space.specs.ReachAt.{reach_at}
+use Rattle.law_walk.specs.Reached.{tallest}
+use Rattle.pg_rules.specs.Legal.{document}
+use Rattle.pg_sources.specs.Document.{doc_of}
+use Rattle.pg_style.specs.Values.{StyleValue}
 use Rattle.pg_walk.specs.declared.place.PlaceWalk.{PlaceWalk}
-use Rattle.pg_space.proofs.Merely.{before_front, reach_before}
+use Rattle.pg_space.proofs.Merely.{before_front}
+use Rattle.pg_space.proofs.Telling.{of_equal}
 use Rattle.pg_space.proofs.kept.KeptPages.keep_before.Goals as goal
 
-pub behind-requires-clause-ahead : goal.behind-requires-clause-ahead
-behind-requires-clause-ahead g c = c.requires.comes.ahead
+pub reach_behind-requires-clause-start : goal.reach_behind-requires-clause-start
+reach_behind-requires-clause-start g c = c.requires.comes.ahead.quiet
 
-pub reach_is_the_greatest-requires : goal.reach_is_the_greatest-requires
-reach_is_the_greatest-requires g c = c.args.self.now.pages.sources.in_range.blocks
+pub behind-requires : goal.behind-requires
+behind-requires g c = c.lowered-lowered.ensures.own (doc_of c.args.self.now.pages.sources)
+    (tallest c.args.self.now.pages.sources.style.now) c.requires.comes.ahead.start.own
+
+pub behind_by-behind-requires-clause-up : goal.behind_by-behind-requires-clause-up
+behind_by-behind-requires-clause-up g c = c.lowered-lowered.ensures.moved.up
 
 pub invariant_of-result : goal.invariant_of-result
 invariant_of-result g c = record {
-  right = before_front _ _ _ _ c.args.self.now.galley c.args.self.now.style c.args.from c.args.near c.args.front
-      c.in_ok-kept.kept.ends c.fronts_serve.ensures c.requires.place c.requires.comes c.in_ok-kept.ensures
-      c.in_ok-kept.kept.right c.before-ends.result c.args.shared.calls
-      (ap (λ (walk : PlaceWalk). walk.near) c.before-ends.ensures.walk) c.before-ends.ensures.rooms c.before-ends.ensures.calls
-      c.before-ends.ensures.behind c.args.shared.right;
-  reach = ap (λ (walk : PlaceWalk). walk.reach) c.before-ends.ensures.walk
-      ∙ reach_before _ _ _ _ c.args.self.now.galley c.args.self.now.style c.args.from c.args.near c.args.front
-      c.in_ok-kept.kept.ends c.fronts_serve.ensures c.requires.place c.requires.comes c.in_ok-kept.ensures
-      c.in_ok-kept.kept.right c.reach_is_the_greatest.ensures;
+  right = before_front _ _ _ _ c.args.self.now.galley c.args.self.now.style c.args.from c.requires.place
+      c.before-ends.result _ c.args.front c.lowered-lowered.result.base c.lowered-lowered.result.by
+      c.lowered-lowered.result.bound c.in_ok-kept.kept.ends c.behind_by-behind.result c.args.shared.calls
+      c.fronts_serve.ensures c.requires.comes c.lowered-lowered.ensures.moved c.in_ok-kept.ensures
+      c.in_ok-kept.kept.right c.behind_by-behind.ensures.ends c.behind_by-behind.ensures.by
+      c.behind_by-behind.ensures.bound c.before-ends.ensures.walk c.before-ends.ensures.rooms
+      c.before-ends.ensures.calls c.before-ends.ensures.behind c.args.shared.right;
+  reach = ap (λ (walk : PlaceWalk). walk.reach) c.before-ends.ensures.walk ∙ of_equal
+      (λ (galley : GalleyValue) (style : StyleValue).
+      c.in_ok-reach.reach ≡ reach_at (document galley style) c.args.from) _ _ _ _
+      c.args.self.now.galley c.args.self.now.style c.in_ok-reach.ensures;
 }

@@ -1,14 +1,15 @@
 use Rattle.std.proofs.Common.{◌≡◌, ◌∙◌, sym, subst, ap, true}
 use Rattle.pg_hops.specs.Index.{AreHops}
+use Rattle.pg_hops.specs.declared.state.State.{State}
 use Rattle.pg_list.specs.GalleyValue.{GalleyValue}
 use Rattle.pg_rooms.proofs.Kept.{front_begun}
 use Rattle.pg_rooms.specs.PlaceEnds.{AreFrontEnds}
 use Rattle.pg_rules.specs.Legal.{document}
 use Rattle.pg_sources.specs.Document.{doc_of}
 use Rattle.pg_style.specs.Values.{StyleValue}
-use Rattle.pg_walk.proofs.Behind.{front_itself}
-use Rattle.pg_walk.specs.Fronts.{is_same_front}
-use Rattle.pg_walk.specs.declared.front.Front.{Front}
+use Rattle.pg_walk.proofs.Behind.{state_itself}
+use Rattle.pg_walk.specs.Fronts.{is_same_state}
+use Rattle.pg_walk.specs.Meaning.{state_of}
 use Rattle.pg_walk.specs.declared.front.FrontWalk.{FrontWalk}
 use Rattle.pg_space.proofs.Telling.{of_equal}
 use Rattle.pg_space.proofs.kept.KeptPages.walk_behind.Goals as goal
@@ -27,6 +28,6 @@ invariant_of-result g c = record {
 }
 
 pub returns : goal.returns
-returns g c = subst (λ (front : Front). is_same_front front c.args.front ≡ true)
-    (sym (ap (λ (walk : FrontWalk). walk.front) c.new.ensures.walk ∙ c.in_ok-walk.ensures.front))
-    (front_itself c.args.front)
+returns g c = subst (λ (it : State). is_same_state (state_of it) (state_of c.args.base) ≡ true)
+    (sym (ap (λ (walk : FrontWalk). walk.base) c.new.ensures.walk ∙ c.in_ok-walk.ensures.base))
+    (state_itself (state_of c.args.base))

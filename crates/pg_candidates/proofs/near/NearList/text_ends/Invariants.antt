@@ -1,19 +1,19 @@
 use Rattle.std.proofs.Common.{map, take, ℤ, ◌≤ℤ◌}
 use Rattle.std.specs.List.{AllByRecursion}
+use Rattle.pg_list.specs.GalleyValue.{GalleyValue}
 use Rattle.pg_rules.specs.Legal.{document}
 use Rattle.law_walk.specs.Best.{AreBest}
-use Rattle.law_walk.specs.Candidates.{kept_ends}
+use Rattle.law_walk.specs.Candidates.{text_ends}
 use Rattle.pg_candidates.specs.Nears.{IsNearIn, needed_in}
 use Rattle.pg_candidates.specs.RoomEnds.{ends_of}
 use Rattle.pg_candidates.specs.View.{candidate_of}
-use Rattle.pg_candidates.proofs.near.NearList.room_ends.Given as goal
+use Rattle.pg_candidates.proofs.near.NearList.text_ends.Given as goal
 
 abbrev pub invariant-each : goal.invariant-each
 invariant-each l = record {
-  best : (most : ℤ) → l.room.give.stretch ≤ℤ most →
-      AllByRecursion (IsNearIn (document l.galley l.style) most (map candidate_of l.candidates))
-      (take l.near-index l.near-items) →
-      AreBest (kept_ends (document l.galley l.style) l.room
+  best : (g : GalleyValue) (most : ℤ) → l.room.give.stretch ≤ℤ most →
+      AllByRecursion (IsNearIn (document g l.style) most (map candidate_of l.candidates)) (take l.near-index l.near-items) →
+      AreBest (text_ends (document g l.style) l.room
       (needed_in l.room.size (map candidate_of l.candidates) (take l.near-index l.near-items)))
       (ends_of (map candidate_of l.candidates) l.ends.items);
 }
