@@ -27,6 +27,7 @@ draw:
 
 # the programs and their manual pages; `make -C tex install` puts the LaTeX package, pgtex and its page in place
 install:
+	@test -x crates/pg_tell_main/out/pg_tell_main || { echo "run 'make build' first"; exit 1; }
 	install -D crates/pg/out/pg "$(BIN)/pg"
 	install -D crates/pg_draw_main/out/pg_draw_main "$(BIN)/pg_draw"
 	install -D crates/pg_tell_main/out/pg_tell_main "$(BIN)/pg_tell"

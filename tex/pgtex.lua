@@ -145,6 +145,25 @@ local function read_told(log, line)
   elseif class then log.words[integer(class)] = word
   elseif key then log[key] = value end
 end
+-- what TeX tells of its memory: how many words it has, how many it used, and where they did not suffice
+local function read_memory(log, line, at)
+  local size = line:match("^! TeX capacity exceeded, sorry %[main memory size=(%d+)%]")
+  local used, all = line:match("^ (%d+) words of memory out of (%d+)$")
+  if size then log.full_at, log.memory, log.used = at, integer(size), integer(size)
+  elseif used then log.memory, log.used = integer(all), integer(used) end
+end
+local function with_more_memory(log)
+  return string.format("%s -cnf-line=extra_mem_bot=%d %s", log.command, log.memory - 1000000, name)
+end
+-- the last run holds a little more than the first
+local function tell_memory(log)
+  if log.full_at then
+    complain("%s:%d: TeX had no more memory: run it with more, as `%s'", log.file, log.full_at, with_more_memory(log))
+  elseif log.memory and log.used > 0.85 * log.memory then
+    say("TeX used %d of its %d words of memory, and takes long to find room: run it with more, as `%s'", log.used, log.memory,
+      with_more_memory(log))
+  end
+end
 -- a line of the listing: of the root, of an item or within it, or what TeX wrote on a line of its own
 local function read_listed(log, line, at)
   local item = log.items[#log.items]
@@ -169,6 +188,7 @@ local function read_log(file)
   local log = { file = file, items = {}, paragraphs = {}, words = {} }
   local first = lines[1] or ""
   log.machine = first:match("XeTeX") and "xe" or first:match("Lua") and "lua" or "pdf"
+  log.command = first:match("preloaded format=([%w-]+)") or log.machine .. "latex"
   local width = log_width(log.machine .. "tex", longest)
   local function is_full(line) return #line == width or #line > width and utf8.len(line) == width end
   local is_inside, i = false, 1
@@ -183,8 +203,12 @@ local function read_log(file)
       log.items, log.root, log.ended = {}, nil, false
     elseif line == "pg: galley ends" then is_inside = false log.ended = true
     elseif is_told then read_told(log, line)
-    elseif is_inside then read_listed(log, line, at) end
+    elseif is_inside then read_listed(log, line, at)
+    else read_memory(log, line, at) end
     i = i + 1
+  end
+  if log.full_at and not log.ended then
+    stop("%s:%d: TeX had no more memory: run it with more, as `%s'", file, log.full_at, with_more_memory(log))
   end
   if not log.ended then stop("%s has no galley: does the document use pg, and did LaTeX come to its end?", file) end
   if not log.root then stop("%s shows no galley: is there a shrink without bound (\\vss) in the text?", file) end
@@ -214,6 +238,9 @@ end
 local function run_pg(words, output)
   local status, said = run(program, words, output)
   if status == 0 or status == 1 then return read_file(output) end
+  if status == 127 then
+    return nil, program .. " is not found: it has to be in the path, or named by the variable PG (tex/pg-try of the repository needs no build)"
+  end
   return nil, said ~= "" and said or string.format("%s ended with the status %s: is it in the path, or named by PG?",
     program, tostring(status))
 end
@@ -1052,6 +1079,10 @@ end
 local function draft_run(log, looseness)
   local folder = temporary_name()
   lfs.mkdir(folder)
+  if log.memory then -- as much as the run had whose log this is
+    local main = tonumber(kpse.var_value("main_memory")) or log.memory
+    if log.memory > main then os.setenv("extra_mem_bot", tostring(log.memory - main)) end
+  end
   local program_of_engine = latex or log.engine
   local without_pdf = log.machine == "xe" and "-no-pdf" or "-draftmode"
   local base = name:match("[^/\\]*$")
@@ -1206,6 +1237,7 @@ local sum = md5.sumhexa(VERSION .. FORMAT .. (log.bottom or "") .. style.text ..
 local old = read_file(name .. ".pgx")
 if old and old:match("\\pg@pages{%d+}{(%x+)}") == sum and not keep then
   say("%s.pgx is of this galley", name)
+  tell_memory(log)
   os.exit(0)
 end
 paginate(parts, blocks, style, log)
@@ -1213,3 +1245,4 @@ local how_many = write_commands(parts, blocks, style, log, sum)
 if keep then keep_texts(parts, blocks, log) end
 for _, file in ipairs(temporary) do os.remove(file) end
 say("%s.pgx has %d pages; run LaTeX again", name, how_many)
+tell_memory(log)

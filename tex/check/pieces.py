@@ -7,7 +7,9 @@ COUNT galleys (1000 if left out) of boxes, rules, glue, kerns, penalties, insert
 `\\vsplit` takes each apart, one run of etex for all: first at the penalties that force a page, as it is no higher than 2000pt,
 then, to a height far below nothing, at each break. The function `count_pieces` of
 tex/pgtex.lua says how many pieces lead to each break: up to there the pieces of TeX have to hold the boxes and rules that the
-galley has in front of it, and of the whole galley there have to be as many. It ends with 1 where a galley differs."""
+galley has in front of it, and of the whole galley there have to be as many. Another run first takes what stands in 40pt at
+once, and its pieces after that, where the last of them has a width, as tex/pg-core.tex does: the pieces have to be the same.
+It ends with 1 where a galley differs."""
 
 import os
 import random
@@ -21,9 +23,14 @@ KINDS = ["box"] * 6 + ["rule"] + ["glue"] * 4 + ["kern"] * 2 + ["penalty"] * 3 +
 HEAD = r"""\catcode`@=11 \batchmode \hbadness=10000 \vbadness=10000 \vfuzz=\maxdimen \hfuzz=\maxdimen
 \showboxbreadth=10000 \showboxdepth=1 \tracingonline=0 \newbox\galley \newbox\piece
 \savingvdiscards=1 \splitmaxdepth=\maxdimen \splittopskip=-\maxdimen
-\newbox\chunk
+\newbox\chunk \newbox\behind
 \def\cut{\ifvoid\chunk\else \setbox\piece\vsplit\chunk to-8000pt \showbox\piece \expandafter\cut\fi}
-\def\chunks{\ifvoid\galley\else \setbox\chunk\vsplit\galley to2000pt \cut \expandafter\chunks\fi}
+\def\most{\setbox\piece\vsplit\chunk to40pt \setbox\behind\vbox{\splitdiscards}%
+  \setbox2\copy\piece \passover
+  \ifdim\wd0=0pt \setbox\chunk\vbox{\unvbox\piece\unvbox\behind\unvbox\chunk}\else \setbox2\box\piece \showall \fi}
+\def\passover{\ifvoid2 \else \setbox0\vsplit2 to-8000pt \expandafter\passover\fi}
+\def\showall{\ifvoid2 \else \setbox\piece\vsplit2 to-8000pt \showbox\piece \expandafter\showall\fi}
+\def\chunks{\ifvoid\galley\else \setbox\chunk\vsplit\galley to2000pt \ifnum\lot=1 \most\fi \cut \expandafter\chunks\fi}
 \def\apart#1{\immediate\write-1{case #1}%
   \setbox\galley\vbox{\hbox{}\penalty-10000 \unvbox\galley}\setbox\piece\vsplit\galley to-8000pt \chunks}
 """
@@ -49,18 +56,18 @@ def item(chance):
     return "carry", 0, {"special": r"\special{x}", "mark": r"\mark{x}", "write": r"\write-1{x}"}[kind]
 
 
-def tex_text(galleys):
-    out = [HEAD]
+def tex_text(galleys, lot):
+    out = [HEAD, f"\\newcount\\lot \\lot={lot} "]
     for number, items in enumerate(galleys):
         made = "%\n".join(made for _, _, made in items)
         out.append(f"\\setbox\\galley=\\vbox{{\\offinterlineskip {made}%\n}}\\apart{{{number}}}\n")
     return "".join(out) + "\\end\n"
 
 
-def pieces_of_tex(folder, galleys):
-    """Of each galley the pieces that TeX makes, each as the number of its boxes and rules."""
+def pieces_of_tex(folder, galleys, lot):
+    """Of each galley the pieces that TeX makes, each as the number of its boxes and rules; where lot is 1, many at once first."""
     with open(os.path.join(folder, "pieces.tex"), "w", encoding="ascii") as file:
-        file.write(tex_text(galleys))
+        file.write(tex_text(galleys, lot))
     environment = {**os.environ, "max_print_line": "100000"}
     words = ["etex", "-interaction=batchmode", "pieces"]
     subprocess.run(words, cwd=folder, env=environment, capture_output=True, check=False)
@@ -109,14 +116,14 @@ def main():
     chance = random.Random(seed)
     galleys = [[item(chance) for _ in range(chance.randint(1, 40))] for _ in range(count)]
     with tempfile.TemporaryDirectory() as folder:
-        pieces, counts = pieces_of_tex(folder, galleys), counted(folder, galleys)
+        made, counts = [pieces_of_tex(folder, galleys, lot) for lot in (0, 1)], counted(folder, galleys)
     bad = 0
     for number, items in enumerate(galleys):
-        differs = difference(items, counts[number], pieces[number])
+        differs = next(filter(None, (difference(items, counts[number], pieces[number]) for pieces in made)), None)
         bad += differs is not None
         if differs and bad < 4:
             print(f"galley {number}: {differs}: {[kind + (str(by) if kind == 'penalty' else '') for kind, by, _ in items]}")
-    print(f"{count} galleys, {sum(map(len, pieces.values()))} pieces of TeX, {bad} differ")
+    print(f"{count} galleys, {sum(map(len, made[0].values()))} pieces of TeX, {bad} differ")
     return 1 if bad else 0
 
 

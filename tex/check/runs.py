@@ -65,8 +65,8 @@ def run(tools, folder, words):
     return Done(status, text.decode("latin-1"), time.monotonic() - started, used)
 
 
-def latex(tools, folder, engine, name):
-    return run(tools, folder, [engine, "-interaction=nonstopmode", name])
+def latex(tools, folder, engine, name, words=()):
+    return run(tools, folder, [engine, *words, "-interaction=nonstopmode", name])
 
 
 def pgtex(tools, folder, name):
