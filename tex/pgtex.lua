@@ -697,7 +697,7 @@ local function tell_illegal(part, which, blocks, style, style_file, log)
   stop("no legal pagination%s: %d pages can be made, and nothing behind %s:%d%s", which, pages, log.file, item and item.at or 0,
     item and " [" .. item.line .. "]" or "")
 end
--- What pg writes of a part by a text of pg.sty, or nothing where it refuses or no pagination is legal. No cost of such a
+-- What pg writes of a part by a text of pg.sty, or nothing where no pagination is legal, or where it refuses, which is told. No cost of such a
 -- style is below 0. So what costs less than the waits that are left out is best by the whole text as well, and what costs
 -- more says which of them are wanted.
 local WAITS = 1000000
@@ -711,7 +711,8 @@ local function best_of(text, part, first, blocks, style, galley)
   local most, cost, least, out, used, other = WAITS, nil, nil, nil, nil, nil
   repeat
     other, used, least = shorter(text, style, called, most)
-    out = run_pg("run " .. quoted(style_for(style, other, first, part.columns)) .. " " .. quoted(galley), output) or ""
+    out = run_pg("run " .. quoted(style_for(style, other, first, part.columns)) .. " " .. quoted(galley), output)
+    if not out then return nil, true end
     cost = integer(out:match("^pages %d+ cost (%d+)") or "")
     if cost and cost < least then return with_all_classes(out, style, used) end
     most = cost or math.huge
@@ -724,8 +725,9 @@ local function text_of_part(part, which, number, blocks, style, log)
   local first = style.first ~= "single" and (number % 2 == 1 and "right" or "left") or style.first
   local texts = style.text:match("^# written by pg.sty") and { style.text, longer(style.text) } or {}
   for _, text in ipairs(texts) do
-    local out = best_of(text, part, first, blocks, style, galley)
+    local out, is_refused = best_of(text, part, first, blocks, style, galley)
     if out then return out end
+    if is_refused then break end
   end
   local style_file = style_for(style, style.text, first, part.columns)
   local out, said = run_pg("run " .. quoted(style_file) .. " " .. quoted(galley), output)
