@@ -30,6 +30,18 @@ local function last_line(list)
   for n in node.traverse(list) do if is_line(n) then last = n end end
   return last
 end
+-- How many lines, but for the last, are filled by glue without bound. No version may have more of them than the natural one:
+-- they cost nothing, and a ragged or centred paragraph would get a line more for it, which may even be empty.
+local function free_lines(list)
+  local sum, is_free = 0, false
+  for n in node.traverse(list) do
+    if is_line(n) then
+      if is_free then sum = sum + 1 end
+      is_free = n.glue_order > 0
+    end
+  end
+  return sum
+end
 -- the list from its first line on, or nothing where a mark or the like stands in front of it
 local function from_first_line(list)
   while list and not is_box(list) do
@@ -58,13 +70,14 @@ local function after_break(head)
   local made = waiting
   waiting = nil
   if not made then return true end
-  local lines, last = lines_in(head), last_line(head)
+  local lines, free, last = lines_in(head), free_lines(head), last_line(head)
   local front = head
   while front and not is_box(front) do front = front.next end
   if not last or is_discardable(node.tail(head)) then return true end
   local kept = {}
   for _, version in ipairs(made.made) do
-    local list = lines_in(version.list) == lines + version.looseness and from_first_line(version.list)
+    local list = lines_in(version.list) == lines + version.looseness and free_lines(version.list) <= free and
+      from_first_line(version.list)
     if list and is_line(list) and not is_discardable(node.tail(list)) and list.height <= front.height then
       -- one height in front and one depth behind: the glue around is right whichever is picked
       list.height = front.height

@@ -1126,6 +1126,18 @@ local function demerits(list)
   end
   return math.floor(sum)
 end
+-- How many lines, but for the last, are filled by glue without bound. No version may have more of them than the natural one:
+-- they cost nothing, and a ragged or centred paragraph would get a line more for it, which may even be empty.
+local function free_lines(list)
+  local sum, is_free = 0, false
+  for _, item in ipairs(list) do
+    if is_line(item) then
+      if is_free then sum = sum + 1 end
+      is_free = item.line:match("glue set [^,]*%dfi") ~= nil
+    end
+  end
+  return sum
+end
 local function inserts(list)
   local words = {}
   for _, item in ipairs(list) do
@@ -1168,7 +1180,7 @@ local function other_versions(n, own, lines, drafts, places)
     local first = draft and places[looseness][n]
     if first and draft.paragraphs[n] == lines + looseness then
       local version = paragraph_at(draft.items, first, draft.paragraphs[n])
-      if version and is_line(version[1]) and inserts(version) == inserts(own) then
+      if version and is_line(version[1]) and free_lines(version) <= free_lines(own) and inserts(version) == inserts(own) then
         local price = math.max(0, math.min(100000000, demerits(version) - demerits(own)))
         version = fitted(version, own)
         version.looseness, version.marker = looseness, string.format("\\special{pg:variant %d %d}", looseness, price)

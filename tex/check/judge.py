@@ -24,6 +24,8 @@ class Document:
         self.warning, self.error = heads.get("warning"), heads.get("error")
         self.may_differ = heads.get("words", "").split()
         self.in_order = heads.get("order", "").split()
+        self.in_place = heads.get("stand", "").split()
+        self.lengths = int(heads["lengths"]) if "lengths" in heads else None
         self.rounds = int(heads.get("rounds", 4))
         self.foot = float(heads.get("foot", 0))
         self.is_off = "off" in heads
@@ -135,6 +137,24 @@ def check_words(row, alone, paged):
         row.faults.append(f"words: only LaTeX alone has {words.told(lost) or 'none'}; only pg has {words.told(more) or 'none'}")
 
 
+def check_places(row, alone, paged):
+    """Do the words that the document announces stand on the page, and at the height, where LaTeX alone has them?"""
+    name = row.document.name
+    places = [words.page_heights(os.path.join(folder, f"{name}.pdf")) for folder in (alone, paged)]
+    for word in row.document.in_place:
+        here, there = (found.get(word) for found in places)
+        if not here or not there or here[0] != there[0] or abs(here[1] - there[1]) > 0.1:
+            told = [f"page {found[0]} at {found[1] / POINTS_TO_BIG:.1f}pt" if found else "nowhere" for found in (here, there)]
+            row.faults.append(f"{word} stands on {told[0]} by LaTeX alone, and on {told[1]} by pg")
+
+
+def check_lengths(row, folder):
+    """Has pg set as many paragraphs in other lengths as the document announces?"""
+    number = len(re.findall(r"^\\pg@length", runs.read(folder, f"{row.document.name}.pgx") or "", re.MULTILINE))
+    if row.document.lengths not in (None, number):
+        row.faults.append(f"{number} paragraphs have other lengths, and not {row.document.lengths}")
+
+
 def same_pdf(one, other):
     """Whether two PDFs are the same but for what names their time and place."""
     def plain(path):
@@ -197,6 +217,8 @@ def judge_paged(row, tools, alone, paged, is_settled):
         check_references(row, paged, log)
         check_shipped(row, paged)
         check_words(row, alone, paged)
+        check_places(row, alone, paged)
+        check_lengths(row, paged)
     return row
 
 

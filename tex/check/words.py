@@ -31,6 +31,18 @@ def page_words(path, between=None):
     return pages
 
 
+def page_heights(path):
+    """The page of each word and its top, from the top of the page in big points; of a word that stands twice, the last."""
+    shown = subprocess.run(["pdftotext", "-bbox", path, "-"], capture_output=True, encoding="utf-8", check=True).stdout
+    page, out = 0, {}
+    for line in shown.splitlines():
+        found = WORD.search(line)
+        page += "<page " in line
+        for part in re.findall(r"[^\W\d_]+", html.unescape(found[3])) if found else ():
+            out[part] = page, float(found[1])
+    return out
+
+
 def bag(path, between=None):
     """How often each word stands in a PDF; the first part of a parted word has its hyphen."""
     words = Counter()
