@@ -217,7 +217,8 @@ local function read_log(file)
 end
 
 ---------------------------------------------------------------- pg
-local program = os.getenv("PG") or "pg"
+local program = os.getenv("PG") or ""
+if program == "" then program = "pg" end
 local function quoted(word)
   if os.type == "windows" then return '"' .. word .. '"' end
   return "'" .. word:gsub("'", "'\\''") .. "'"
