@@ -357,6 +357,18 @@ in_room doc u spared it cs rooms room groups ends old new g e step right =
     (step (subst (λ (gs : List Group). AreGroups doc gs ends) (sym g)
     (subst (AreGroups doc (groups_in rooms room)) (sym e) (groups_right doc cs rooms room right))))
 
+-- the steps behind a front are those to the ends in what the room of a layout leaves there
+pub behind_added : (doc : Document) (u : State) (spared : State → ℤ → Bool) (it : Laid) (behind : Behind)
+    (left : Option TextRoom) (room : TextRoom) (old new : List (Step State PageMove)) →
+    left ≡ room_behind behind it.room → left ≡ Some room →
+    (AllByRecursion (AreRoomEnds doc behind.ends.walk.near.candidates) behind.ends.rooms.items → Adds spared old
+    (steps_at doc u behind.ends.walk.near.candidates behind.ends.rooms.items room it) new) →
+    AreFrontEnds doc behind.ends → Adds spared old (steps_behind doc u (Some behind) it) new
+behind_added doc u spared it behind left room old new is some step are = subst (λ (o : Option TextRoom).
+    Adds spared old (option_map_or (λ (x : TextRoom).
+    steps_at doc u behind.ends.walk.near.candidates behind.ends.rooms.items x it) o []) new)
+    (sym some ∙ is) (step are.rooms)
+
 module _ (doc : Document) (u : State) (spared : State → ℤ → Bool) (it : Laid) (kept : PlaceEnds)
     (text : has_text doc.style it.room ≡ true) where
   abbrev first_steps : List (Step State PageMove)

@@ -17,7 +17,7 @@ use Rattle.law_space.specs.ReachLaws.{IsTheReach}
 use Rattle.law_walk.specs.Reached.{quiet, tallest}
 use Rattle.law_walk.specs.Space.{WalkState}
 use Rattle.pg_walk.specs.Blocks.{IsBegun}
-use Rattle.pg_walk.specs.Fronts.{ComesTo, FrontsServe, IsReachBehind, ReachesServe, Serves, is_same_state}
+use Rattle.pg_walk.specs.Fronts.{ComesTo, FrontsServe, IsReachBehind, ReachesServe, is_same_state}
 use Rattle.pg_walk.specs.Meaning.{state_of}
 use Rattle.pg_walk.specs.Moved.{IsMoved}
 use Rattle.pg_walk.specs.declared.front.Front.{Front}

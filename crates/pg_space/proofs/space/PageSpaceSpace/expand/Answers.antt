@@ -1,7 +1,6 @@
 use Rattle.std.proofs.Common.{◌≡◌, subst}
 use Rattle.std.specs.Prelude.{IfOk}
 use Rattle.pg_plan.specs.declared.states.State.{State}
-use Rattle.pg_rules.specs.IsState.{IsState}
 use Rattle.pg_sources.specs.Document.{doc_of}
 use Rattle.law_space.specs.PageSpace.{page_meaning}
 use Rattle.law_space.specs.ReachAt.{reach_at}
