@@ -223,7 +223,7 @@ local function quoted(word)
   if os.type == "windows" then return '"' .. word .. '"' end
   return "'" .. word:gsub("'", "'\\''") .. "'"
 end
--- runs a program over files: its status, and the first line that it said
+-- runs a program over files: its status, the first line that it said, and whether pg-try gave it up
 local function run(command, words, output)
   local errors = temporary_name()
   local line = quoted(command) .. " " .. words .. " > " .. quoted(output) .. " 2> " .. quoted(errors)
@@ -231,13 +231,14 @@ local function run(command, words, output)
   local ok, how, status = os.execute(line)
   if type(ok) == "number" then status = ok > 255 and ok // 256 or ok end -- as LuaTeX tells it
   if ok == true then status = 0 end
-  local said = (read_file(errors) or ""):match("[^\n]*")
+  local said = read_file(errors) or ""
   os.remove(errors)
-  return status, said
+  return status, said:match("[^\n]*"), status ~= 0 and said:match("did not end within the time limit") ~= nil
 end
 -- output, or nil and the message
 local function run_pg(words, output)
-  local status, said = run(program, words, output)
+  local status, said, is_late = run(program, words, output)
+  if is_late then stop("%s ran out of time: the machine is busy; wait, or build pg", program) end
   if status == 0 or status == 1 then return read_file(output) end
   if status == 127 then
     return nil, program .. " is not found: it has to be in the path, or named by the variable PG (tex/pg-try of the repository needs no build)"
