@@ -1,5 +1,5 @@
 -- The floats called before a place, and the sizes of floats, from the lists that are kept.
-use Rattle.std.proofs.Common.{◌≡◌, refl, sym, ap, ◌∙◌, subst, ℕ, zero, suc, ◌+◌, ◌<◌, ◌≤◌, List, [], ◌∷◌, ◌++◌}
+use Rattle.std.proofs.Common.{◌≡◌, refl, sym, ap, ◌∙◌, subst, ℕ, zero, suc, ◌+◌, ◌≤◌, List, [], ◌∷◌, ◌++◌}
 use Rattle.std.proofs.Common.{length, map, take, drop, append_assoc, arith, Bool, true, false, Option, Some, None}
 use Rattle.std.proofs.Common.{◌⊎◌, inl, inr, ℤ}
 use Rattle.std.specs.Prelude.{◌==◌, if◌then◌else◌, nat_lt, slice_get, option_map, unsigned_abs}

@@ -3,6 +3,7 @@ pub mod Gives
 pub mod Called
 mod Flushed
 pub mod Lists
+mod InParts
 pub mod Numbers
 pub mod Parts
 pub mod Places

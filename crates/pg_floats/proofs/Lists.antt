@@ -1,6 +1,6 @@
 -- The callouts that are kept, and the floats of the definition.
 use Rattle.std.specs.Option.{option_or}
-use Rattle.std.proofs.Common.{◌≡◌, refl, sym, ap, ◌∙◌, ℕ, suc, ◌+◌, ◌*◌, ◌<◌, ◌≤◌, List, [], ◌∷◌, ◌++◌, length}
+use Rattle.std.proofs.Common.{◌≡◌, refl, sym, ap, ◌∙◌, ℕ, suc, ◌+◌, ◌*◌, ◌≤◌, List, [], ◌∷◌, ◌++◌, length}
 use Rattle.std.proofs.Common.{length-append, map, arith, Bool, true, false, Some, None, ℤ, pos}
 use Rattle.std.specs.Prelude.{◌==◌, if◌then◌else◌, option_map, is_none, unsigned_abs, Result, Ok, Err}
 use Rattle.std.specs.List.{AllByRecursion, filter, filter_map, find, cons_option, sum_by}
@@ -27,7 +27,7 @@ use Rattle.pg_floats.proofs.Numbers.{numbers_are}
 use Rattle.pg_floats.specs.declared.callouts.Callout.{Callout}
 use Rattle.pg_floats.specs.declared.fault.FloatFault.{FloatFault}
 use Rattle.pg_floats.specs.declared.fault.FloatFault.TheVariants.{Class as FaultClass, Limit, Memory}
-use Rattle.pg_floats.specs.AreFloats.{AreFloats, HasFloats, IsWithinLimit, float_total}
+use Rattle.pg_floats.specs.AreFloats.{AreFloats, HasFloats, IsWithinLimit, MakesList, float_total, unknown_class}
 use Rattle.pg_floats.specs.FloatsValue.{ClassFloatsValue, total_of}
 use Rattle.pg_floats.specs.Callouts.{callouts_in, callouts_from, class_floats, first_items, insert_class, next_barrier, no_barrier, unknown_among}
 use Rattle.pg_floats.specs.Callouts.{unknown_blocks, lists_from}
@@ -210,3 +210,11 @@ has_floats (Err (Limit count)) blocks style all are h =
     let t = ap total_of e ∙ the_total_is blocks (float_numbers style) all in
     (omega (arith, t, h.0), h.1)
 has_floats (Err Memory) blocks style all are h = tt
+
+-- with no strange insert before
+pub makes_list : (r : Result (List ClassFloatsValue) FloatFault) (blocks : List Block) (style : StyleValue) →
+    unknown_class blocks style ≡ None → HasFloats r blocks style → MakesList r blocks style
+makes_list (Ok list) blocks style known has = (has.0, known, has.1)
+makes_list (Err (FaultClass number)) blocks style known has = absurd has
+makes_list (Err (Limit count)) blocks style known has = (known, has.0, has.1)
+makes_list (Err Memory) blocks style known has = known

@@ -134,10 +134,10 @@ pub fn first_items_of(block: &Block) -> &[Item]
     }
 }
 
-// The number of the first barrier among blocks, the first of which has this number; none has `NO_BARRIER`.
-fn next_barrier(blocks: &[Block], first: u32) -> u32
+// The number of the first barrier among blocks, the first of which has this number; where there is none, that behind them.
+fn next_barrier(blocks: &[Block], first: u32, past: u32) -> u32
     requires { first + length blocks.now ≤ item_limit }
-    ensures { result ≡ next_barrier_of no_barrier first blocks.now }
+    ensures { result ≡ next_barrier_of past first blocks.now }
 {
     let mut rest = blocks;
     let mut index = first;
@@ -148,26 +148,57 @@ fn next_barrier(blocks: &[Block], first: u32) -> u32
         rest = after;
         index += 1;
     }
-    NO_BARRIER
+    past
 }
 
-/// The callouts of a class in a galley.
-pub fn callouts_of(alloc: Global, blocks: &[Block], number: u8) -> Result<Callouts, AllocError>
+// Adds the callouts of a class in blocks, the first of which has this number, where this is the first barrier behind them.
+fn push_blocks(
+    out: &mut Callouts,
+    blocks: &[Block],
+    number: u8,
+    first: u32,
+    past: u32,
+) -> Result<(), AllocError>
     requires shape { AllByRecursion IsBlock blocks.now }
-    requires few { length blocks.now ≤ item_limit }
-    ensures { IfOk result (λ callouts. callouts ≡ callouts_from number no_barrier 0 blocks.now) }
+    requires few { first + length blocks.now ≤ item_limit }
+    ensures { OnOk result (out.new ≡ out.old ++ callouts_from number past first blocks.now) }
 {
-    let mut callouts = Callouts::new(alloc);
     let mut rest = blocks;
-    let mut index = 0u32;
-    let mut barrier = next_barrier(blocks, 0);
+    let mut index = first;
+    let mut barrier = next_barrier(blocks, first, past);
     'each: while let [block, after @ ..] = rest {
-        push_callouts(&mut callouts, first_items_of(block), number, index, barrier)?;
+        push_callouts(out, first_items_of(block), number, index, barrier)?;
         rest = after;
         index += 1;
         if block_is_barrier(block) {
-            barrier = next_barrier(rest, index);
+            barrier = next_barrier(rest, index, past);
         }
     }
+    Ok(())
+}
+
+/// The callouts of a class in a galley that stands in three parts, one behind the other.
+pub fn callouts_of(
+    alloc: Global,
+    before: &[Block],
+    fresh: &[Block],
+    behind: &[Block],
+    number: u8,
+) -> Result<Callouts, AllocError>
+    requires before { AllByRecursion IsBlock before.now }
+    requires fresh { AllByRecursion IsBlock fresh.now }
+    requires behind { AllByRecursion IsBlock behind.now }
+    requires few { length before.now + length fresh.now + length behind.now ≤ item_limit }
+    ensures { IfOk result (λ callouts.
+        callouts ≡ callouts_from number no_barrier 0 (before.now ++ fresh.now ++ behind.now)) }
+{
+    let middle = before.len() as u32;
+    let last = middle + fresh.len() as u32;
+    let past_fresh = next_barrier(behind, last, NO_BARRIER);
+    let past_before = next_barrier(fresh, middle, past_fresh);
+    let mut callouts = Callouts::new(alloc);
+    push_blocks(&mut callouts, before, number, 0, past_before)?;
+    push_blocks(&mut callouts, fresh, number, middle, past_fresh)?;
+    push_blocks(&mut callouts, behind, number, last, NO_BARRIER)?;
     Ok(callouts)
 }

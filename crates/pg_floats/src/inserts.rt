@@ -91,20 +91,46 @@ fn push_block(out: &mut Vec<Place>, block: &Block, number: u8, index: u32) -> Re
     }
 }
 
-/// The places of a class's inserts in every variant of a galley, in order.
-pub fn places_of(alloc: Global, blocks: &[Block], number: u8) -> Result<Vec<Place>, AllocError>
-    requires blocks { length blocks.now ≤ item_limit }
+// Adds the places of a class's inserts in every variant of blocks, the first of which has this number.
+fn push_blocks(
+    out: &mut Vec<Place>,
+    blocks: &[Block],
+    number: u8,
+    first: u32,
+) -> Result<(), AllocError>
+    requires blocks { first + length blocks.now ≤ item_limit }
     requires items { item_count blocks.now ≤ item_limit }
-    ensures { IfOk result (λ places. places.items ≡ places_from number 0 blocks.now) }
+    ensures { OnOk result (out.new.items ≡ out.old.items ++ places_from number first blocks.now) }
 {
-    let mut places = Vec::new(alloc);
     let mut rest = blocks;
-    let mut index = 0u32;
+    let mut index = first;
     'each: while let [block, after @ ..] = rest {
-        push_block(&mut places, block, number, index)?;
+        push_block(out, block, number, index)?;
         rest = after;
         index += 1;
     }
+    Ok(())
+}
+
+/// The places of a class's inserts in every variant of a galley that stands in three parts, in order.
+pub fn places_of(
+    alloc: Global,
+    before: &[Block],
+    fresh: &[Block],
+    behind: &[Block],
+    number: u8,
+) -> Result<Vec<Place>, AllocError>
+    requires blocks { length before.now + length fresh.now + length behind.now ≤ item_limit }
+    requires items { item_count (before.now ++ fresh.now ++ behind.now) ≤ item_limit }
+    ensures { IfOk result (λ places.
+        places.items ≡ places_from number 0 (before.now ++ fresh.now ++ behind.now)) }
+{
+    let middle = before.len() as u32;
+    let last = middle + fresh.len() as u32;
+    let mut places = Vec::new(alloc);
+    push_blocks(&mut places, before, number, 0)?;
+    push_blocks(&mut places, fresh, number, middle)?;
+    push_blocks(&mut places, behind, number, last)?;
     Ok(places)
 }
 

@@ -5,6 +5,7 @@ ghost use Rattle.std.specs.Prelude.{option_copied};
 ghost use Rattle.std.specs.List.{AllByRecursion};
 ghost use Rattle.std.specs.List.Sorted.{IsPartitionedBy, IsPartitionPoint};
 ghost use Rattle.pg_list.specs.Counts.{item_count, item_limit};
+ghost use Rattle.pg_list.specs.Places.{spliced};
 ghost use Rattle.pg_list.specs.Shapes.{IsBlock};
 ghost use Rattle.pg_list.specs.declared.blocks.Block.{Block as ABlock};
 ghost use Rattle.pg_style.specs.Values.{StyleValue};
@@ -16,14 +17,14 @@ ghost use Rattle.pg_floats.specs.declared.callouts.Callout.{Callout as ACallout}
 ghost use Rattle.pg_floats.specs.Areas.{has_dealt, IsDealt};
 ghost use Rattle.pg_floats.specs.FloatsValue.{callout_at, AreKept, IsInRange, total_of};
 ghost use Rattle.pg_floats.specs.Callouts.{class_floats, lists_from, unknown_among, unknown_blocks};
-ghost use Rattle.pg_floats.specs.AreFloats.{AreFloats, HasFloats, IsWithinLimit, MakesList, unknown_class};
+ghost use Rattle.pg_floats.specs.AreFloats.{AreFloats, IsWithinLimit, MakesList, unknown_class};
 ghost use Rattle.pg_floats.specs.AreFloats.{count_of as count_dealt, float_size, float_total, height_of};
 
 use crate::area::{Dealt, area_size, deal};
 use crate::callouts::{Callout, Callouts, callouts_of, first_items_of};
 use crate::fault::FloatFault;
 use crate::inserts::{inserts_before, places_of};
-use pg_list::{Block, Galley, Item, Place};
+use pg_list::{Block, Edit, Galley, Item, Place};
 use pg_plan::Counts;
 use pg_style::{AreaRule, Class, Kind, Style};
 use std::alloc::{AllocError, Global};
@@ -101,16 +102,19 @@ fn unknown_of(blocks: &[Block], style: &Style) -> Option<u8>
 fn push_class(
     alloc: Global,
     out: &mut Vec<ClassFloats>,
-    blocks: &[Block],
+    before: &[Block],
+    fresh: &[Block],
+    behind: &[Block],
     class: &Class,
 ) -> Result<(), AllocError>
-    requires shape { AllByRecursion IsBlock blocks.now }
-    requires few { item_count blocks.now ≤ item_limit }
-    ensures { OnOk result (out.new.items ≡ out.old.items ++ lists_from blocks.now (class.now ∷ [])) }
+    requires shape { AllByRecursion IsBlock (before.now ++ fresh.now ++ behind.now) }
+    requires few { item_count (before.now ++ fresh.now ++ behind.now) ≤ item_limit }
+    ensures { OnOk result (out.new.items
+        ≡ out.old.items ++ lists_from (before.now ++ fresh.now ++ behind.now) (class.now ∷ [])) }
 {
     if let Kind::Float { .. } = &class.kind {
-        let callouts = callouts_of(alloc, blocks, class.number)?;
-        let places = places_of(alloc, blocks, class.number)?;
+        let callouts = callouts_of(alloc, before, fresh, behind, class.number)?;
+        let places = places_of(alloc, before, fresh, behind, class.number)?;
         out.push(ClassFloats {
             number: class.number,
             callouts,
@@ -122,17 +126,20 @@ fn push_class(
 
 fn lists_of(
     alloc: Global,
-    blocks: &[Block],
+    before: &[Block],
+    fresh: &[Block],
+    behind: &[Block],
     classes: &[Class],
 ) -> Result<Vec<ClassFloats>, AllocError>
-    requires shape { AllByRecursion IsBlock blocks.now }
-    requires few { item_count blocks.now ≤ item_limit }
-    ensures { IfOk result (λ lists. lists.items ≡ lists_from blocks.now classes.now) }
+    requires shape { AllByRecursion IsBlock (before.now ++ fresh.now ++ behind.now) }
+    requires few { item_count (before.now ++ fresh.now ++ behind.now) ≤ item_limit }
+    ensures { IfOk result (λ lists.
+        lists.items ≡ lists_from (before.now ++ fresh.now ++ behind.now) classes.now) }
 {
     let mut lists = Vec::new(alloc);
     let mut rest = classes;
     'each: while let [class, after @ ..] = rest {
-        push_class(alloc, &mut lists, blocks, class)?;
+        push_class(alloc, &mut lists, before, fresh, behind, class)?;
         rest = after;
     }
     Ok(lists)
@@ -168,13 +175,19 @@ fn limited(lists: Vec<ClassFloats>) -> Result<FloatList, FloatFault>
 }
 
 // The lists of classes that are in order.
-fn listed(alloc: Global, blocks: &[Block], classes: &[Class]) -> Result<FloatList, FloatFault>
-    requires shape { AllByRecursion IsBlock blocks.now }
-    requires few { item_count blocks.now ≤ item_limit }
+fn listed(
+    alloc: Global,
+    before: &[Block],
+    fresh: &[Block],
+    behind: &[Block],
+    classes: &[Class],
+) -> Result<FloatList, FloatFault>
+    requires shape { AllByRecursion IsBlock (before.now ++ fresh.now ++ behind.now) }
+    requires few { item_count (before.now ++ fresh.now ++ behind.now) ≤ item_limit }
     requires classes { length classes.now ≤ 8 }
-    ensures { IsWithinLimit result (lists_from blocks.now classes.now) }
+    ensures { IsWithinLimit result (lists_from (before.now ++ fresh.now ++ behind.now) classes.now) }
 {
-    match lists_of(alloc, blocks, classes) {
+    match lists_of(alloc, before, fresh, behind, classes) {
         Ok(lists) => limited(lists),
         Err(_) => Err(FloatFault::Memory),
     }
@@ -197,18 +210,46 @@ fn classes_of(style: &Style) -> &[Class]
     style.classes.as_slice()
 }
 
-// The first insert of a galley whose class the style does not have.
-fn unknown(galley: &Galley, style: &Style) -> Option<u8>
-    ensures { result ≡ unknown_class galley.now.blocks style.now }
+// The class of the first insert of three parts whose class the style does not have.
+fn unknown(before: &[Block], fresh: &[Block], behind: &[Block], style: &Style) -> Option<u8>
+    requires before { AllByRecursion IsBlock before.now }
+    requires fresh { AllByRecursion IsBlock fresh.now }
+    requires behind { AllByRecursion IsBlock behind.now }
+    ensures { result ≡ unknown_class (before.now ++ fresh.now ++ behind.now) style.now }
 {
-    unknown_of(blocks_of(galley), style)
+    match unknown_of(before, style) {
+        Some(number) => Some(number),
+        None => match unknown_of(fresh, style) {
+            Some(number) => Some(number),
+            None => unknown_of(behind, style),
+        },
+    }
 }
 
-// The floats of a galley, if they are not too many.
-fn all_floats(alloc: Global, galley: &Galley, style: &Style) -> Result<FloatList, FloatFault>
-    ensures { HasFloats result galley.now.blocks style.now }
+// The floats of a galley that stands in three parts, one behind the other.
+fn all_floats(
+    alloc: Global,
+    before: &[Block],
+    fresh: &[Block],
+    behind: &[Block],
+    style: &Style,
+) -> Result<FloatList, FloatFault>
+    requires shape { AllByRecursion IsBlock (before.now ++ fresh.now ++ behind.now) }
+    requires few { item_count (before.now ++ fresh.now ++ behind.now) ≤ item_limit }
+    ensures { MakesList result (before.now ++ fresh.now ++ behind.now) style.now }
 {
-    listed(alloc, blocks_of(galley), classes_of(style))
+    match unknown(before, fresh, behind, style) {
+        Some(number) => Err(FloatFault::Class { number }),
+        None => listed(alloc, before, fresh, behind, classes_of(style)),
+    }
+}
+
+// The blocks that an edit puts into a galley keep their shape.
+fn fresh_of(edit: &Edit) -> &[Block]
+    ensures blocks { result.now ≡ edit.now.fresh }
+    ensures shape { AllByRecursion IsBlock edit.now.fresh }
+{
+    edit.fresh.as_slice()
 }
 
 // How many callouts stand in blocks before one.
@@ -268,10 +309,26 @@ impl FloatList {
     pub fn of(alloc: Global, galley: &Galley, style: &Style) -> Result<FloatList, FloatFault>
         ensures { MakesList result galley.now.blocks style.now }
     {
-        match unknown(galley, style) {
-            Some(number) => Err(FloatFault::Class { number }),
-            None => all_floats(alloc, galley, style),
-        }
+        all_floats(alloc, blocks_of(galley), &[], &[], style)
+    }
+
+    /// The floats that a galley has behind an edit, with the refusals of `of`. The edited galley is not made.
+    ///
+    /// Conditions: the blocks that go are there, and the edited galley has at most 2^20 items.
+    pub fn after(
+        alloc: Global,
+        galley: &Galley,
+        edit: &Edit,
+        style: &Style,
+    ) -> Result<FloatList, FloatFault>
+        requires there { edit.now.at + edit.now.gone ≤ length galley.now.blocks }
+        requires few { item_count (spliced galley.now.blocks edit.now) ≤ item_limit }
+        ensures { MakesList result (spliced galley.now.blocks edit.now) style.now }
+    {
+        let blocks = blocks_of(galley);
+        let at = edit.at as usize;
+        let end = at + edit.gone as usize;
+        all_floats(alloc, &blocks[..at], fresh_of(edit), &blocks[end..], style)
     }
 
     /// Hands on that there are at most 2^12 floats.

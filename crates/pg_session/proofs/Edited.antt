@@ -21,7 +21,7 @@ touched_at kept block = record kept { labels = []; touched = min kept.touched bl
 
 module _ (g n : GalleyValue) (s : StyleValue) (old floats : List ClassFloatsValue) (edit : Edit) (kept left : Kept)
     (block : ℕ) (is : n ≡ edited g edit) (own : block ≡ touched g.blocks edit) (left_is : left ≡ touched_at kept block)
-    (listed : AreFloats n.blocks s floats) where
+    (listed : AreFloats (edited g edit).blocks s floats) where
   left_own : left ≡ touched_at kept (touched g.blocks edit)
   left_own = left_is ∙ ap (touched_at kept) own
 
@@ -38,7 +38,7 @@ module _ (g n : GalleyValue) (s : StyleValue) (old floats : List ClassFloatsValu
       (AreHops g.blocks s.maxdepth rows → AreHops n.blocks s.maxdepth mended) → IsSession n s floats mended left
   session_edited rows mended was range stays mends = record {
     range = range;
-    floats_are = listed;
+    floats_are = subst (λ (x : GalleyValue). AreFloats x.blocks s floats) (sym is) listed;
     hops = mends was.hops;
     right = right_left was.right stays;
     known = λ e. absurd (let f = ap (λ (k : Kept). k.solved) left_is in cc);
@@ -47,7 +47,12 @@ module _ (g n : GalleyValue) (s : StyleValue) (old floats : List ClassFloatsValu
   -- and it is what the edit makes of it
   pub is_edited : IsEdited (seen g s old kept) edit (seen n s floats left)
   is_edited = record {
-    floats = subst (λ (x : GalleyValue). AreFloats x.blocks s floats) is listed;
+    floats = listed;
     is = ap (seen n s floats) left_own
         ∙ ap (λ (x : GalleyValue). seen x s floats (touched_at kept (touched g.blocks edit))) is;
   }
+
+-- a session with a galley that is as it was
+pub session_still : (g n : GalleyValue) (s : StyleValue) (floats : List ClassFloatsValue) (rows : List Row)
+    (kept : Kept) → n ≡ g → IsSession g s floats rows kept → IsSession n s floats rows kept
+session_still g n s floats rows kept is was = subst (λ (x : GalleyValue). IsSession x s floats rows kept) (sym is) was

@@ -11,7 +11,7 @@ use Rattle.pg_list.specs.Places.{spliced}
 use Rattle.pg_list.specs.declared.blocks.Block.{Block}
 use Rattle.pg_list.specs.declared.galley.Edit.{Edit}
 use Rattle.pg_style.specs.Values.{StyleValue}
-use Rattle.pg_session.specs.Edits.{Refuses, class_fault, count_fault, edit_fault, edited, first_fault, floats_fault, splice_fault}
+use Rattle.pg_session.specs.Edits.{Refuses, class_fault, count_fault, edit_fault, first_fault, floats_fault, splice_fault}
 use Rattle.pg_edits.specs.declared.fault.EditFault.{EditFault}
 use Rattle.pg_edits.specs.declared.fault.EditFault.TheVariants.{Range, Limit, Class, Floats, Memory}
 
@@ -42,29 +42,38 @@ many_floats blocks style fault count is made =
 
 -- ---- of an edit
 
-module _ (g : GalleyValue) (s : StyleValue) (edit : Edit) (n : GalleyValue) (is : n ≡ edited g edit)
-    (there : splice_fault g edit ≡ None) where
-  floats_left : edit_fault g s edit ≡ floats_fault n.blocks s
-  floats_left =
-      ap (λ (fault : Option EditFault). first_fault fault (floats_fault (spliced g.blocks edit) s)) there
-      ∙ ap (λ (x : GalleyValue). floats_fault x.blocks s) (sym is)
+first_of : (T : Type 0) (fault : EditFault) (cause later : Option EditFault) → Refuses {T = T} (Err fault) cause →
+    Refuses {T = T} (Err fault) (first_fault cause later)
+first_of T (Range at gone len) cause later h = ap (λ (x : Option EditFault). first_fault x later) h
+first_of T (Limit count) cause later h = ap (λ (x : Option EditFault). first_fault x later) h
+first_of T (Class number) cause later h = ap (λ (x : Option EditFault). first_fault x later) h
+first_of T (Floats count) cause later h = ap (λ (x : Option EditFault). first_fault x later) h
+first_of T Memory cause later h = tt
 
-  -- where neither the blocks nor the floats have a fault, the edit has none
-  pub no_fault : floats_fault n.blocks s ≡ None → edit_fault g s edit ≡ None
-  no_fault fine = floats_left ∙ fine
+-- a refusal, handed on
+pub handed_on : (T : Type 0) {U : Type 0} (r : Result U EditFault) (fault : EditFault) (cause : Option EditFault) →
+    IsErrAnd r (λ (x : EditFault). x ≡ fault) → Refuses {T = T} (Err fault) cause → Refuses r cause
+handed_on T (Ok u) fault cause h e = absurd h
+handed_on T {U} (Err x) fault cause h e =
+    subst (λ (y : EditFault). Refuses {T = U} (Err y) cause) (sym h) (of_any fault e)
+  where
+    of_any : (fault : EditFault) → Refuses {T = T} (Err fault) cause → Refuses {T = U} (Err fault) cause
+    of_any (Range at gone len) h = h
+    of_any (Limit count) h = h
+    of_any (Class number) h = h
+    of_any (Floats count) h = h
+    of_any Memory h = tt
 
-  -- a fault of the floats, handed on
-  pub later_fault : (T : Type 0) {U : Type 0} (r : Result U EditFault) (fault : EditFault) →
-      IsErrAnd r (λ (x : EditFault). x ≡ fault) → Refuses {T = T} (Err fault) (floats_fault n.blocks s) →
+module _ (g : GalleyValue) (s : StyleValue) (edit : Edit) where
+  -- a fault of the splice is one of the edit
+  pub earlier_fault : (T : Type 0) {U : Type 0} (r : Result U EditFault) (fault : EditFault) →
+      IsErrAnd r (λ (x : EditFault). x ≡ fault) → Refuses {T = T} (Err fault) (splice_fault g edit) →
       Refuses r (edit_fault g s edit)
-  later_fault T {U} (Ok u) fault h e = absurd h
-  later_fault T {U} (Err x) fault h e = subst (λ (y : EditFault). Refuses {T = U} (Err y) (edit_fault g s edit)) (sym h)
-      (subst (Refuses {T = U} (Err fault)) (sym floats_left) (of_any fault (floats_fault n.blocks s) e))
-    where
-      of_any : (fault : EditFault) (cause : Option EditFault) → Refuses {T = T} (Err fault) cause →
-          Refuses {T = U} (Err fault) cause
-      of_any (Range at gone len) cause h = h
-      of_any (Limit count) cause h = h
-      of_any (Class number) cause h = h
-      of_any (Floats count) cause h = h
-      of_any Memory cause h = tt
+  earlier_fault T r fault h e = handed_on T r fault (edit_fault g s edit) h
+      (first_of T fault (splice_fault g edit) (floats_fault (spliced g.blocks edit) s) e)
+
+  -- where the splice has none, the fault of the floats is that of the edit
+  pub later_fault : {T : Type 0} (r : Result T EditFault) → splice_fault g edit ≡ None →
+      Refuses r (floats_fault (spliced g.blocks edit) s) → Refuses r (edit_fault g s edit)
+  later_fault r there h = subst (Refuses r)
+      (sym (ap (λ (x : Option EditFault). first_fault x (floats_fault (spliced g.blocks edit) s)) there)) h

@@ -8,6 +8,7 @@
 //! `specs/Sessions`, the shows of a script with the steps that they may take in `specs/Shows`.
 #![tactic(auto)]
 
+mod asked;
 mod kept;
 mod parts;
 mod session;

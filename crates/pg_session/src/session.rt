@@ -5,8 +5,9 @@ ghost use Rattle.pg_rules.specs.Frontier.{Frontier};
 ghost use Rattle.pg_session.specs.Edits.{Refuses, edit_fault};
 ghost use Rattle.pg_session.specs.Sessions.{Forgets, IsEdited, IsPaginated, IsSolved, MakesSession};
 
+use crate::asked::ask;
 use crate::kept::Kept;
-use crate::parts::{edited_galley, edits_leave_right, floats_of, stay_in_range, touched_block};
+use crate::parts::{edits_leave_right, splice_in, stay_in_range, touched_block};
 use crate::solving::{paginate_kept, solve_kept};
 use crate::told::Told;
 use pg_edits::EditFault;
@@ -123,14 +124,14 @@ impl Session {
         ensures ok { OnOk result (IsEdited self.old edit.now self.new) }
         ensures err { OnErr result (self.new ≡ self.old) }
     {
-        let galley = edited_galley(&self.galley, edit)?;
-        let floats = floats_of(self.alloc, &galley, &self.style)?;
-        stay_in_range(&galley, &self.style);
-        edits_leave_right(&self.galley, &galley, &self.style);
-        let block = touched_block(&self.galley, edit, &galley);
+        let floats = ask(self.alloc, &self.galley, edit, &self.style)?;
+        let before = self.galley.tail();
+        splice_in(&mut self.galley, edit)?;
+        stay_in_range(&self.galley, &self.style);
+        edits_leave_right(&self.galley, &self.style);
+        let block = touched_block(edit, before, &self.galley);
         self.kept.touch(self.alloc, block);
-        self.index.mend(&galley, &self.style, block);
-        self.galley = galley;
+        self.index.mend(&self.galley, &self.style, block);
         self.floats = floats;
         Ok(())
     }

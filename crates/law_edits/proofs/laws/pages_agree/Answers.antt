@@ -2,4 +2,4 @@ use Rattle.law_edits.proofs.Agree.{pages_agree}
 use Rattle.law_edits.proofs.laws.pages_agree.Goals as goal
 
 pub returns : goal.returns
-returns c = pages_agree _ _ _ c.requires.galley c.requires.other
+returns c = pages_agree

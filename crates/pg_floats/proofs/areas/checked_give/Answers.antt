@@ -1,4 +1,4 @@
-use Rattle.std.proofs.Common.{ap, sym, ◌∙◌, pos}
+use Rattle.std.proofs.Common.{ap, sym, ◌∙◌}
 use Rattle.pg_style.specs.declared.style.Give.{Give}
 use Rattle.pg_rules.specs.Floats.{floats, gap_shrink, gap_stretch}
 use Rattle.pg_floats.proofs.Gives.{given, none_given}

@@ -1,4 +1,4 @@
-use Rattle.std.proofs.Common.{rules, ◌≡◌, ◌∙◌, ◌^◌, ◌≤◌, ap, Some}
+use Rattle.std.proofs.Common.{rules, ◌∙◌, ap, Some}
 use Rattle.pg_floats.proofs.AreaSums.{count_none, count_some}
 use Rattle.pg_floats.proofs.list.FloatList.count.Goals as goal
 
