@@ -16,12 +16,10 @@ use Rattle.pg_layouts.specs.declared.layout.Layout.{Layout}
 use Rattle.pg_layouts.proofs.Fits.{zeros_made}
 
 -- in a second column there are no wide floats
-pub on_none : {V E : Type 0} (items : V → List (List ℕ)) (r : Result V E) (style : StyleValue) (u : State)
-    (ceiling : List ℕ) (slots : ℕ) → slots ≡ length (float_numbers style) → (u.column ≡ 1 → ⊥) →
-    IfOk r (λ wides. items wides ≡ replicate slots 0 ∷ []) →
-    IfOk r (λ wides. items wides ≡ wides_of (bare style) u ceiling)
-on_none items (Err e) style u ceiling slots s f h = tt
-on_none items (Ok wides) style u ceiling slots s f h =
+pub none_wide : (wides : List (List ℕ)) (style : StyleValue) (u : State) (ceiling : List ℕ) (slots : ℕ) →
+    slots ≡ length (float_numbers style) → (u.column ≡ 1 → ⊥) → wides ≡ replicate slots 0 ∷ [] →
+    wides ≡ wides_of (bare style) u ceiling
+none_wide wides style u ceiling slots s f h =
     h ∙ (ap (λ (counts : List ℕ). counts ∷ []) (zeros_made style slots s)
     ∙ sym (if_false (u.column == 1) (area_lists style takes_wide style.wide.count u.placed ceiling) (zeros style ∷ [])
     (by_bool (u.column == 1) (λ t. absurd (f (eqb-true u.column 1 t))) (λ g. g))))

@@ -3,3 +3,4 @@ pub mod Layouts
 pub mod Behind
 pub mod Fit
 pub mod Laws
+pub mod ListsKept

@@ -4,6 +4,7 @@ ghost use Rattle.std.specs.List.{flat_map};
 ghost use Rattle.pg_rules.specs.Floats.{total_count};
 ghost use Rattle.pg_layouts.specs.Counts.{count_lists as the_count_lists, grown, grown_by};
 
+use crate::lists::{KeptLists, ListedCounts};
 use pg_plan::Counts;
 use std::alloc::{AllocError, Global};
 
@@ -38,7 +39,7 @@ fn grow(most: u8, limit: u16, counts: &Counts, lists: &mut Vec<Counts>) -> Resul
     Ok(())
 }
 
-// The lists with one count more.
+// Lists of counts with one count more.
 fn grow_all(
     alloc: Global,
     most: u8,
@@ -54,15 +55,66 @@ fn grow_all(
     Ok(longer)
 }
 
-/// Every list of counts of which none is above its limit, and which sum to so much at most.
-pub fn count_lists(alloc: Global, most: u8, limits: &[u16]) -> Result<Vec<Counts>, AllocError>
-    ensures { IfOk result (λ lists. lists.items ≡ the_count_lists most limits.now) }
+// The counts with one more behind them, where it may be above 0.
+fn grow_one(
+    alloc: Global,
+    most: u8,
+    limit: u16,
+    counts: &Counts,
+    top: u16,
+) -> Result<Vec<Counts>, AllocError>
+    ensures { IfOk result (λ lists. lists.items ≡ grown most limit counts.now) }
 {
-    let mut lists = Vec::new(alloc);
-    lists.push(Counts::new(alloc))?;
+    let mut lists = Vec::with_capacity(alloc, usize::from(top) + 1)?;
+    grow(most, limit, counts, &mut lists)?;
+    Ok(lists)
+}
+
+// One list with one count more: no memory is taken where that can only be 0.
+fn lengthen_one(
+    alloc: Global,
+    most: u8,
+    limit: u16,
+    mut counts: Counts,
+) -> Result<ListedCounts, AllocError>
+    ensures { IfOk result (λ lists. lists ≡ grown most limit counts) }
+{
+    let top = limit.min(room_left(most, counts.as_slice()));
+    if top > 0 {
+        return Ok(ListedCounts::many(grow_one(alloc, most, limit, &counts, top)?));
+    }
+    counts.push(0)?;
+    Ok(ListedCounts::one(counts))
+}
+
+// The lists with one count more.
+fn lengthen(
+    alloc: Global,
+    most: u8,
+    limit: u16,
+    lists: ListedCounts,
+) -> Result<ListedCounts, AllocError>
+    ensures { IfOk result (λ longer. longer ≡ flat_map (grown most limit) lists) }
+{
+    match lists.kept {
+        KeptLists::One(counts) => lengthen_one(alloc, most, limit, counts),
+        KeptLists::Many(many) => Ok(ListedCounts::many(grow_all(
+            alloc,
+            most,
+            limit,
+            many.as_slice(),
+        )?)),
+    }
+}
+
+/// Every list of counts of which none is above its limit, and which sum to so much at most.
+pub fn count_lists(alloc: Global, most: u8, limits: &[u16]) -> Result<ListedCounts, AllocError>
+    ensures { IfOk result (λ lists. lists ≡ the_count_lists most limits.now) }
+{
+    let mut lists = ListedCounts::one(Counts::new(alloc));
     let mut rest = limits;
     'each: while let [limit, after @ ..] = rest {
-        lists = grow_all(alloc, most, *limit, lists.as_slice())?;
+        lists = lengthen(alloc, most, *limit, lists)?;
         rest = after;
     }
     Ok(lists)

@@ -10,6 +10,7 @@ mod laws;
 mod layout;
 mod layouts;
 mod limits;
+mod lists;
 mod runs;
 
 pub use counting::count_lists;
@@ -17,4 +18,5 @@ pub use laws::counts_are_listed;
 pub use layout::Layout;
 pub use layouts::plus_counts;
 pub use limits::area_limits;
+pub use lists::ListedCounts;
 pub use runs::{float_layouts, text_layouts};

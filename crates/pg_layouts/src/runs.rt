@@ -12,6 +12,7 @@ use crate::kind::ColumnKind;
 use crate::layout::Layout;
 use crate::layouts::{plus_counts, push_floats, push_tops};
 use crate::limits::area_limits;
+use crate::lists::ListedCounts;
 use pg_floats::Spot;
 use pg_plan::{Counts, State};
 use pg_style::Style;
@@ -163,13 +164,11 @@ fn push_runs(
 }
 
 // One list of counts, with no float of any class.
-fn no_wides(alloc: Global, slots: usize) -> Result<Vec<Counts>, AllocError>
+fn no_wides(alloc: Global, slots: usize) -> ListedCounts
     requires { slots ≤ 8 }
-    ensures { IfOk result (λ wides. wides.items ≡ replicate slots 0 ∷ []) }
+    ensures { result ≡ replicate slots 0 ∷ [] }
 {
-    let mut wides = Vec::new(alloc);
-    wides.push(Counts::zeros(alloc, slots))?;
-    Ok(wides)
+    ListedCounts::one(Counts::zeros(alloc, slots))
 }
 
 // The counts of wide floats that the page of the next column may have.
@@ -179,10 +178,10 @@ fn wides(
     slots: usize,
     state: &State,
     ceiling: &[u16],
-) -> Result<Vec<Counts>, AllocError>
+) -> Result<ListedCounts, AllocError>
     requires slots { slots ≡ length (float_numbers style.now) }
     requires few { slots ≤ 8 }
-    ensures { IfOk result (λ wides. wides.items ≡ wides_of (bare style.now) state.now ceiling.now) }
+    ensures { IfOk result (λ wides. wides ≡ wides_of (bare style.now) state.now ceiling.now) }
 {
     if state.column == 1 {
         let limits = area_limits(
@@ -195,7 +194,7 @@ fn wides(
         )?;
         count_lists(alloc, style.wide.count, limits.as_slice())
     } else {
-        no_wides(alloc, slots)
+        Ok(no_wides(alloc, slots))
     }
 }
 

@@ -1,6 +1,6 @@
 -- Heights of areas whose floats are there.
 use Rattle.std.proofs.Common.{Bool, ◌≡◌, refl, sym, ap, ◌∙◌, subst, ℕ, ◌<◌, List, true, Option, Some, None, ℤ, pos, arith, ◌++◌, map, take, get_or, length, ◌+◌, [], ◌∷◌}
-use Rattle.std.specs.Prelude.{◌==◌, nat_lt, if◌then◌else◌, nat_abs, ◌^◌, ◌≤ℤ◌, ◌<ℤ◌, ◌&&◌, int_le, int_lt, ◌-ℤ◌, ◌+ℤ◌, unwrap_or, IfSome}
+use Rattle.std.specs.Prelude.{◌==◌, nat_lt, if◌then◌else◌, nat_abs, ◌^◌, ◌&&◌, int_le, int_lt, ◌-ℤ◌, ◌+ℤ◌, unwrap_or, IfSome}
 use Rattle.std.specs.Option.{option_map_or}
 use Rattle.std.proofs.lemmas.Int.{ints}
 use Rattle.pg_plan.specs.declared.states.State.{State}
@@ -10,13 +10,12 @@ use Rattle.pg_style.specs.Values.{AreaRuleValue}
 use Rattle.pg_style.specs.declared.style.Gap.{Gap}
 use Rattle.pg_style.specs.declared.style.Give.{Give}
 use Rattle.pg_rules.specs.Floats.{dealt, float_numbers, floats, gap_shrink, gap_stretch, plus_counts, total_count}
-use Rattle.pg_rules.specs.IsState.{IsState, not_first}
+use Rattle.pg_rules.specs.IsState.{not_first}
 use Rattle.pg_rules.specs.Room.{Document, checked_give, checked_height, extra}
 use Rattle.std.specs.List.{AllByRecursion}
 use Rattle.pg_list.specs.Shapes.{IsBlock}
 use Rattle.law_columns.proofs.Areas.{area_range, dealt_range, floats_range}
 use Rattle.law_columns.proofs.Gives.{IsPart, give_range}
-use Rattle.pg_column.specs.Numbers.{IsRoom}
 use Rattle.pg_column.specs.declared.cost.TextRoom.{TextRoom}
 use Rattle.pg_layouts.specs.declared.layout.Layout.{Layout}
 use Rattle.std.proofs.lemmas.List.{map-append}
@@ -26,6 +25,7 @@ use Rattle.std.proofs.lemmas.Bool.{eqb-true}
 use Rattle.law_moves.proofs.Moves.{checked_give_is, checked_is, same_give}
 use Rattle.law_moves.specs.Steps.{area_of, give_of, text_give, text_room, text_size, wide_of}
 use Rattle.pg_rooms.specs.Laid.{IsLaidBy, IsThere, laid_of}
+use Rattle.pg_rooms.specs.Runs.{IsLow}
 use Rattle.pg_rooms.specs.declared.laid.Laid.{Laid}
 use Rattle.law_places.proofs.Tests.{le_int, less_int}
 
@@ -147,14 +147,14 @@ laid_is doc u layout wide before below after room by a r =
 -- one more layout behind those before it
 pub laid_more : (doc : Document) (u : State) (layouts : List Layout) (i : ℕ) (layout copy : Layout) (it : Laid)
     (mid new : List Laid) → i < length layouts → layout ≡ get_or layouts i layout → copy ≡ layout →
-    it ≡ laid_of doc u copy → IsRoom it.room → mid ≡ map (laid_of doc u) (take i layouts) →
-    AllByRecursion (λ (x : Laid). IsRoom x.room) mid → new ≡ mid ++ it ∷ [] →
-    (new ≡ map (laid_of doc u) (take (i + 1) layouts)) × AllByRecursion (λ (x : Laid). IsRoom x.room) new
+    it ≡ laid_of doc u copy → IsLow it.room → mid ≡ map (laid_of doc u) (take i layouts) →
+    AllByRecursion (λ (x : Laid). IsLow x.room) mid → new ≡ mid ++ it ∷ [] →
+    (new ≡ map (laid_of doc u) (take (i + 1) layouts)) × AllByRecursion (λ (x : Laid). IsLow x.room) new
 laid_more doc u layouts i layout copy it mid new less is c e small h all n = (
   n ∙ (ap (λ (xs : List Laid). xs ++ it ∷ []) h
       ∙ (ap (λ (x : Laid). map (laid_of doc u) (take i layouts) ++ x ∷ []) (e ∙ ap (laid_of doc u) c)
       ∙ (sym (map-append (laid_of doc u) (take i layouts) (layout ∷ []))
       ∙ ap (map (laid_of doc u)) (sym (one_more layouts i layout less is))))),
-  subst (AllByRecursion (λ (x : Laid). IsRoom x.room)) (sym n)
-      (all_append (λ (x : Laid). IsRoom x.room) mid (it ∷ []) all (small, tt)),
+  subst (AllByRecursion (λ (x : Laid). IsLow x.room)) (sym n)
+      (all_append (λ (x : Laid). IsLow x.room) mid (it ∷ []) all (small, tt)),
 )

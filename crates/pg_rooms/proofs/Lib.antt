@@ -4,6 +4,8 @@ pub mod Dealt
 pub mod FloatLaid
 pub mod LaidLemmas
 pub mod Tallest
+pub mod Undealt
+pub mod Running
 pub mod Called
 pub mod Grouped
 pub mod Kept

@@ -1,3 +1,4 @@
 pub mod Laid
+pub mod Runs
 pub mod Calls
 pub mod PlaceEnds

@@ -11,6 +11,7 @@ ghost use Rattle.std.specs.List.{AllByRecursion};
 ghost use Rattle.pg_rooms.specs.declared.laid.Laid.{Laid as ALaid};
 ghost use Rattle.pg_sources.specs.Document.{doc_of};
 ghost use Rattle.pg_rooms.specs.Laid.{IsLaid, IsLaidBy, IsThere, laid_of};
+ghost use Rattle.pg_rooms.specs.Runs.{IsLow};
 
 use pg_column::TextRoom;
 use pg_floats::{checked_area, checked_give, count_floats, full_height};
@@ -37,7 +38,7 @@ fn room_left(full: i64, wide: i64, top: i64, bottom: i64) -> i64
     requires top { nat_abs top < 2 ^ 34 }
     requires bottom { nat_abs bottom < 2 ^ 34 }
     ensures value { result ≡ ((full -ℤ wide) -ℤ top) -ℤ bottom }
-    ensures size { nat_abs result < 2 ^ 40 }
+    ensures size { nat_abs result < 2 ^ 36 }
 {
     minus(minus(minus(full, wide), top), bottom)
 }
@@ -70,6 +71,9 @@ fn top_area(sources: &Sources<'_>, before: &Counts, counts: &Counts) -> i64
     ensures value { result ≡ area_of (doc_of sources.now) sources.now.style.now.top before.now counts.now }
     ensures size { nat_abs result < 2 ^ 34 }
 {
+    if !has_floats(sources, counts) {
+        return 0;
+    }
     let style = sources.style;
     checked_area(sources.floats, true, &style.top, before, counts)
 }
@@ -82,6 +86,9 @@ fn area_give(sources: &Sources<'_>, rule: &AreaRule, before: &Counts, counts: &C
     ensures shrink { result.shrink ≡ give_of gap_shrink (doc_of sources.now) rule.now before.now counts.now }
     ensures size { (nat_abs result.stretch < 2 ^ 33) × (nat_abs result.shrink < 2 ^ 33) }
 {
+    if !has_floats(sources, counts) {
+        return Give::none();
+    }
     checked_give(sources.floats, true, rule, before, counts)
 }
 
@@ -91,6 +98,9 @@ fn bottom_area(sources: &Sources<'_>, before: &Counts, counts: &Counts) -> i64
     ensures value { result ≡ area_of (doc_of sources.now) sources.now.style.now.bottom before.now counts.now }
     ensures size { nat_abs result < 2 ^ 34 }
 {
+    if !has_floats(sources, counts) {
+        return 0;
+    }
     let style = sources.style;
     checked_area(sources.floats, true, &style.bottom, before, counts)
 }
@@ -122,9 +132,14 @@ fn wide_height(sources: &Sources<'_>, state: &State, wide: &Counts) -> Option<i6
 
 // Counts added, class by class.
 fn plus(sources: &Sources<'_>, a: &Counts, b: &Counts) -> Result<Counts, AllocError>
-    requires { IsThere (doc_of sources.now) a.now b.now }
-    ensures { IfOk result (λ counts. counts ≡ the_plus_counts sources.now.style.now a.now b.now) }
+    requires long { length a.now ≡ length (float_numbers sources.now.style.now) }
+    requires there { IsThere (doc_of sources.now) a.now b.now }
+    ensures value { IfOk result (λ counts. counts ≡ the_plus_counts sources.now.style.now a.now b.now) }
+    ensures long { IfOk result (λ counts. length counts ≡ length (float_numbers sources.now.style.now)) }
 {
+    if !has_floats(sources, b) {
+        return a.copy();
+    }
     plus_counts(
         sources.alloc,
         sources.style,
@@ -147,7 +162,7 @@ fn room_size(
     requires bottom { IsThere (doc_of sources.now) below.now layout.now.bottom }
     ensures value { (u : AState) → IsLaidBy (doc_of sources.now) u layout.now wide before.now below.now →
         result ≡ text_size (doc_of sources.now) u layout.now }
-    ensures size { nat_abs result < 2 ^ 40 }
+    ensures size { nat_abs result < 2 ^ 36 }
 {
     room_left(
         full_height(sources.style, layout.run),
@@ -185,6 +200,7 @@ fn room(
     ensures value { (u : AState) → IsLaidBy (doc_of sources.now) u layout.now wide before.now below.now →
         result ≡ text_room (doc_of sources.now) u layout.now }
     ensures size { IsRoom result }
+    ensures low { nat_abs result.size < 2 ^ 36 }
 {
     TextRoom {
         size: room_size(sources, wide, before, below, layout),
@@ -198,6 +214,7 @@ pub fn lay(sources: &Sources<'_>, state: &State, layout: Layout) -> Result<Laid,
     requires laid { IsLaid (doc_of sources.now) state.now layout }
     ensures laid { IfOk result (λ laid. laid ≡ laid_of (doc_of sources.now) state.now layout) }
     ensures size { IfOk result (λ laid. IsRoom laid.room) }
+    ensures low { IfOk result (λ laid. nat_abs laid.room.size < 2 ^ 36) }
 {
     let before = plus(sources, &state.placed, &layout.wide)?;
     let below = plus(sources, &before, &layout.top)?;
@@ -221,9 +238,9 @@ pub fn lay_all(
     requires own { IsState (doc_of sources.now) state.now }
     requires laid { (layout : ALayout) → Contains layouts.now layout → IsLaid (doc_of sources.now) state.now layout }
     ensures laid { IfOk result (λ laid. laid.items ≡ map (laid_of (doc_of sources.now) state.now) layouts.now) }
-    ensures small { IfOk result (λ laid. AllByRecursion (λ (it : ALaid). IsRoom it.room) laid.items) }
+    ensures low { IfOk result (λ laid. AllByRecursion (λ (it : ALaid). IsLow it.room) laid.items) }
 {
-    let mut laid = Vec::new(sources.alloc);
+    let mut laid = Vec::with_capacity(sources.alloc, layouts.len())?;
     for layout in layouts {
         laid.push(lay(sources, state, layout.copy()?)?)?;
     }

@@ -10,6 +10,7 @@ ghost use Rattle.pg_rooms.specs.PlaceEnds.{IsPageRoom};
 ghost use Rattle.pg_rooms.specs.declared.laid.Laid.{Laid as ALaid};
 
 use crate::laid::{Laid, lay_all};
+use crate::runs::{first_run, on_runs};
 use pg_layouts::{float_layouts, text_layouts};
 use pg_plan::State;
 use pg_sources::Sources;
@@ -29,14 +30,16 @@ pub fn lay_texts(
     ensures low { IfOk result (λ laid.
         AllByRecursion (λ (it : ALaid). IsPageRoom sources.now.style.now it.room) laid.items) }
 {
+    let first = first_run(state)?;
     let layouts = text_layouts(
         sources.alloc,
         sources.style,
         sources.slots(),
-        state,
+        &first,
         ceiling,
     )?;
-    lay_all(sources, state, layouts.as_slice())
+    let laid = lay_all(sources, state, layouts.as_slice())?;
+    on_runs(sources, state.run, laid)
 }
 
 /// The layouts of the columns without text behind a state, with counts up to a ceiling.
@@ -52,12 +55,14 @@ pub fn lay_floats(
     ensures each { IfOk result (λ laid.
         (it : ALaid) → Contains laid.items it → IsFloatLaid (doc_of sources.now) state.now it) }
 {
+    let first = first_run(state)?;
     let layouts = float_layouts(
         sources.alloc,
         sources.style,
         sources.slots(),
-        state,
+        &first,
         ceiling,
     )?;
-    lay_all(sources, state, layouts.as_slice())
+    let laid = lay_all(sources, state, layouts.as_slice())?;
+    on_runs(sources, state.run, laid)
 }

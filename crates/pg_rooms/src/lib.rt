@@ -16,6 +16,7 @@ mod laid;
 mod laying;
 mod left;
 mod place_ends;
+mod runs;
 
 pub use behind::{Behind, FrontEnds};
 pub use calls::{Call, Calls};

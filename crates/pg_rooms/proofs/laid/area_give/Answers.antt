@@ -1,8 +1,31 @@
+use Rattle.std.proofs.Common.{sym, ap, subst, ◌∙◌, ◌<◌, ◌^◌, arith}
+use Rattle.std.specs.Prelude.{nat_abs}
+use Rattle.std.proofs.lemmas.Int.{ints}
+use Rattle.pg_style.specs.declared.style.Give.{Give}
 use Rattle.pg_rules.specs.Floats.{gap_shrink, gap_stretch}
 use Rattle.pg_sources.specs.Document.{doc_of}
 use Rattle.law_columns.proofs.Gives.{shrink_part, stretch_part}
 use Rattle.pg_rooms.proofs.LaidLemmas.{give_is, give_small}
+use Rattle.pg_rooms.proofs.Undealt.{give_none, none_in}
 use Rattle.pg_rooms.proofs.laid.area_give.Goals as goal
+
+pub has_floats-requires : goal.has_floats-requires
+has_floats-requires c = c.requires.there.long
+
+pub returns-then-not-has_floats-clause-stretch : goal.returns-then-not-has_floats-clause-stretch
+returns-then-not-has_floats-clause-stretch c = ap (λ (give : Give). give.stretch) c.none.ensures
+    ∙ give_none gap_stretch (doc_of c.args.sources.now) c.args.rule.now c.args.before.now c.args.counts.now
+    (none_in c.args.counts.now c.has_floats.result c.has_floats.ensures c.if-not-has_floats.true)
+
+pub returns-then-not-has_floats-clause-shrink : goal.returns-then-not-has_floats-clause-shrink
+returns-then-not-has_floats-clause-shrink c = ap (λ (give : Give). give.shrink) c.none.ensures
+    ∙ give_none gap_shrink (doc_of c.args.sources.now) c.args.rule.now c.args.before.now c.args.counts.now
+    (none_in c.args.counts.now c.has_floats.result c.has_floats.ensures c.if-not-has_floats.true)
+
+pub returns-then-not-has_floats-clause-size : goal.returns-then-not-has_floats-clause-size
+returns-then-not-has_floats-clause-size c =
+    subst (λ (give : Give). (nat_abs give.stretch < 2 ^ 33) × (nat_abs give.shrink < 2 ^ 33)) (sym c.none.ensures)
+    (omega (arith, ints), omega (arith, ints))
 
 pub returns-clause-stretch : goal.returns-clause-stretch
 returns-clause-stretch c = give_is gap_stretch (doc_of c.args.sources.now) c.args.rule.now c.args.before.now

@@ -8,9 +8,9 @@ returns-clause-laid c =
     let by : IsLaidBy (doc_of c.args.sources.now) c.args.state.now c.args.layout c.wide_height-wide.result
     c.in_ok-before.before c.in_ok-below.below = record {
       wide_is = c.wide_height-wide.ensures.value;
-      before_is = c.in_ok-before.ensures;
-      below_is = c.in_ok-below.ensures;
+      before_is = c.in_ok-before.ensures.value;
+      below_is = c.in_ok-below.ensures.value;
     } in
     laid_is (doc_of c.args.sources.now) c.args.state.now c.args.layout c.wide_height-wide.result c.in_ok-before.before
-    c.in_ok-below.below c.in_ok-after.after c.room-room.result by c.in_ok-after.ensures
+    c.in_ok-below.below c.in_ok-after.after c.room-room.result by c.in_ok-after.ensures.value
     (c.room-room.ensures.value c.args.state.now by)

@@ -16,7 +16,7 @@ pub loop-layout-preserved : goal.loop-layout-preserved
 loop-layout-preserved c = laid_more (doc_of c.args.sources.now) c.args.state.now c.args.layouts.now
     c.loop-layout.layout-index c.layout-item.result c.in_ok-copy.field-0 c.in_ok-lay.field-0 c.loop-layout.laid.items
     c.push.new.self.items c.loop-layout-test.true c.layout-item.is c.in_ok-copy.ensures c.in_ok-lay.ensures.laid
-    c.in_ok-lay.ensures.size c.loop-layout.invariant.0 c.loop-layout.invariant.1 (search rules)
+    (record { size = c.in_ok-lay.ensures.low; small = c.in_ok-lay.ensures.size }) c.loop-layout.invariant.0 c.loop-layout.invariant.1 (search rules)
 
 pub returns-clause-laid : goal.returns-clause-laid
 returns-clause-laid c =
@@ -25,5 +25,5 @@ returns-clause-laid c =
     ∙ ap (map (laid_of (doc_of c.args.sources.now) c.args.state.now))
     (ap (λ (n : ℕ). take n c.args.layouts.now) e ∙ take-length c.args.layouts.now)
 
-pub returns-clause-small : goal.returns-clause-small
-returns-clause-small c = c.loop-layout.invariant.1
+pub returns-clause-low : goal.returns-clause-low
+returns-clause-low c = c.loop-layout.invariant.1

@@ -5,7 +5,16 @@ use Rattle.pg_rules.specs.Floats.{floats}
 use Rattle.pg_rules.specs.Room.{checked_height}
 use Rattle.pg_sources.specs.Document.{doc_of}
 use Rattle.pg_rooms.proofs.LaidLemmas.{height_is, height_small}
+use Rattle.pg_rooms.proofs.Undealt.{area_none, none_in}
 use Rattle.pg_rooms.proofs.laid.top_area.Goals as goal
+
+pub has_floats-requires : goal.has_floats-requires
+has_floats-requires c = c.requires.long
+
+pub returns-then-not-has_floats-clause-value : goal.returns-then-not-has_floats-clause-value
+returns-then-not-has_floats-clause-value c =
+    area_none (doc_of c.args.sources.now) c.args.sources.now.style.now.top c.args.before.now c.args.counts.now
+    (none_in c.args.counts.now c.has_floats.result c.has_floats.ensures c.if-not-has_floats.true)
 
 pub returns-clause-value : goal.returns-clause-value
 returns-clause-value c =

@@ -1,42 +1,47 @@
-use Rattle.std.proofs.Common.{◌≡◌, ◌∙◌, subst, map, List}
-use Rattle.std.specs.Prelude.{Contains, IfOk}
+use Rattle.std.proofs.Common.{◌≡◌, ◌∙◌, ap, subst, map, List}
+use Rattle.std.specs.Prelude.{Contains}
+use Rattle.pg_plan.specs.declared.states.State.{State}
 use Rattle.pg_layouts.proofs.Fits.{short_of}
 use Rattle.pg_layouts.specs.Layouts.{text_layouts}
 use Rattle.pg_layouts.specs.declared.layout.Layout.{Layout}
 use Rattle.law_places.proofs.Members.{contains_among}
 use Rattle.pg_sources.specs.Document.{doc_of}
 use Rattle.pg_rooms.specs.Laid.{laid_of}
+use Rattle.pg_rooms.specs.Runs.{first_run}
 use Rattle.pg_rooms.proofs.Dealt.{placed_short, text_laid}
 use Rattle.pg_rooms.proofs.Tallest.{on_text_low}
+use Rattle.pg_rooms.proofs.Running.{laid_first, on_texts}
 use Rattle.pg_rooms.proofs.laying.lay_texts.Goals as goal
 
 pub lay_all-requires-clause-laid : goal.lay_all-requires-clause-laid
 lay_all-requires-clause-laid c = λ layout m.
-    let is : c.as_slice.result.now ≡ text_layouts (doc_of c.args.sources.now) c.args.state.now c.args.ceiling.now =
-    c.as_slice.ensures.value ∙ c.in_ok-layouts.ensures c.args.sources.now.galley.now.blocks in
-    text_laid (doc_of c.args.sources.now) c.args.sources.now.in_range.style_in c.args.sources.now.in_range.blocks
-    c.args.ceiling.now c.requires.ceiling (short_of c.args.ceiling.now c.type_inv.ceiling) c.args.state.now layout
-    (placed_short (doc_of c.args.sources.now) c.args.state.now c.args.sources.now.floats.now c.args.sources.now.list
-    c.requires.own)
-    (contains_among (text_layouts (doc_of c.args.sources.now) c.args.state.now c.args.ceiling.now) layout
-    (subst (λ (xs : List Layout). Contains xs layout) is m))
+    let doc = doc_of c.args.sources.now in
+    let u = c.args.state.now in
+    let is : c.as_slice.result.now ≡ text_layouts doc (first_run u) c.args.ceiling.now =
+    c.as_slice.ensures.value ∙ (c.in_ok-layouts.ensures c.args.sources.now.galley.now.blocks
+    ∙ ap (λ (it : State). text_layouts doc it c.args.ceiling.now) c.in_ok-first.ensures) in
+    laid_first doc u layout (text_laid doc c.args.sources.now.in_range.style_in c.args.sources.now.in_range.blocks
+    c.args.ceiling.now c.requires.ceiling (short_of c.args.ceiling.now c.type_inv.ceiling) (first_run u) layout
+    (placed_short doc u c.args.sources.now.floats.now c.args.sources.now.list c.requires.own)
+    (contains_among (text_layouts doc (first_run u) c.args.ceiling.now) layout
+    (subst (λ (xs : List Layout). Contains xs layout) is m)))
 
 pub returns-clause-laid : goal.returns-clause-laid
 returns-clause-laid c =
-    let is : c.as_slice.result.now ≡ text_layouts (doc_of c.args.sources.now) c.args.state.now c.args.ceiling.now =
-    c.as_slice.ensures.value ∙ c.in_ok-layouts.ensures c.args.sources.now.galley.now.blocks in
-    subst (λ (layouts : List Layout). IfOk c.lay_all.result (λ laid. laid.items
-    ≡ map (laid_of (doc_of c.args.sources.now) c.args.state.now) layouts)) is c.lay_all.ensures.laid
+    let doc = doc_of c.args.sources.now in
+    let u = c.args.state.now in
+    let is : c.as_slice.result.now ≡ text_layouts doc (first_run u) c.args.ceiling.now =
+    c.as_slice.ensures.value ∙ (c.in_ok-layouts.ensures c.args.sources.now.galley.now.blocks
+    ∙ ap (λ (it : State). text_layouts doc it c.args.ceiling.now) c.in_ok-first.ensures) in
+    on_texts (λ all. all.items) c.on_runs.result doc u c.args.ceiling.now c.in_ok-laid.laid.items
+    (c.in_ok-laid.ensures.laid ∙ ap (map (laid_of doc u)) is) c.on_runs.ensures.value
 
 pub returns-clause-low : goal.returns-clause-low
 returns-clause-low c =
-    let is : c.as_slice.result.now ≡ text_layouts (doc_of c.args.sources.now) c.args.state.now c.args.ceiling.now =
-    c.as_slice.ensures.value ∙ c.in_ok-layouts.ensures c.args.sources.now.galley.now.blocks in
-    on_text_low (λ laid. laid.items) c.lay_all.result (doc_of c.args.sources.now) c.args.sources.now.in_range.blocks
+    let doc = doc_of c.args.sources.now in
+    on_text_low (λ laid. laid.items) c.on_runs.result doc c.args.sources.now.in_range.blocks
     c.args.sources.now.in_range.style_in c.args.state.now c.args.ceiling.now c.requires.own
-    (λ layout a. text_laid (doc_of c.args.sources.now) c.args.sources.now.in_range.style_in c.args.sources.now.in_range.blocks
+    (λ layout a. text_laid doc c.args.sources.now.in_range.style_in c.args.sources.now.in_range.blocks
     c.args.ceiling.now c.requires.ceiling (short_of c.args.ceiling.now c.type_inv.ceiling) c.args.state.now layout
-    (placed_short (doc_of c.args.sources.now) c.args.state.now c.args.sources.now.floats.now c.args.sources.now.list
-    c.requires.own) a)
-    (subst (λ (layouts : List Layout). IfOk c.lay_all.result (λ laid. laid.items
-    ≡ map (laid_of (doc_of c.args.sources.now) c.args.state.now) layouts)) is c.lay_all.ensures.laid)
+    (placed_short doc c.args.state.now c.args.sources.now.floats.now c.args.sources.now.list c.requires.own) a)
+    (returns-clause-laid c)
