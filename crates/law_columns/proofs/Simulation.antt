@@ -49,7 +49,7 @@ side_refl L = refl
 side_refl R = refl
 side_refl S = refl
 
-number_same : (a b : Option ℕ) → is_same_number a b ≡ true → a ≡ b
+pub number_same : (a b : Option ℕ) → is_same_number a b ≡ true → a ≡ b
 number_same None None e = refl
 number_same None (Some b) e = absurd cc
 number_same (Some a) None e = absurd cc

@@ -1,10 +1,10 @@
 -- Columns that chain fit, and so do those of the pages that they stand on.
-use Rattle.std.proofs.Common.{◌≡◌, ◌∙◌, refl, sym, ap, subst, Bool, true, false, ℕ, List, [], ◌∷◌, ◌++◌, map}
-use Rattle.std.specs.Prelude.{reverse, ◌&&◌}
+use Rattle.std.proofs.Common.{sym, subst, ℕ, List, [], ◌∷◌, map}
+use Rattle.std.specs.Prelude.{reverse}
 use Rattle.std.specs.List.{AllByRecursion}
 use Rattle.std.proofs.lemmas.List.{reverse-append, reverse-reverse}
 use Rattle.pg_lemmas.proofs.Bools.{both_of}
-use Rattle.pg_lemmas.proofs.Lists.{all_append}
+use Rattle.pg_lemmas.proofs.Lists.{all_append, all_parts}
 use Rattle.pg_list.specs.GalleyValue.{GalleyValue}
 use Rattle.pg_list.specs.declared.blocks.Block.{Block}
 use Rattle.pg_list.specs.Flat.{is_same_place}
@@ -23,11 +23,6 @@ use Rattle.law_texts.specs.Texts.{Chained}
 use Rattle.law_texts.proofs.Once.{stand_chained}
 use Rattle.pg_marks.specs.Fitting.{AllFit, AreFitting, Fits}
 use Rattle.law_course.specs.MarkLaws.{LegalColumnsFit}
-
-all_split : {X : Type 0} (P : X → Type 0) (xs ys : List X) → AllByRecursion P (xs ++ ys) →
-    AllByRecursion P xs × AllByRecursion P ys
-all_split P [] ys all = (tt, all)
-all_split P (x ∷ xs) ys all = let rest = all_split P xs ys all.1 in ((all.0, rest.0), rest.1)
 
 all_reverse : {X : Type 0} (P : X → Type 0) (xs : List X) → AllByRecursion P xs → AllByRecursion P (reverse xs)
 all_reverse P [] all = tt
@@ -64,7 +59,7 @@ module _ (blocks : List Block) where
   pages_fit : (pages : List Page) → AllByRecursion (MoveFits blocks) (columns_of pages) → AllFit blocks pages
   pages_fit [] all = tt
   pages_fit (page ∷ pages) all =
-      let parts = all_split (MoveFits blocks) (reverse (page_moves page page.columns)) (columns_of pages) all in (
+      let parts = all_parts (MoveFits blocks) (reverse (page_moves page page.columns)) (columns_of pages) all in (
         columns_fit page page.columns (all_back (MoveFits blocks) (page_moves page page.columns) parts.0),
         pages_fit pages parts.1,
       )

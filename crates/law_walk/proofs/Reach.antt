@@ -20,7 +20,7 @@ use Rattle.pg_list.specs.Flat.{FlatItem, blocks_at, end_of, flat_items_at, flat_
 use Rattle.pg_list.specs.Totals.{shrink, total, trimmed}
 use Rattle.pg_list.specs.Whole.{whole_sum_by}
 use Rattle.pg_breaks.specs.Read.{items_at}
-use Rattle.pg_breaks.proofs.Lists.{get_left, get_right, get_lt}
+use Rattle.pg_breaks.proofs.Lists.{get_right, get_lt}
 use Rattle.law_places.proofs.Splits.{stands_at}
 use Rattle.law_places.proofs.Among.{all_same}
 use Rattle.pg_lemmas.proofs.Bools.{both, both_of, by_bool, if_true}
@@ -49,7 +49,7 @@ use Rattle.law_walk.proofs.SpaceLaws.{past_parts}
 use Rattle.law_walk.proofs.Stretches.{IsFirst, first_is, first_none, front_behind, fronts_left, fronts_none, fronts_right, items_fit}
 use Rattle.law_walk.proofs.Ways.{IsFront, Leads, Stands, goes, take_right, front_some}
 use Rattle.law_walk.proofs.Whole.{first_front_is, first_within}
-use Rattle.pg_lemmas.proofs.Lists.{all_drop}
+use Rattle.pg_lemmas.proofs.Lists.{all_drop, get_left}
 use Rattle.pg_column.specs.Judged.{is_loose_enough}
 
 quiet_style : (style : StyleValue) → IsStyle style → IsStyle (record style { classes = []; max_looseness = 100 })

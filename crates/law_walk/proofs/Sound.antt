@@ -19,7 +19,7 @@ use Rattle.pg_list.specs.Shapes.{IsBlock, IsVariant, BeginsWithBox, is_box}
 use Rattle.pg_list.specs.Flat.{FlatItem, blocks_at, end_of, flat_items_at, flat_items_from, fronts, is_same_place, picked_variants, steps_to, variant_flat_items}
 use Rattle.pg_list.specs.Whole.{whole_sum_by}
 use Rattle.pg_breaks.specs.Near.{glue_after, near_penalty, place_penalty, solid_before}
-use Rattle.pg_breaks.proofs.Lists.{get_left, get_right, get_lt}
+use Rattle.pg_breaks.proofs.Lists.{get_right, get_lt}
 use Rattle.law_places.specs.Past.{far}
 use Rattle.pg_lemmas.proofs.Bools.{both_of, by_bool, if_true, if_false}
 use Rattle.std.proofs.Math.Nat.{le_refl}
@@ -40,7 +40,7 @@ use Rattle.law_walk.proofs.Stretches.{IsFirst, drop_front, drop_within, first_is
 use Rattle.law_walk.proofs.Ways.{IsFront, after_front, front_some, take_right}
 use Rattle.law_walk.proofs.Whole.{first_front_is, first_within}
 use Rattle.std.proofs.lemmas.Option.{same_Some}
-use Rattle.pg_lemmas.proofs.Lists.{all_drop}
+use Rattle.pg_lemmas.proofs.Lists.{all_drop, get_left}
 use Rattle.pg_column.proofs.Picks.{none_picked}
 use Rattle.pg_column.specs.Judged.{is_loose_enough}
 

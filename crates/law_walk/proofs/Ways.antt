@@ -12,7 +12,7 @@ use Rattle.pg_list.specs.Places.{items_around, picked_items, place}
 use Rattle.pg_list.specs.Shapes.{IsBlock}
 use Rattle.pg_list.specs.Flat.{FlatItem, end_of, flat_items_from, fronts, later_flat_items, picked_variants, variant_flat_items}
 use Rattle.pg_list.specs.Whole.{whole_sum_by}
-use Rattle.pg_breaks.proofs.Lists.{get_left, get_right, get_lt}
+use Rattle.pg_breaks.proofs.Lists.{get_right, get_lt}
 use Rattle.pg_list.proofs.Places.{fronts_cons}
 use Rattle.pg_lemmas.proofs.Bools.{both_of, by_bool, if_true}
 use Rattle.law_places.proofs.Places.{around_is, begins, begins_with, drop_head, pick_named}
@@ -24,7 +24,7 @@ use Rattle.law_walk.specs.Walk.{past_stretch, picked_front, picked_stretch, sing
 use Rattle.pg_column.proofs.Passing.{pass_append}
 use Rattle.law_walk.proofs.Stretches.{after_singles, drop_front, drop_within, front_within, fronts_left, fronts_none, fronts_right, items_fit, one_front, picked_named, picked_split, variants_are}
 use Rattle.law_walk.proofs.Complete.{Goes, StandsIn}
-use Rattle.pg_lemmas.proofs.Lists.{all_drop}
+use Rattle.pg_lemmas.proofs.Lists.{all_drop, get_left}
 use Rattle.pg_column.proofs.Picks.{none_picked}
 use Rattle.pg_column.specs.Judged.{is_loose_enough}
 

@@ -17,10 +17,10 @@ use Rattle.pg_list.specs.Flat.{FlatItem, flat_items_from, variant_flat_items, fl
 use Rattle.pg_breaks.specs.Near.{front_follows}
 use Rattle.pg_breaks.specs.Read.{items_at}
 use Rattle.pg_breaks.proofs.Listed.{listed, ArePicks, shown, variant_shown, blocks_shown}
-use Rattle.pg_breaks.proofs.Lists.{is_solid, follows, get_left, get_right, get_split, get_lt, drop_left, drop_right}
+use Rattle.pg_breaks.proofs.Lists.{is_solid, follows, get_right, get_split, get_lt, drop_left, drop_right}
 use Rattle.pg_breaks.proofs.Walk.{Seen, inside, front, around, picked_shape, seen_from, later_place, follows_right, index_follows_cons}
 use Rattle.pg_lemmas.proofs.Numbers.{suc_not}
-use Rattle.pg_lemmas.proofs.Lists.{drop_past}
+use Rattle.pg_lemmas.proofs.Lists.{drop_past, get_left}
 
 -- ---- lists
 

@@ -23,11 +23,6 @@ get_right [] ys m k e = ap (slice_get ys) (omega arith)
 get_right (x ∷ xs) ys zero k e = absurd (omega (arith, e))
 get_right (x ∷ xs) ys (suc m) k e = get_right xs ys m k (omega (arith, e))
 
-pub get_left : {X : Type 0} (xs ys : List X) (m : ℕ) → m < length xs → slice_get (xs ++ ys) m ≡ slice_get xs m
-get_left [] ys m h = absurd (omega (arith, h))
-get_left (x ∷ xs) ys zero h = refl
-get_left (x ∷ xs) ys (suc m) h = get_left xs ys m (omega (arith, h))
-
 pub drop_right : {X : Type 0} (xs ys : List X) (m k : ℕ) → m ≡ length xs + k → drop m (xs ++ ys) ≡ drop k ys
 drop_right [] ys m k e = ap (λ n. drop n ys) (omega arith)
 drop_right (x ∷ xs) ys zero k e = absurd (omega (arith, e))

@@ -14,7 +14,8 @@ use Rattle.pg_list.specs.Flat.{FlatItem, flat_items_from, later_flat_items, vari
 use Rattle.pg_breaks.proofs.Listed.{listed, ArePicks}
 use Rattle.pg_list.specs.Places.{is_solid_block}
 use Rattle.pg_breaks.specs.Near.{index_follows}
-use Rattle.pg_breaks.proofs.Lists.{is_solid, follows, get_left, get_right, get_split, get_lt, drop_left, drop_right}
+use Rattle.pg_breaks.proofs.Lists.{is_solid, follows, get_right, get_split, get_lt, drop_left, drop_right}
+use Rattle.pg_lemmas.proofs.Lists.{get_left}
 
 -- the items of the variant v of the block j
 abbrev pub around : List Block → ℕ → ℕ → List Item

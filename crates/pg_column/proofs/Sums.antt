@@ -23,6 +23,7 @@ use Rattle.pg_notes.specs.declared.sums.NoteSum.{NoteSum}
 use Rattle.pg_notes.specs.AreNotes.{AreNoteSums}
 use Rattle.pg_notes.proofs.Kept.{are_none, found_sums, plain_sums, unfound_sums}
 use Rattle.pg_column.specs.Passed.{IsPassed, Passed, crossed, nothing, with_next}
+use Rattle.pg_lemmas.proofs.Bools.{or_false}
 use Rattle.pg_sums.proofs.Added.{weak_plain}
 
 step_totals : (t m : ℤ) → pos 0 ≤ℤ m → (xs : List Item) (x : Item) (old : Totals) → AreTotals t m xs old →
@@ -43,10 +44,6 @@ step_totals t m h xs (Insert c z body) old are =
     step_plain t m xs (Insert c z body) old refl refl refl (λ order. refl) refl are
 step_totals t m h xs (Carry body) old are =
     step_plain t m xs (Carry body) old refl refl refl (λ order. refl) refl are
-
-or_false : (a b : Bool) → (a || b) ≡ false → (a ≡ false) × (b ≡ false)
-or_false false b e = (refl, e)
-or_false true b e = absurd cc
 
 module _ (style : StyleValue) (is-style : IsStyle style) where
   totals_push : (items : List Item) (x : Item) (t : Totals) →

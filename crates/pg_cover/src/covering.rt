@@ -5,7 +5,7 @@ ghost use Rattle.pg_cover.specs.Covered.{CoveredBy, DoesCover};
 
 use crate::hints::Hints;
 use pg_small::{SmallLabel, SmallState};
-use pg_table::{Offering, Wants};
+use pg_table::{Marked, Offering, Wants};
 
 /// Whether a cost is at most the sum of two, which may be beyond 128 bits.
 pub(crate) fn is_within(cost: i128, base: i128, pays: i128) -> bool
@@ -63,10 +63,16 @@ impl<S: Offering<State = SmallState>> Covering<'_, S> {
 impl<S: Offering<State = SmallState>> Wants for Covering<'_, S> {
     type State = SmallState;
 
+    type Marks = S::Marks;
+
     ghost use Rattle.std.specs.Prelude.{◌+ℤ◌};
     ghost use Rattle.pg_cover.specs.Covered.{has_cover};
 
     ghost spares = { λ w v c. has_cover (S.meaning w.space.now) w.labels.now v (w.cost +ℤ c) };
+
+    fn marked(&self) -> Option<Marked<'_, S::Marks>> {
+        None
+    }
 
     fn wants(&self, to: &SmallState, rank: u64, cost: i128) -> bool {
         !self.is_outdone(to, rank, cost)

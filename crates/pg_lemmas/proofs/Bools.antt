@@ -83,3 +83,8 @@ if_false true x y e = absurd cc
 pub true_of : (b : Bool) → T b → b ≡ true
 true_of true t = refl
 true_of false t = absurd t
+
+-- where neither of two is, nor is one of both
+pub or_false : (a b : Bool) → (a || b) ≡ false → (a ≡ false) × (b ≡ false)
+or_false false b e = (refl, e)
+or_false true b e = absurd cc

@@ -78,3 +78,15 @@ pub get_all : {X : Type 0} (P : X → Type 0) (xs : List X) (k : ℕ) (x : X) �
 get_all P [] k x a e = absurd cc
 get_all P (y ∷ ys) zero x a e = subst P (same_Some y x e) a.0
 get_all P (y ∷ ys) (suc k) x a e = get_all P ys k x a.1 e
+
+-- what holds of each of two lists joined holds of each of both
+pub all_parts : {X : Type 0} (P : X → Type 0) (xs ys : List X) → AllByRecursion P (xs ++ ys) →
+    AllByRecursion P xs × AllByRecursion P ys
+all_parts P [] ys all = (tt, all)
+all_parts P (x ∷ xs) ys all = let rest = all_parts P xs ys all.1 in ((all.0, rest.0), rest.1)
+
+-- a place of the first list is read alike with another list behind it
+pub get_left : {X : Type 0} (xs ys : List X) (m : ℕ) → m < length xs → slice_get (xs ++ ys) m ≡ slice_get xs m
+get_left [] ys m h = absurd (omega (arith, h))
+get_left (x ∷ xs) ys zero h = refl
+get_left (x ∷ xs) ys (suc m) h = get_left xs ys m (omega (arith, h))

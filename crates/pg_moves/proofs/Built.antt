@@ -1,6 +1,7 @@
 -- A step of the parts that were settled.
-use Rattle.std.proofs.Common.{◌≡◌, refl, sym, subst, ap, ◌∙◌, ℕ, ◌+◌, ◌*◌, ◌^◌, ◌≤◌, List, [], length, Option, Some, None, ℤ, arith}
-use Rattle.std.specs.Prelude.{◌==◌, if◌then◌else◌, nat_abs, pos, ◌+ℤ◌}
+use Rattle.std.proofs.Common.{◌≡◌, refl, sym, subst, ap, ◌∙◌, ℕ, ◌+◌, ◌*◌, ◌^◌, ◌≤◌, List, [], length, Bool, true, Option, Some, None, ℤ, arith}
+use Rattle.std.specs.Prelude.{◌==◌, if◌then◌else◌, nat_abs, pos, ◌+ℤ◌, IfSome}
+use Rattle.std.proofs.lemmas.Int.{ints}
 use Rattle.pg_style.specs.Values.{StyleValue}
 use Rattle.pg_rules.specs.Floats.{entry, float_numbers, plus_counts}
 use Rattle.pg_layouts.proofs.Areas.{slots_long}
@@ -24,7 +25,9 @@ use Rattle.pg_rooms.specs.declared.laid.Laid.{Laid}
 use Rattle.pg_states.specs.Settling.{Settles}
 use Rattle.pg_states.specs.declared.settling.Settled.{Settled}
 use Rattle.pg_moves.specs.Stepping.{IsBehind, cost_at, fitness_behind, page_price, rank_tail, state_behind, stay_price}
+use Rattle.pg_moves.specs.Outdone.{AreSpared, IsAsked, marked_at}
 use Rattle.pg_moves.specs.declared.behind.Behind.{Behind}
+use Rattle.pg_moves.specs.declared.behind.Reached.{Reached}
 
 module _ (doc : Document) (u : State) (laid : Laid) (is : laid ≡ laid_of doc u laid.layout) where
   after_is : laid.after ≡ placed_with doc.style u.placed laid.layout
@@ -115,6 +118,29 @@ still_behind style u laid settled it new to fitness e b = subst (IsBehind style 
   tail = b.tail;
 })
 
+asked_along : (o : Option Reached) (u : State) (to : Place) (fitness : Option ℕ) → IfSome o (IsAsked u) →
+    IfSome o (IsAsked (record u { place = to; fitness = fitness }))
+asked_along None u to fitness s = tt
+asked_along (Some it) u to fitness s = record { line = s.line; small = s.small }
+
+-- what is remembered stays of its line, up to another end
+pub still_spared : (spared : State → ℤ → Bool) (it new : Behind) (to : Place) (fitness : Option ℕ) →
+    new ≡ record it { state = record it.state { place = to; fitness = fitness } } → AreSpared spared it →
+    AreSpared spared new
+still_spared spared it new to fitness e s = subst (AreSpared spared) (sym e) (record {
+  asked = asked_along it.reached it.state to fitness s.asked;
+  late = s.late;
+})
+
+-- what is remembered of the state at an end, told of its step
+pub late_at : (style : StyleValue) (u : State) (spared : State → ℤ → Bool) (it : Behind) (v : State) (text pays : ℤ) →
+    AreSpared spared it → marked_at it.reached v (text +ℤ pays) ≡ true → spared v (text +ℤ (it.page +ℤ pays)) ≡ true
+late_at style u spared it v text pays s h =
+    subst (λ (c : ℤ). spared v c ≡ true) (in_order it.page text pays) (s.late v (text +ℤ pays) h)
+  where
+    in_order : (a b c : ℤ) → a +ℤ (b +ℤ c) ≡ b +ℤ (a +ℤ c)
+    in_order a b c = omega (arith, ints)
+
 -- the count of the floats behind a column is that of few classes
 pub few_after : (doc : Document) (u : State) (laid : Laid) (counts : List ℕ) (n : ℕ) →
     laid ≡ laid_of doc u laid.layout → counts ≡ laid.after → n ≡ length (float_numbers doc.style) → n ≤ 8 →
@@ -133,10 +159,10 @@ rank_is doc u place tail p t = omega (arith, p, t)
 -- ---- the state behind a column
 
 pub behind_is : (style : StyleValue) (u : State) (laid : Laid) (settled : Settled) (to : Place) (fitness : Option ℕ)
-    (next state : State) (page : ℤ) (tail : ℕ) → next ≡ state_behind style u laid to fitness settled.ages →
+    (next state : State) (page : ℤ) (tail : ℕ) (reached : Option Reached) → next ≡ state_behind style u laid to fitness settled.ages →
     page ≡ page_price style u laid settled.price → nat_abs page ≤ 2 ^ 52 → tail ≡ rank_tail state → state ≡ next →
-    IsBehind style u laid settled (record { state = state; page = page; tail = tail })
-behind_is style u laid settled to fitness next state page tail is price small told same = record {
+    IsBehind style u laid settled (record { state = state; page = page; tail = tail; reached = reached })
+behind_is style u laid settled to fitness next state page tail reached is price small told same = record {
   state = subst (λ (v : State). v ≡ state_behind style u laid v.place v.fitness settled.ages) (sym (same ∙ is)) refl;
   page = price;
   small = small;

@@ -4,3 +4,4 @@ pub mod Standing
 pub mod Stepped
 pub mod Built
 pub mod NoFloats
+pub mod Late

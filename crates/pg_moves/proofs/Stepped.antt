@@ -14,7 +14,7 @@ use Rattle.pg_candidates.specs.RoomEnds.{end_of, ends_of}
 use Rattle.pg_candidates.specs.declared.room_end.RoomEnd.{RoomEnd}
 use Rattle.law_walk.specs.Candidates.{Candidate, has_text}
 use Rattle.pg_list.specs.Flat.{is_same_place}
-use Rattle.pg_lemmas.proofs.Bools.{if_true}
+use Rattle.pg_lemmas.proofs.Bools.{by_bool, if_true}
 use Rattle.pg_lemmas.proofs.Lists.{one_more}
 use Rattle.pg_layouts.specs.declared.layout.Layout.{Layout}
 use Rattle.pg_rules.specs.Follow.{turns}
@@ -138,6 +138,15 @@ module _ (doc : Document) (u : State) (laid : Laid) (is : laid ≡ laid_of doc u
     not_wanted old h = adds_same spared old old (step ∷ []) (listed_of doc u cs laid.layout (end ∷ []))
         listed_is (adds_spared spared old step h)
 
+  -- an end of which is remembered that its step comes too late, or where the state is
+  pub outdone_step : (end : RoomEnd) (settled : Settled) (step : Step State PageMove) →
+      (Settles doc u end.to laid.after (Some settled) → step ≡ listed_end doc u laid.layout (end_of cs end)) →
+      IsOpenAt doc u laid settled end.to → (old : List (Step State PageMove)) → spared step.to step.cost ≡ true →
+      Adds spared old (listed_of doc u cs laid.layout (end ∷ [])) old
+  outdone_step end settled step made goes_there old late = by_bool (is_same_place u.place end.to)
+      (λ same. not_stepped end settled old same goes_there)
+      (λ away. not_wanted end settled step away made goes_there old late)
+
   -- ---- ends before each of which the same floats are called
 
   module _ (before : Before) where
@@ -176,7 +185,7 @@ module _ (doc : Document) (u : State) (laid : Laid) (is : laid ≡ laid_of doc u
         )) ends all
 
 -- the steps to some ends and then to others
-listed_append : (doc : Document) (u : State) (cs : List Candidate) (layout : Layout) (first later : List RoomEnd) →
+pub listed_append : (doc : Document) (u : State) (cs : List Candidate) (layout : Layout) (first later : List RoomEnd) →
     listed_of doc u cs layout (first ++ later) ≡ listed_of doc u cs layout first ++ listed_of doc u cs layout later
 listed_append doc u cs layout first later =
     ap (λ (ends : List End). map (listed_end doc u layout) (filter (goes_on doc u layout) ends))
@@ -293,23 +302,28 @@ pub not_gone : (doc : Document) (u : State) (spared : State → ℤ → Bool) (c
     (ends : List RoomEnd) (old : List (Step State PageMove)) → Going doc u spared cs layout ends ends old old
 not_gone doc u spared cs layout ends old = record { gone = []; adds = adds_none spared old; whole = refl }
 
+-- the steps to the first of the ends that are left, and then to those behind these
+pub going_more : (doc : Document) (u : State) (spared : State → ℤ → Bool) (cs : List Candidate) (layout : Layout)
+    (ends rest first later : List RoomEnd) (old mid new : List (Step State PageMove)) → rest ≡ first ++ later →
+    Going doc u spared cs layout ends rest old mid → Adds spared mid (listed_of doc u cs layout first) new →
+    Going doc u spared cs layout ends later old new
+going_more doc u spared cs layout ends rest first later old mid new is so_far k = record {
+  gone = so_far.gone ++ listed_of doc u cs layout first;
+  adds = adds_more spared old mid new so_far.gone (listed_of doc u cs layout first) so_far.adds k;
+  whole = append_assoc so_far.gone (listed_of doc u cs layout first) (listed_of doc u cs layout later)
+      ∙ (ap (λ (steps : List (Step State PageMove)). so_far.gone ++ steps)
+      (sym (listed_append doc u cs layout first later)
+      ∙ ap (listed_of doc u cs layout) (sym is)) ∙ so_far.whole);
+}
+
 -- one group more: the steps to its ends, and then to those behind it
 group_more : (doc : Document) (u : State) (spared : State → ℤ → Bool) (cs : List Candidate) (layout : Layout) (n : ℕ)
     (ends rest later : List RoomEnd) (old mid new : List (Step State PageMove)) → later ≡ drop n rest →
     Going doc u spared cs layout ends rest old mid →
     Adds spared mid (listed_of doc u cs layout (take n rest)) new → Going doc u spared cs layout ends later old new
-group_more doc u spared cs layout n ends rest later old mid new l so_far k = record {
-  gone = so_far.gone ++ listed_of doc u cs layout (take n rest);
-  adds = adds_more spared old mid new so_far.gone (listed_of doc u cs layout (take n rest)) so_far.adds k;
-  whole = append_assoc so_far.gone (listed_of doc u cs layout (take n rest))
-      (listed_of doc u cs layout later)
-      ∙ (ap (λ (xs : List RoomEnd). so_far.gone ++ (listed_of doc u cs layout (take n rest)
-      ++ listed_of doc u cs layout xs)) l
-      ∙ (ap (λ (steps : List (Step State PageMove)). so_far.gone ++ steps)
-      (sym (listed_append doc u cs layout (take n rest) (drop n rest)))
-      ∙ (ap (λ (xs : List RoomEnd). so_far.gone ++ listed_of doc u cs layout xs) (take-append-drop n rest)
-      ∙ so_far.whole)));
-}
+group_more doc u spared cs layout n ends rest later old mid new l so_far k =
+    going_more doc u spared cs layout ends rest (take n rest) later old mid new
+    (sym (take-append-drop n rest) ∙ ap (λ (xs : List RoomEnd). take n rest ++ xs) (sym l)) so_far k
 
 pub group_next : (doc : Document) (u : State) (spared : State → ℤ → Bool) (cs : List Candidate) (layout : Layout)
     (groups left after : List Group) (group : Group) (before : Before) (ends rest first later : List RoomEnd)
@@ -332,17 +346,23 @@ group_next doc u spared cs layout groups left after group before ends rest first
           (subst (λ (xs : List RoomEnd). Adds spared mid (listed_of doc u cs layout xs) new) f (step called_here)),
     )
 
+-- where no end is left
+pub all_gone : (doc : Document) (u : State) (spared : State → ℤ → Bool) (cs : List Candidate) (layout : Layout)
+    (ends rest : List RoomEnd) (old new : List (Step State PageMove)) → rest ≡ [] →
+    Going doc u spared cs layout ends rest old new → Adds spared old (listed_of doc u cs layout ends) new
+all_gone doc u spared cs layout ends rest old new none got =
+    adds_same spared old new got.gone (listed_of doc u cs layout ends)
+    (sym (append-nil got.gone)
+    ∙ (ap (λ (xs : List RoomEnd). got.gone ++ listed_of doc u cs layout xs) (sym none) ∙ got.whole))
+    got.adds
+
 -- where no group is left
 pub groups_done : (doc : Document) (u : State) (spared : State → ℤ → Bool) (cs : List Candidate) (layout : Layout)
     (groups left : List Group) (ends rest : List RoomEnd) (old new : List (Step State PageMove)) → length left < 1 →
     (AreGroups doc groups ends → AreGroups doc left rest × Going doc u spared cs layout ends rest old new) →
     AreGroups doc groups ends → Adds spared old (listed_of doc u cs layout ends) new
 groups_done doc u spared cs layout groups [] ends rest old new less so_far all =
-    let got = so_far all in
-    adds_same spared old new got.1.gone (listed_of doc u cs layout ends)
-    (sym (append-nil got.1.gone)
-    ∙ (ap (λ (xs : List RoomEnd). got.1.gone ++ listed_of doc u cs layout xs) (sym got.0) ∙ got.1.whole))
-    got.1.adds
+    let got = so_far all in all_gone doc u spared cs layout ends rest old new got.0 got.1
 groups_done doc u spared cs layout groups (group ∷ left) ends rest old new less so_far all =
     absurd (omega (arith, less))
 

@@ -1,5 +1,5 @@
 //! The state behind a column, made once for all ends of a layout, so that a step can be asked about before it is made.
-ghost use Rattle.std.specs.Prelude.{◌≡◌, ◌≤◌, ◌+◌, ◌*◌, ◌^◌, ◌%◌, nat_abs, ◌+ℤ◌, IfOk};
+ghost use Rattle.std.specs.Prelude.{◌≡◌, ◌≤◌, ◌+◌, ◌*◌, ◌^◌, ◌%◌, nat_abs, ◌+ℤ◌, ℤ, Some, true, IfOk, IfSome};
 ghost use Rattle.pg_rules.specs.Floats.{total_count};
 ghost use Rattle.pg_rules.specs.IsState.{IsState};
 ghost use Rattle.pg_rules.specs.Room.{Document};
@@ -7,28 +7,80 @@ ghost use Rattle.law_moves.specs.Steps.{fitness_cost as fitness_cost_of, kept_fi
 ghost use Rattle.pg_sources.specs.Document.{doc_of};
 ghost use Rattle.pg_rooms.specs.Laid.{laid_of};
 ghost use Rattle.law_space.specs.PageSpace.{rank};
+ghost use Rattle.pg_plan.specs.declared.states.State.{State as AState};
+ghost use Rattle.pg_states.specs.Marks.{along};
+ghost use Rattle.pg_moves.specs.Outdone.{AreLeft, AreSpared, IsAsked, IsLate, marked_at};
 ghost use Rattle.pg_moves.specs.Stepping.{IsBehind, rank_tail};
 
 use crate::steps::{fitness_price, kept_fitness, page_price, state_behind, text_price};
 use pg_candidates::RoomEnd;
 use pg_floats::total;
+use pg_list::Place;
 use pg_plan::State;
 use pg_rooms::Laid;
 use pg_scaled::large_plus;
 use pg_small::SmallState;
 use pg_sources::Sources;
-use pg_states::{Settled, place_rank, rest_rank};
+use pg_states::{Line, PageMarks, Settled, place_rank, rest_rank};
 use pg_style::Style;
+use pg_table::Wants;
 use std::alloc::AllocError;
 
 /// The state behind a column of a layout up to one end after another, with what is worked out once for all of them.
 #[derive(Drop)]
-pub(crate) struct Behind {
+pub(crate) struct Behind<'a> {
     pub(crate) state: SmallState,
     /// What the column pays for its page's run and for its floats.
     pub(crate) page: i128,
     /// What the state gives to its rank, but for its place.
     pub(crate) tail: u64,
+    /// What is remembered of states that differ from this one in place and fitness alone.
+    pub(crate) reached: Option<Reached<'a>>,
+}
+
+/// What is remembered of states that differ from one in place and fitness alone.
+#[derive(Copy, Clone)]
+pub(crate) struct Reached<'a> {
+    pub(crate) line: Line<'a>,
+    /// What the run to the label costs, and what the column pays for its page's run and for its floats.
+    pub(crate) cost: i128,
+}
+
+// What is remembered of states that differ from this one in place and fitness alone, where the column pays so much for its
+// page's run and for its floats.
+fn reached_at<'a, W: Wants<State = SmallState, Marks = PageMarks>>(
+    wants: &'a W,
+    state: &SmallState,
+    page: i128,
+) -> Option<Reached<'a>>
+    requires { nat_abs page ≤ 2 ^ 52 }
+    ensures asked { IfSome result (IsAsked state.now) }
+    ensures spared { (v : AState) (c : ℤ) → marked_at result v c ≡ true → W.spares wants.now v (page +ℤ c) ≡ true }
+{
+    let marked = wants.marked()?;
+    let cost = i64::try_from(marked.cost).ok()?;
+    Some(Reached {
+        line: marked.marks.line_of(state),
+        cost: i128::from(cost) + page,
+    })
+}
+
+// Whether a state no worse than that of the line at a place and with a fitness was reached at a lower cost than a column
+// that pays so much beside what is paid already, as far as that is remembered.
+#[inline]
+fn is_reached(
+    reached: &Reached<'_>,
+    own: &SmallState,
+    place: Place,
+    fitness: Option<u8>,
+    pays: i128,
+) -> bool
+    requires asked { IsAsked own.now reached.now }
+    requires pays { nat_abs pays ≤ 2 ^ 66 }
+    ensures { result ≡ true → marked_at (Some reached.now) (along own.now place fitness) pays ≡ true }
+{
+    let cost = large_plus(reached.cost, pays);
+    reached.line.is_outdone(own, place, fitness, cost)
 }
 
 // What a state gives to its rank, but for its place, where so many floats are placed.
@@ -57,16 +109,18 @@ fn joined(place: u64, tail: u64) -> u64
 }
 
 /// The state behind a column of a layout, where it begins.
-pub(crate) fn first_behind(
+pub(crate) fn first_behind<'a, W: Wants<State = SmallState, Marks = PageMarks>>(
     sources: &Sources<'_>,
     state: &State,
     laid: &Laid,
     settled: &Settled,
-) -> Result<Behind, AllocError>
+    wants: &'a W,
+) -> Result<Behind<'a>, AllocError>
     requires own { IsState (doc_of sources.now) state.now }
     requires laid { laid.now ≡ laid_of (doc_of sources.now) state.now laid.now.layout }
     requires price { settled.now.price ≤ 2 ^ 51 }
-    ensures { IfOk result (IsBehind sources.now.style.now state.now laid.now settled.now) }
+    ensures behind { IfOk result (IsBehind sources.now.style.now state.now laid.now settled.now) }
+    ensures spared { IfOk result (AreSpared (W.spares wants.now)) }
 {
     let style = sources.style;
     let placed = count_after(sources, state, laid);
@@ -74,14 +128,16 @@ pub(crate) fn first_behind(
     let next = state_behind(style, state, laid, state.place, None, settled.ages.copy()?)?;
     let small = SmallState::of(sources.alloc, next)?;
     let tail = tail_of(&small, placed);
+    let reached = reached_at(wants, &small, page);
     Ok(Behind {
         state: small,
         page,
         tail,
+        reached,
     })
 }
 
-impl Behind {
+impl Behind<'_> {
     /// Lets the column end at this end.
     pub(crate) fn end_at(&mut self, style: &Style, end: &RoomEnd)
         ensures { self.new ≡ record self.old {
@@ -93,6 +149,52 @@ impl Behind {
     {
         self.state
             .end_at(end.to, kept_fitness(style, end.cost.fitness));
+    }
+
+    // Whether a state no worse than that behind a column to this end was reached at a lower cost, as far as that is
+    // remembered.
+    #[inline]
+    fn is_outdone(&self, style: &Style, state: &State, end: &RoomEnd) -> bool
+        requires { IfSome self.now.reached (IsAsked self.now.state) }
+        ensures { result ≡ true → IsLate style.now state.now self.now end.now }
+    {
+        match &self.reached {
+            None => false,
+            Some(reached) => {
+                let fitness = end.cost.fitness;
+                let pays = large_plus(
+                    text_price(end),
+                    fitness_price(style, state.fitness, fitness),
+                );
+                is_reached(
+                    reached,
+                    &self.state,
+                    end.to,
+                    kept_fitness(style, fitness),
+                    pays,
+                )
+            }
+        }
+    }
+
+    /// These ends from the first one on whose state was not reached at a lower cost, as far as that is remembered.
+    pub(crate) fn skip_outdone<'e>(
+        &self,
+        style: &Style,
+        state: &State,
+        ends: &'e [RoomEnd],
+    ) -> &'e [RoomEnd]
+        requires { IfSome self.now.reached (IsAsked self.now.state) }
+        ensures { AreLeft style.now state.now self.now ends.now result.now }
+    {
+        let mut rest = ends;
+        'ends: while let [end, after @ ..] = rest {
+            if !self.is_outdone(style, state, end) {
+                return rest;
+            }
+            rest = after;
+        }
+        rest
     }
 
     /// The rank of the state, or what 64 bits hold of it where it is none of the space's own.

@@ -17,12 +17,12 @@ use pg_plan::State;
 use pg_rooms::{Group, Laid};
 use pg_small::{SmallMove, SmallState};
 use pg_sources::{Before, Sources};
-use pg_states::{Known, may_end, settle};
+use pg_states::{Known, PageMarks, may_end, settle};
 use pg_table::{StepList, Wants};
 use std::alloc::AllocError;
 
 // Adds the wanted steps to ends before each of which, and before whose barriers, the same floats are called.
-fn add_group<W: Wants<State = SmallState>>(
+fn add_group<W: Wants<State = SmallState, Marks = PageMarks>>(
     sources: &Sources<'_>,
     near: &NearList,
     state: &State,
@@ -72,7 +72,7 @@ fn later_ends(ends: &[RoomEnd], count: usize) -> &[RoomEnd]
 }
 
 /// Adds the wanted steps to the ends of a layout at which the column may end.
-pub fn add_groups<W: Wants<State = SmallState>>(
+pub fn add_groups<W: Wants<State = SmallState, Marks = PageMarks>>(
     sources: &Sources<'_>,
     near: &NearList,
     state: &State,

@@ -1,7 +1,7 @@
 //! All columns that may follow a state.
-ghost use Rattle.std.specs.Prelude.{◌≡◌, ◌++◌, false, length, min, IfOk, None, OnOk};
+ghost use Rattle.std.specs.Prelude.{◌≡◌, ◌++◌, ◌||◌, is_some, length, min, nat_lt, IfOk, OnOk};
 ghost use Rattle.pg_hops.specs.Index.{AreHops};
-ghost use Rattle.pg_rules.specs.Floats.{called, float_numbers};
+ghost use Rattle.pg_rules.specs.Floats.{called, float_numbers, total_count};
 ghost use Rattle.pg_rules.specs.IsState.{IsPlace, IsState};
 ghost use Rattle.law_space.specs.ReachAt.{reach_at};
 ghost use Rattle.law_space.specs.PageSpace.{page_meaning};
@@ -19,10 +19,10 @@ use law_space::reach_laws::reach_is_the_greatest;
 use pg_hops::BreakIndex;
 use pg_list::{Galley, Place};
 use pg_plan::{Counts, State};
-use pg_rooms::{Calls, PlaceEnds, lay_floats};
+use pg_rooms::{Calls, PlaceEnds, has_floats, lay_floats};
 use pg_small::{SmallMove, SmallState};
 use pg_sources::Sources;
-use pg_states::{Known, known};
+use pg_states::{Known, PageMarks, known};
 use pg_table::{EveryMove, Opened, StepList, Wants};
 use pg_walk::{PlaceWalk, walk_from};
 use std::alloc::AllocError;
@@ -65,11 +65,11 @@ fn ceiling(sources: &Sources<'_>, from: Place, reach: u32) -> Result<Counts, All
 }
 
 // Whether a column without text may have a float, or a wide area above it.
-fn may_have_floats(sources: &Sources<'_>, state: &State) -> bool
-    ensures { result ≡ false →
-        (length (float_numbers sources.now.style.now) ≡ 0) × (state.now.wide ≡ None) }
+fn may_have_floats(sources: &Sources<'_>, state: &State, known: &Known) -> bool
+    requires { length known.now.waits ≡ length (float_numbers sources.now.style.now) }
+    ensures { result ≡ (nat_lt 0 (total_count known.now.waits) || is_some state.now.wide) }
 {
-    sources.slots() > 0 || state.wide.is_some()
+    has_floats(sources, &known.waits) || state.wide.is_some()
 }
 
 // Adds the steps of the columns without text.
@@ -83,7 +83,7 @@ fn add_floats(
     requires known { known.now ≡ known_of (doc_of sources.now) state.now }
     ensures { OnOk result (steps.new ≡ steps.old ++ listed_floats (doc_of sources.now) state.now) }
 {
-    if !may_have_floats(sources, state) {
+    if !may_have_floats(sources, state, known) {
         return Ok(());
     }
     let layouts = lay_floats(sources, state, known.called.as_slice())?;
@@ -95,7 +95,7 @@ fn add_floats(
 /// how far an edit can be felt there. What it works out is kept. Columns without text are all made, wanted or not.
 ///
 /// Condition: it is a state of the galley. The one refusal is want of memory.
-pub fn open_by<W: Wants<State = SmallState>>(
+pub fn open_by<W: Wants<State = SmallState, Marks = PageMarks>>(
     sources: &Sources<'_>,
     state: &State,
     kept: &mut PlaceEnds,
@@ -131,5 +131,10 @@ pub fn open(
     let index = BreakIndex::empty(sources.alloc);
     let walk = walk_place(sources, &index, state.place)?;
     let mut kept = PlaceEnds::new(sources.alloc, walk, Calls::none(sources.alloc));
-    open_by(sources, state, &mut kept, &EveryMove::<SmallState>::new())
+    open_by(
+        sources,
+        state,
+        &mut kept,
+        &EveryMove::<SmallState, PageMarks>::new(),
+    )
 }

@@ -13,6 +13,7 @@ ghost use Rattle.law_moves.specs.Listed.{listed_with};
 ghost use Rattle.law_moves.specs.Steps.{fitness_cost as fitness_cost_of, kept_fitness as kept_fitness_of};
 ghost use Rattle.pg_sources.specs.Document.{doc_of};
 ghost use Rattle.pg_rooms.specs.Laid.{laid_of};
+ghost use Rattle.pg_moves.specs.Outdone.{AreSpared};
 ghost use Rattle.pg_moves.specs.Stepping.{IsBehind, IsOpenAt, page_price as page_price_of, state_behind as state_behind_of};
 ghost use Rattle.pg_moves.specs.Thinned.{Adds};
 
@@ -23,7 +24,7 @@ use pg_plan::{Ages, Picks, Side, State};
 use pg_rooms::Laid;
 use pg_small::{SmallMove, SmallState};
 use pg_sources::Sources;
-use pg_states::Settled;
+use pg_states::{PageMarks, Settled};
 use pg_style::{Run, Style};
 use pg_table::{Step, StepList, Wants};
 use std::alloc::AllocError;
@@ -260,20 +261,22 @@ fn push_step(
 }
 
 // Adds the step to an end before which the floats of a layout are called and no float is left too old, if it is wanted.
-fn add_end<W: Wants<State = SmallState>>(
+fn add_end<W: Wants<State = SmallState, Marks = PageMarks>>(
     sources: &Sources<'_>,
     near: &NearList,
     state: &State,
     laid: &Laid,
     end: &RoomEnd,
     settled: &Settled,
-    behind: &mut Behind,
+    behind: &mut Behind<'_>,
     wants: &W,
     steps: &mut StepList<SmallState, SmallMove>,
 ) -> Result<(), AllocError>
     requires laid { laid.now ≡ laid_of (doc_of sources.now) state.now laid.now.layout }
     requires behind { IsBehind sources.now.style.now state.now laid.now settled.now behind.old }
+    requires spared { AreSpared (W.spares wants.now) behind.old }
     ensures behind { OnOk result (IsBehind sources.now.style.now state.now laid.now settled.now behind.new) }
+    ensures spared { OnOk result (AreSpared (W.spares wants.now) behind.new) }
     ensures added { OnOk result (IsOpenAt (doc_of sources.now) state.now laid.now settled.now end.now.to →
         Adds (W.spares wants.now) steps.old
         (listed_with (doc_of sources.now) state.now (λ layout. ends_of near.now.candidates (end.now ∷ []))
@@ -292,7 +295,7 @@ fn add_end<W: Wants<State = SmallState>>(
 }
 
 /// Adds the steps that are wanted to ends before which the floats of a layout are called and no float is left too old.
-pub fn add_ends<W: Wants<State = SmallState>>(
+pub fn add_ends<W: Wants<State = SmallState, Marks = PageMarks>>(
     sources: &Sources<'_>,
     near: &NearList,
     state: &State,
@@ -311,8 +314,9 @@ pub fn add_ends<W: Wants<State = SmallState>>(
         (listed_with (doc_of sources.now) state.now (λ layout. ends_of near.now.candidates ends.now) laid.now.layout)
         steps.new) }
 {
-    let mut behind = first_behind(sources, state, laid, settled)?;
-    for end in ends {
+    let mut behind = first_behind(sources, state, laid, settled, wants)?;
+    let mut rest = behind.skip_outdone(sources.style, state, ends);
+    'ends: while let [end, after @ ..] = rest {
         add_end(
             sources,
             near,
@@ -324,6 +328,7 @@ pub fn add_ends<W: Wants<State = SmallState>>(
             wants,
             steps,
         )?;
+        rest = behind.skip_outdone(sources.style, state, after);
     }
     Ok(())
 }

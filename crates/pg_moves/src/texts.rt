@@ -19,12 +19,12 @@ use pg_plan::{Counts, State};
 use pg_rooms::{Behind, Laid, PlaceEnds, RoomEnds, ends_in, groups_in, lay_texts};
 use pg_small::{SmallMove, SmallState};
 use pg_sources::Sources;
-use pg_states::Known;
+use pg_states::{Known, PageMarks};
 use pg_table::{StepList, Wants};
 use std::alloc::AllocError;
 
 // Adds the wanted steps to the ends of some candidates in a room, where a layout is that of the column.
-fn add_kept<W: Wants<State = SmallState>>(
+fn add_kept<W: Wants<State = SmallState, Marks = PageMarks>>(
     sources: &Sources<'_>,
     state: &State,
     known: &Known,
@@ -50,7 +50,7 @@ fn add_kept<W: Wants<State = SmallState>>(
 }
 
 // Adds the wanted steps to the ends behind a front, in what the room of a layout leaves there.
-fn add_behind<W: Wants<State = SmallState>>(
+fn add_behind<W: Wants<State = SmallState, Marks = PageMarks>>(
     sources: &Sources<'_>,
     state: &State,
     known: &Known,
@@ -78,7 +78,7 @@ fn add_behind<W: Wants<State = SmallState>>(
 }
 
 // Adds the wanted steps to all ends in the room of a layout.
-fn add_laid<W: Wants<State = SmallState>>(
+fn add_laid<W: Wants<State = SmallState, Marks = PageMarks>>(
     sources: &Sources<'_>,
     state: &State,
     known: &Known,
@@ -109,7 +109,7 @@ fn add_laid<W: Wants<State = SmallState>>(
 }
 
 /// Adds the wanted steps of columns of text in these layouts, by the ends in their rooms.
-pub fn add_all<W: Wants<State = SmallState>>(
+pub fn add_all<W: Wants<State = SmallState, Marks = PageMarks>>(
     sources: &Sources<'_>,
     state: &State,
     known: &Known,
@@ -133,7 +133,7 @@ pub fn add_all<W: Wants<State = SmallState>>(
 }
 
 /// The wanted steps of the columns of text, with counts up to a ceiling, from what is kept of the state's place.
-pub fn text_steps<W: Wants<State = SmallState>>(
+pub fn text_steps<W: Wants<State = SmallState, Marks = PageMarks>>(
     sources: &Sources<'_>,
     state: &State,
     known: &Known,

@@ -161,6 +161,28 @@ impl Rest {
         }
     }
 
+    // A number that equal counts have in common.
+    pub(crate) fn placed_hash(&self) -> u64 {
+        let mut mixed = 0u64;
+        for count in self.placed() {
+            mixed = mixed
+                .wrapping_add(u64::from(*count) + 1)
+                .wrapping_mul(0xC2B2_AE3D_27D4_EB4F);
+        }
+        mixed
+    }
+
+    // A number that equal ages have in common.
+    pub(crate) fn ages_hash(&self) -> u64 {
+        let mut mixed = 0u64;
+        for age in self.ages() {
+            mixed = mixed
+                .wrapping_add(u64::from(*age) + 1)
+                .wrapping_mul(0x1656_67B1_9E37_79F9);
+        }
+        mixed
+    }
+
     // Whether the counts are the same, as far as few bytes tell.
     pub(crate) fn has_surely_same_placed(&self, other: &Rest) -> bool
         ensures { result ≡ true → placed_kept self.now ≡ placed_kept other.now }

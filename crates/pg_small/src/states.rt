@@ -170,6 +170,25 @@ impl SmallState {
             && self.rest.is_surely_same(&other.rest)
     }
 
+    /// A number that states have in common that differ in place, fitness and ages alone. No memory is taken.
+    pub fn key_hash(&self) -> u64 {
+        let run = match self.run {
+            None => 0,
+            Some(run) => u64::from(run) + 1,
+        };
+        let side = match self.side {
+            Side::R => 1,
+            _ => 0,
+        };
+        let page = (64 * run + 4 * side) ^ u64::from(self.column);
+        page.wrapping_mul(0x27D4_EB2F_1656_67C5) ^ self.rest.placed_hash()
+    }
+
+    /// A number that states have in common that differ in place and fitness alone. No memory is taken.
+    pub fn line_hash(&self) -> u64 {
+        self.key_hash() ^ self.rest.ages_hash()
+    }
+
     // Whether the column, the side, the run and the fitness are the same.
     fn has_same_page(&self, other: &SmallState) -> bool
         ensures column { result ≡ true → self.now.column ≡ other.now.column }

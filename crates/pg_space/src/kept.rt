@@ -33,7 +33,7 @@ use pg_moves::open_by;
 use pg_plan::{PageKey, State};
 use pg_rooms::{Behind, Calls, FrontEnds, PlaceEnds};
 use pg_small::{SmallMove, SmallState};
-use pg_states::no_worse;
+use pg_states::{PageMarks, no_worse};
 use pg_style::Style;
 use pg_table::{EveryMove, Offering, Opened, Space, Steps, Wants};
 use pg_walk::{
@@ -298,7 +298,7 @@ impl<'a, D: Document> KeptPages<'a, D> {
     }
 
     // The columns that may follow a state and are wanted, by what is kept of its place.
-    fn open_by<W: Wants<State = SmallState>>(
+    fn open_by<W: Wants<State = SmallState, Marks = PageMarks>>(
         &self,
         state: &State,
         kept: Kept<D>,
@@ -326,7 +326,7 @@ impl<'a, D: Document> KeptPages<'a, D> {
     }
 
     // The columns that may follow a state and are wanted. What is kept of its place serves for the next state.
-    fn open<W: Wants<State = SmallState>>(
+    fn open<W: Wants<State = SmallState, Marks = PageMarks>>(
         &self,
         state: &SmallState,
         wants: &W,
@@ -393,16 +393,18 @@ impl<D: Document> Space for KeptPages<'_, D> {
         steps: &mut Steps<L>,
     ) -> Result<Opened<SmallState, SmallMove>, AllocError> {
         steps.tick();
-        self.open(state, &EveryMove::<SmallState>::new())
+        self.open(state, &EveryMove::<SmallState, PageMarks>::new())
     }
 }
 
 impl<D: Document> Offering for KeptPages<'_, D> {
+    type Marks = PageMarks;
+
     fn outdoes(&self, a: &SmallState, b: &SmallState) -> bool {
         no_worse(a, b)
     }
 
-    fn offer<L: Ledger, W: Wants<State = SmallState>>(
+    fn offer<L: Ledger, W: Wants<State = SmallState, Marks = PageMarks>>(
         &self,
         state: &SmallState,
         steps: &mut Steps<L>,
@@ -411,4 +413,6 @@ impl<D: Document> Offering for KeptPages<'_, D> {
         steps.tick();
         self.open(state, wants)
     }
+
+    ghost marked_alike = { λ s a b h. h };
 }

@@ -8,3 +8,4 @@ pub mod FirstState
 pub mod Sums
 pub mod Young
 pub mod NoOlder
+pub mod Told

@@ -2,6 +2,7 @@
 ghost use Rattle.std.specs.Prelude.{◌≡◌, ◌==◌, ◌&&◌, nat_le, IfOk};
 ghost use Rattle.pg_list.specs.Flat.{is_same_place as is_same_place_of};
 ghost use Rattle.pg_rules.specs.NoWorse.{are_no_older as are_no_older_of, are_same_counts as are_same_counts_of, is_no_worse, is_same_key as is_same_key_of, is_same_number as is_same_number_of, is_same_side as is_same_side_of, is_same_whole as is_same_whole_of, key};
+ghost use Rattle.pg_states.specs.Marks.{is_no_worse_line as is_no_worse_line_of};
 
 use pg_list::Place;
 use pg_plan::{PageKey, Side};
@@ -15,7 +16,7 @@ pub fn key_of(alloc: Global, state: &SmallState) -> Result<PageKey, AllocError>
     state.key(alloc)
 }
 
-fn is_same_place(a: Place, b: Place) -> bool
+pub(crate) fn is_same_place(a: Place, b: Place) -> bool
     ensures { result ≡ is_same_place_of a b }
 {
     a.block == b.block && a.variant == b.variant && a.index == b.index
@@ -27,7 +28,7 @@ fn is_same_side(a: Side, b: Side) -> bool
     a == b
 }
 
-fn is_same_number(a: Option<u8>, b: Option<u8>) -> bool
+pub(crate) fn is_same_number(a: Option<u8>, b: Option<u8>) -> bool
     ensures { result ≡ is_same_number_of a b }
 {
     a == b
@@ -134,6 +135,27 @@ fn is_same_key(a: &SmallState, b: &SmallState) -> bool
     ensures { result ≡ is_same_key_of (key a.now) (key b.now) }
 {
     is_same_spot(a, b) && (is_same_page(a, b) && is_same_past(a, b))
+}
+
+// Whether the column and the side are the same.
+fn is_same_column(a: &SmallState, b: &SmallState) -> bool
+    ensures { result ≡ ((a.now.column == b.now.column) && is_same_side_of a.now.side b.now.side) }
+{
+    a.column() == b.column() && is_same_side(a.side(), b.side())
+}
+
+// Whether the counts of placed floats are the same, and no age of the first is greater.
+fn is_no_worse_past(a: &SmallState, b: &SmallState) -> bool
+    ensures { result ≡ (are_same_counts_of a.now.placed b.now.placed && are_no_older_of a.now.ages b.now.ages) }
+{
+    has_same_placed(a, b) && has_no_older(a, b)
+}
+
+/// Whether states are equal but for place, fitness and ages, and no age of the first is greater. No memory is taken.
+pub(crate) fn is_no_worse_line(a: &SmallState, b: &SmallState) -> bool
+    ensures { result ≡ is_no_worse_line_of a.now b.now }
+{
+    is_same_column(a, b) && (is_same_page(a, b) && is_no_worse_past(a, b))
 }
 
 /// Whether two states are equal but for their ages, and no age of the first is greater. Most that are compared are the

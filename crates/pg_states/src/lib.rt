@@ -9,6 +9,9 @@
 //! placed, and `settle` gives the ages of those that are left at the end of a column and the price of those that it places, or None where
 //! one of those that are left is too old, all as the rules say (`specs/Settling`). The last two are given how many
 //! floats are called before the end of the column, so they search no galley; `settle` takes memory for its ages alone.
+//!
+//! `PageMarks` remembers some states that were marked, with their costs: where `Line::is_outdone` says yes, a state that
+//! is no worse was marked at a lower cost (`specs/Marks`). It may say no at any time, which costs time alone.
 #![tactic(auto)]
 
 mod ages;
@@ -19,6 +22,7 @@ mod comparing;
 mod counts;
 mod done;
 mod lines;
+mod marks;
 mod rank;
 mod settling;
 mod testing;
@@ -28,6 +32,7 @@ mod waiting_ages;
 pub use beginning::start;
 pub use comparing::{key_of, no_worse};
 pub use done::is_done;
+pub use marks::{Line, PageMarks};
 pub use rank::{place_rank, rank_of, rest_rank};
 pub use settling::{Known, Settled, may_end, settle};
 pub use testing::is_state;

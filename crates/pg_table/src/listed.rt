@@ -2,6 +2,7 @@
 ghost use Rattle.std.specs.Prelude.{◌≡◌};
 
 use crate::Steps;
+use crate::marking::NoMarks;
 use crate::space::{Offering, Space, Wants};
 use crate::step::Opened;
 use std::alloc::AllocError;
@@ -63,11 +64,13 @@ impl<S: Space> Space for Listed<'_, S> {
 }
 
 impl<S: Space> Offering for Listed<'_, S> {
+    type Marks = NoMarks<S::State>;
+
     fn outdoes(&self, _a: &S::State, _b: &S::State) -> bool {
         false
     }
 
-    fn offer<L: Ledger, W: Wants<State = S::State>>(
+    fn offer<L: Ledger, W: Wants<State = S::State, Marks = NoMarks<S::State>>>(
         &self,
         state: &S::State,
         steps: &mut Steps<L>,
@@ -75,4 +78,6 @@ impl<S: Space> Offering for Listed<'_, S> {
     ) -> Result<Opened<S::State, S::Move>, AllocError> {
         self.space.expand(state, steps)
     }
+
+    ghost marked_alike = { λ s a b h. absurd h };
 }

@@ -11,11 +11,12 @@ use pg_plan::State;
 use pg_rooms::PlaceEnds;
 use pg_small::{SmallMove, SmallState};
 use pg_sources::Sources;
+use pg_states::PageMarks;
 use pg_table::{Opened, Wants};
 use std::alloc::AllocError;
 
 /// The columns that are wanted.
-pub fn open_by<W: Wants<State = SmallState>>(
+pub fn open_by<W: Wants<State = SmallState, Marks = PageMarks>>(
     sources: &Sources<'_>,
     state: &State,
     kept: &mut PlaceEnds,

@@ -1,8 +1,24 @@
-use Rattle.std.proofs.Common.{None, rules}
+use Rattle.std.proofs.Common.{None, rules, subst, sym, ◌≤◌, ◌^◌}
+use Rattle.std.specs.Prelude.{ℤ, nat_abs}
+use Rattle.std.proofs.lemmas.Int.{to_z-of_z}
+use mir.Syntax.{w128}
+use mir.Val.{SFits, of_z, to_z}
 use Rattle.pg_moves.proofs.Built.{behind_is}
 use Rattle.pg_moves.proofs.behind.first_behind.Goals as goal
 
-pub returns : goal.returns
-returns c = behind_is c.args.sources.now.style.now c.args.state.now c.args.laid.now c.args.settled.now
-    c.args.state.now.place None c.in_ok-next.next c.in_ok-small.small _ c.tail_of-tail.result
-    (search rules) (search rules) (search rules) (search rules) (search rules)
+pub returns-clause-behind : goal.returns-clause-behind
+returns-clause-behind g c =
+    let fits : SFits w128 c.page_price-page.result = search rules in
+    behind_is c.args.sources.now.style.now c.args.state.now c.args.laid.now c.args.settled.now
+    c.args.state.now.place None c.in_ok-next.next c.in_ok-small.small
+    (to_z w128 (of_z w128 c.page_price-page.result)) c.tail_of-tail.result c.reached_at-reached.result
+    (search rules) (search rules)
+    (subst (λ (page : ℤ). nat_abs page ≤ 2 ^ 52) (sym (to_z-of_z w128 c.page_price-page.result fits))
+    c.page_price-page.ensures.size)
+    (search rules) (search rules)
+
+pub returns-clause-spared : goal.returns-clause-spared
+returns-clause-spared g c = record {
+  asked = c.reached_at-reached.ensures.asked;
+  late = c.reached_at-reached.ensures.spared;
+}

@@ -1,17 +1,23 @@
-use Rattle.std.proofs.Common.{◌≡◌, ◌++◌, ◌∙◌, ap, subst, sym, List}
+use Rattle.std.proofs.Common.{◌≡◌, ◌++◌, ◌∙◌, ap, subst, sym, length, List}
 use Rattle.std.proofs.lemmas.List.{append-nil}
 use Rattle.std.specs.Prelude.{Contains, OnOk}
 use Rattle.pg_plan.specs.declared.pages.PageMove.{PageMove}
 use Rattle.pg_plan.specs.declared.states.State.{State}
 use Rattle.pg_table.specs.declared.step.Step.{Step}
+use Rattle.pg_rules.specs.Floats.{total_count}
+use Rattle.pg_layouts.proofs.Areas.{slots_long}
 use Rattle.pg_sources.specs.Document.{doc_of}
 use Rattle.pg_rooms.specs.Laid.{HasSoMany}
 use Rattle.pg_rooms.specs.declared.laid.Laid.{Laid}
 use Rattle.pg_states.specs.declared.settling.Known.{Known}
 use Rattle.pg_moves.proofs.AllSteps.{at_err, floats_are}
-use Rattle.pg_moves.proofs.NoFloats.{no_columns}
+use Rattle.pg_moves.proofs.NoFloats.{no_columns, none_both}
 use Rattle.pg_rooms.proofs.Dealt.{called_has}
 use Rattle.pg_moves.proofs.opening.add_floats.Goals as goal
+
+pub may_have_floats-requires : goal.may_have_floats-requires
+may_have_floats-requires c = ap (λ (it : Known). length it.waits) c.requires.known
+    ∙ slots_long c.args.sources.now.style.now _
 
 pub lay_floats-requires-clause-ceiling : goal.lay_floats-requires-clause-ceiling
 lay_floats-requires-clause-ceiling c = subst (HasSoMany (doc_of c.args.sources.now))
@@ -35,6 +41,8 @@ returns-in_err-layouts c = at_err _ c.from_residual.result c.from_residual.ensur
 
 pub returns-then-not-may_have_floats : goal.returns-then-not-may_have_floats
 returns-then-not-may_have_floats c =
-    let none = c.may_have_floats.ensures c.if-not-may_have_floats.true in
+    let none = none_both (total_count c.args.known.now.waits) c.args.state.now.wide
+    (sym c.may_have_floats.ensures ∙ c.if-not-may_have_floats.true) in
     sym (ap (λ (more : List (Step State PageMove)). c.args.steps.now ++ more)
-    (no_columns (doc_of c.args.sources.now) c.args.state.now none.0 none.1) ∙ append-nil c.args.steps.now)
+    (no_columns (doc_of c.args.sources.now) c.args.state.now c.requires.own.placed
+    (subst (λ (it : Known). total_count it.waits ≡ 0) c.requires.known none.0) none.1) ∙ append-nil c.args.steps.now)

@@ -3,9 +3,10 @@ use Rattle.std.proofs.lemmas.Int.{to_z-of_z}
 use Rattle.std.specs.Int.{w128}
 use Rattle.pg_sources.specs.Document.{doc_of}
 use Rattle.pg_candidates.specs.RoomEnds.{picks_at}
+use Rattle.pg_moves.specs.Outdone.{AreSpared}
 use Rattle.pg_moves.specs.Stepping.{IsBehind}
 use Rattle.pg_layouts.specs.Layouts.{move_of}
-use Rattle.pg_moves.proofs.Built.{asked_is, step, still_behind}
+use Rattle.pg_moves.proofs.Built.{asked_is, step, still_behind, still_spared}
 use Rattle.pg_moves.proofs.Stepped.{not_stepped, not_wanted, stepped}
 use Rattle.pg_moves.proofs.steps.add_end.Goals as goal
 use Rattle.pg_moves.proofs.steps.add_end.Goals.{After-end_at}
@@ -15,6 +16,11 @@ behind : (g : _) (c : After-end_at g) → IsBehind c.args.sources.now.style.now 
     c.args.settled.now c.end_at.new.self
 behind g c = still_behind c.args.sources.now.style.now c.args.state.now c.args.laid.now c.args.settled.now
     c.args.behind.now c.end_at.new.self _ _ c.end_at.ensures c.requires.behind
+
+-- and what is remembered stays of its line
+spared : (g : _) (c : After-end_at g) → AreSpared (g.W.Wants.spares c.args.wants.now) c.end_at.new.self
+spared g c = still_spared (g.W.Wants.spares c.args.wants.now) c.args.behind.now c.end_at.new.self _ _
+    c.end_at.ensures c.requires.spared
 
 pub cost_to-cost-requires : goal.cost_to-cost-requires
 cost_to-cost-requires g c = c.requires.behind.small
@@ -26,6 +32,9 @@ pub returns-then-ends_here-clause-added : goal.returns-then-ends_here-clause-add
 returns-then-ends_here-clause-added g c = λ goes. not_stepped (doc_of c.args.sources.now) c.args.state.now
     c.args.laid.now c.requires.laid (g.W.Wants.spares c.args.wants.now) c.args.near.now.candidates
     c.args.end.now c.args.settled.now c.args.steps.now (sym c.ends_here.ensures ∙ c.if-ends_here.true) goes
+
+pub returns-then-not-wants-clause-spared : goal.returns-then-not-wants-clause-spared
+returns-then-not-wants-clause-spared g c = spared g (goal.at.returns-then-not-wants-clause-spared g c).After-end_at
 
 pub returns-then-not-wants-clause-behind : goal.returns-then-not-wants-clause-behind
 returns-then-not-wants-clause-behind g c = behind g (goal.at.returns-then-not-wants-clause-behind g c).After-end_at
@@ -44,6 +53,9 @@ returns-then-not-wants-clause-added g c = λ goes. not_wanted (doc_of c.args.sou
     c.end_at.ensures c.requires.behind
     (to_z-of_z w128 c.cost_to-cost.result (record { sfits = search rules }) ∙ c.cost_to-cost.ensures))
     goes c.args.steps.now (c.wants.ensures c.if-not-wants.true)
+
+pub returns-clause-spared : goal.returns-clause-spared
+returns-clause-spared g c = spared g (goal.at.returns-clause-spared g c).After-end_at
 
 pub returns-clause-behind : goal.returns-clause-behind
 returns-clause-behind g c = behind g (goal.at.returns-clause-behind g c).After-end_at

@@ -1,34 +1,46 @@
-use Rattle.std.proofs.Common.{rules, ◌≡◌, ◌∙◌, ap, length, take, ℕ}
-use Rattle.std.proofs.Math.Seq.{take-length}
-use Rattle.pg_candidates.specs.declared.room_end.RoomEnd.{RoomEnd}
+use Rattle.pg_rooms.proofs.Grouped.{no_end, split_read}
 use Rattle.pg_sources.specs.Document.{doc_of}
-use Rattle.pg_rooms.proofs.Grouped.{no_end}
-use Rattle.pg_moves.specs.Stepping.{IsOpenAt}
-use Rattle.pg_moves.proofs.Added.{adds_none, adds_same}
-use Rattle.pg_moves.proofs.Stepped.{all_at, listed_of, steps_more}
+use Rattle.pg_moves.proofs.Late.{none_left, one_more, skipped}
+use Rattle.pg_moves.proofs.Stepped.{all_gone, not_gone}
 use Rattle.pg_moves.proofs.steps.add_ends.Goals as goal
 
-pub loop-end-init : goal.loop-end-init
-loop-end-init g c = record {
-  behind = c.in_ok-behind.ensures;
-  added = λ all. adds_none (g.W.Wants.spares c.args.wants.now) c.args.steps.now;
+pub skip_outdone-rest-requires : goal.skip_outdone-rest-requires
+skip_outdone-rest-requires g c = c.in_ok-behind.ensures.spared.asked
+
+pub skip_outdone-rest-requires-in-len1-up : goal.skip_outdone-rest-requires-in-len1-up
+skip_outdone-rest-requires-in-len1-up g c = c.in_ok-add_end.ensures.spared.asked
+
+pub ends-init : goal.ends-init
+ends-init g c = record {
+  behind = c.in_ok-behind.ensures.behind;
+  spared = c.in_ok-behind.ensures.spared;
+  going = λ all. skipped (doc_of c.args.sources.now) c.args.state.now c.args.laid.now c.requires.laid
+      (g.W.Wants.spares c.args.wants.now) c.args.near.now.candidates c.args.settled.now c.in_ok-behind.behind
+      c.in_ok-behind.ensures.behind c.in_ok-behind.ensures.spared c.args.ends.now c.args.ends.now
+      c.skip_outdone-rest.result.now c.args.steps.now c.args.steps.now c.skip_outdone-rest.ensures (
+        all,
+        not_gone (doc_of c.args.sources.now) c.args.state.now (g.W.Wants.spares c.args.wants.now)
+            c.args.near.now.candidates c.args.laid.now.layout c.args.ends.now c.args.steps.now,
+      );
 }
 
-pub loop-end-preserved : goal.loop-end-preserved
-loop-end-preserved g c = record {
+pub ends-preserved : goal.ends-preserved
+ends-preserved g c = record {
   behind = c.in_ok-add_end.ensures.behind;
-  added = λ all. steps_more (doc_of c.args.sources.now) c.args.state.now (g.W.Wants.spares c.args.wants.now)
-      c.args.near.now.candidates c.args.laid.now.layout c.args.ends.now c.loop-end.end-index no_end
-      c.args.steps.now c.loop-end.steps c.add_end.new.steps c.loop-end-test.true (c.loop-end.invariant.added all)
-      (c.in_ok-add_end.ensures.added (all_at (λ (end : RoomEnd).
-      IsOpenAt (doc_of c.args.sources.now) c.args.state.now c.args.laid.now c.args.settled.now end.to)
-      c.args.ends.now c.loop-end.end-index no_end c.loop-end-test.true all));
+  spared = c.in_ok-add_end.ensures.spared;
+  going = λ all. skipped (doc_of c.args.sources.now) c.args.state.now c.args.laid.now c.requires.laid
+      (g.W.Wants.spares c.args.wants.now) c.args.near.now.candidates c.args.settled.now c.add_end.new.behind
+      c.in_ok-add_end.ensures.behind c.in_ok-add_end.ensures.spared c.args.ends.now _
+      c.skip_outdone-rest-in-len1-up.result.now c.args.steps.now c.add_end.new.steps
+      c.skip_outdone-rest-in-len1-up.ensures
+      (one_more (doc_of c.args.sources.now) c.args.state.now c.args.laid.now c.requires.laid
+      (g.W.Wants.spares c.args.wants.now) c.args.near.now.candidates c.args.settled.now c.args.ends.now
+      c.ends.rest.now _ _ c.args.steps.now c.ends.steps c.add_end.new.steps
+      (split_read c.ends.rest.now no_end c.in-len1-up.len_at_least) c.in_ok-add_end.ensures.added
+      (c.ends.invariant.going all));
 }
 
 pub returns : goal.returns
-returns g c = λ all.
-    let e : c.loop-end.end-index ≡ length c.args.ends.now = search rules in
-    adds_same (g.W.Wants.spares c.args.wants.now) c.args.steps.now c.loop-end.steps _ _
-    (ap (listed_of (doc_of c.args.sources.now) c.args.state.now c.args.near.now.candidates c.args.laid.now.layout)
-    (ap (λ (n : ℕ). take n c.args.ends.now) e ∙ take-length c.args.ends.now))
-    (c.loop-end.invariant.added all)
+returns g c = λ all. all_gone (doc_of c.args.sources.now) c.args.state.now (g.W.Wants.spares c.args.wants.now)
+    c.args.near.now.candidates c.args.laid.now.layout c.args.ends.now c.ends.rest.now c.args.steps.now c.ends.steps
+    (none_left c.ends.rest.now c.in_default.len_below) (c.ends.invariant.going all).1

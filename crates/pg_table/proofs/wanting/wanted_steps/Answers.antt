@@ -11,5 +11,5 @@ pub returns-clause-moves : goal.returns-clause-moves
 returns-clause-moves g c =
     let fits : SFits w128 c.args.label.now.cost = search rules in
     subst (λ (cost : ℤ). IfOk c.offer.result (λ o. AreWanted (g.S.Space.meaning c.args.space.now) c.args.label.now.state
-    (λ v d. is_spared (g.S.Space.meaning c.args.space.now) c.args.below c.args.pending.now.buckets.items v (cost +ℤ d))
+    (λ v d. is_spared (g.S.Space.meaning c.args.space.now) c.args.below (g.S.Marks.Marking.outdone c.args.marks.now) v (cost +ℤ d))
     o.steps)) (to_z-of_z w128 c.args.label.now.cost fits) c.offer.ensures.moves

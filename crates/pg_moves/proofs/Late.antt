@@ -1,0 +1,99 @@
+-- Ends of which is remembered that they come too late, and those that are left.
+use Rattle.std.proofs.Common.{◌≡◌, refl, sym, subst, ◌<◌, Bool, List, [], ◌∷◌, ◌++◌, append_assoc, ◌∙◌, length, arith, ℤ}
+use Rattle.std.specs.Prelude.{◌+ℤ◌}
+use Rattle.std.specs.List.{AllByRecursion}
+use Rattle.pg_lemmas.proofs.Lists.{all_append, all_parts}
+use Rattle.law_moves.specs.Steps.{fitness_cost, kept_fitness}
+use Rattle.law_walk.specs.Candidates.{Candidate}
+use Rattle.pg_candidates.specs.RoomEnds.{picks_at}
+use Rattle.pg_candidates.specs.declared.room_end.RoomEnd.{RoomEnd}
+use Rattle.pg_layouts.specs.Layouts.{move_of}
+use Rattle.pg_plan.specs.declared.pages.PageMove.{PageMove}
+use Rattle.pg_plan.specs.declared.states.State.{State}
+use Rattle.pg_rooms.specs.Laid.{laid_of}
+use Rattle.pg_rooms.specs.declared.laid.Laid.{Laid}
+use Rattle.pg_rules.specs.Room.{Document}
+use Rattle.pg_states.specs.Marks.{along}
+use Rattle.pg_states.specs.declared.settling.Settled.{Settled}
+use Rattle.pg_style.specs.Values.{StyleValue}
+use Rattle.pg_table.specs.declared.step.Step.{Step}
+use Rattle.pg_moves.specs.Outdone.{AreLeft, AreSpared, IsLate}
+use Rattle.pg_moves.specs.Stepping.{IsBehind, IsOpenAt}
+use Rattle.pg_moves.specs.Thinned.{Adds}
+use Rattle.pg_moves.specs.declared.behind.Behind.{Behind}
+use Rattle.pg_moves.proofs.Added.{adds_more, adds_none, adds_same}
+use Rattle.pg_moves.proofs.Built.{asked_is, late_at, step}
+use Rattle.pg_moves.proofs.Stepped.{Going, going_more, listed_append, listed_of, outdone_step}
+
+-- ---- ends that are left
+
+pub none_left : {X : Type 0} (xs : List X) → length xs < 1 → xs ≡ []
+none_left [] less = refl
+none_left (x ∷ xs) less = absurd (omega (arith, less))
+
+-- before any end is looked at
+pub all_left : (style : StyleValue) (u : State) (it : Behind) (ends : List RoomEnd) → AreLeft style u it ends ends
+all_left style u it ends = record { first = []; whole = refl; late = tt }
+
+-- one end more comes too late
+pub late_more : (style : StyleValue) (u : State) (it : Behind) (ends rest after : List RoomEnd) (end : RoomEnd) →
+    rest ≡ end ∷ after → AreLeft style u it ends rest → IsLate style u it end → AreLeft style u it ends after
+late_more style u it ends rest after end is left late = record {
+  first = left.first ++ end ∷ [];
+  whole = left.whole ∙ (subst (λ (xs : List RoomEnd). left.first ++ rest ≡ left.first ++ xs) is refl
+      ∙ sym (append_assoc left.first (end ∷ []) after));
+  late = all_append (IsLate style u it) left.first (end ∷ []) left.late (late, tt);
+}
+
+-- ---- their steps
+
+module _ (doc : Document) (u : State) (laid : Laid) (is : laid ≡ laid_of doc u laid.layout) (spared : State → ℤ → Bool)
+    (cs : List Candidate) (settled : Settled) where
+  -- a place at which the column may end
+  abbrev IsOpen : RoomEnd → Type 0
+  IsOpen end = IsOpenAt doc u laid settled end.to
+
+  module _ (it : Behind) (behind : IsBehind doc.style u laid settled it) (are : AreSpared spared it) where
+    late_step : (end : RoomEnd) (old : List (Step State PageMove)) → IsLate doc.style u it end → IsOpen end →
+        Adds spared old (listed_of doc u cs laid.layout (end ∷ [])) old
+    late_step end old late goes =
+        let text = end.cost.demerits +ℤ end.pick_demerits in
+        let pays = fitness_cost doc.style u.fitness end.cost.fitness in
+        let there = along it.state end.to (kept_fitness doc.style end.cost.fitness) in
+        outdone_step doc u laid is spared cs end settled
+        (step doc u laid is there (move_of u laid.layout end.to (picks_at cs end.at)) (text +ℤ (it.page +ℤ pays)))
+        (asked_is doc u laid is cs end settled it (record it { state = there }) _ refl behind refl) goes old
+        (late_at doc.style u spared it there text pays are late)
+
+    late_steps : (first : List RoomEnd) (old : List (Step State PageMove)) →
+        AllByRecursion (IsLate doc.style u it) first → AllByRecursion IsOpen first →
+        Adds spared old (listed_of doc u cs laid.layout first) old
+    late_steps [] old late goes = adds_none spared old
+    late_steps (end ∷ ends) old late goes = adds_same spared old old
+        (listed_of doc u cs laid.layout (end ∷ []) ++ listed_of doc u cs laid.layout ends)
+        (listed_of doc u cs laid.layout (end ∷ ends)) (sym (listed_append doc u cs laid.layout (end ∷ []) ends))
+        (adds_more spared old old old (listed_of doc u cs laid.layout (end ∷ []))
+        (listed_of doc u cs laid.layout ends) (late_step end old late.0 goes.0) (late_steps ends old late.1 goes.1))
+
+    -- ends that come too late are passed over
+    pub skipped : (ends rest left : List RoomEnd) (old mid : List (Step State PageMove)) →
+        AreLeft doc.style u it rest left →
+        AllByRecursion IsOpen rest × Going doc u spared cs laid.layout ends rest old mid →
+        AllByRecursion IsOpen left × Going doc u spared cs laid.layout ends left old mid
+    skipped ends rest left old mid skips (goes, going) =
+        let both = all_parts IsOpen skips.first left (subst (AllByRecursion IsOpen) skips.whole goes) in (
+          both.1,
+          going_more doc u spared cs laid.layout ends rest skips.first left old mid mid skips.whole going
+              (late_steps skips.first mid skips.late both.0),
+        )
+
+  -- the step to one end more
+  pub one_more : (ends rest after : List RoomEnd) (end : RoomEnd) (old mid new : List (Step State PageMove)) →
+      rest ≡ end ∷ after → (IsOpen end → Adds spared mid (listed_of doc u cs laid.layout (end ∷ [])) new) →
+      AllByRecursion IsOpen rest × Going doc u spared cs laid.layout ends rest old mid →
+      AllByRecursion IsOpen after × Going doc u spared cs laid.layout ends after old new
+  one_more ends rest after end old mid new split adds (goes, going) =
+      let here : AllByRecursion IsOpen (end ∷ after) = subst (AllByRecursion IsOpen) split goes in (
+        here.1,
+        going_more doc u spared cs laid.layout ends rest (end ∷ []) after old mid new split going (adds here.0),
+      )
