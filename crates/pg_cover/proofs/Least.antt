@@ -1,5 +1,5 @@
 -- The least place where a step ends that no label covers.
-use Rattle.std.proofs.Common.{◌≡◌, refl, sym, ap, subst, ◌∙◌, ◌⊎◌, inl, inr, zero, suc, ◌<◌, List, [], ◌∷◌, ◌++◌, Bool, true, false, Option, Some, None, append_assoc, arith}
+use Rattle.std.proofs.Common.{◌≡◌, refl, sym, ap, subst, ◌∙◌, ◌⊎◌, inl, inr, zero, suc, List, [], ◌∷◌, ◌++◌, Bool, true, false, Option, Some, None, append_assoc, arith}
 use Rattle.std.specs.Prelude.{Contains, if◌then◌else◌, ◌+ℤ◌}
 use Rattle.std.specs.Bool.{Decides}
 use Rattle.std.specs.Ordering.{is_lt}
@@ -13,7 +13,6 @@ use Rattle.pg_plan.specs.declared.states.State.{State}
 use Rattle.pg_table.specs.Space.{AreWanted, Lawful, Meaning}
 use Rattle.pg_table.specs.declared.step.Step.{Step}
 use Rattle.std.proofs.lemmas.Option.{same_Some}
-use Rattle.std.proofs.lemmas.List.{append-nil}
 use Rattle.pg_cover.specs.Covered.{CoveredBy, CoversStep, has_cover, IsNotBefore, IsOpenEnd, IsOpenOf, LeastBehind, LeastOf, OpenTo, least_with}
 use Rattle.pg_plan.proofs.OrderLaws.{place_total}
 use Rattle.pg_lemmas.proofs.Bools.{not_both}

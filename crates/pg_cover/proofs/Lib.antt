@@ -1,4 +1,5 @@
 mod Least
 mod Places
+mod Remembered
 mod Searched
 mod Spared

@@ -1,16 +1,15 @@
 -- Labels looked at one after another.
-use Rattle.std.proofs.Common.{◌≡◌, refl, sym, subst, ◌∙◌, ℕ, ◌+◌, ◌<◌, ◌≤◌, List, length, Some, None, arith}
-use Rattle.std.specs.Prelude.{slice_get, slice_index_or, ℤ}
+use Rattle.std.proofs.Common.{◌≡◌, refl, subst, ◌∙◌, ℕ, ◌+◌, ◌<◌, List, length, Some, None, arith}
+use Rattle.std.specs.Prelude.{slice_get, slice_index_or}
 use Rattle.std.specs.Ordering.{nat_cmp}
 use Rattle.std.proofs.lemmas.Cmp.{by_ranked, ranked}
-use Rattle.std.proofs.lemmas.Option.{slice_get_within, get_or_from_slice_get, slice_get_read}
+use Rattle.std.proofs.lemmas.Option.{get_or_from_slice_get, slice_get_read}
 use Rattle.pg_list.specs.declared.galley.Place.{Place}
 use Rattle.pg_plan.specs.declared.pages.PageMove.{PageMove}
 use Rattle.pg_plan.specs.declared.states.Label.{Label}
 use Rattle.pg_plan.specs.declared.states.State.{State}
 use Rattle.pg_table.specs.Space.{Meaning}
-use Rattle.pg_table.proofs.Lists.{at_contains}
-use Rattle.pg_cover.specs.Covered.{CoveredBy, DoesCover, IsFirstOpen, IsOpenOf, NoneCovers, NoneOpenBefore}
+use Rattle.pg_cover.specs.Covered.{IsFirstOpen, IsOpenOf, NoneOpenBefore}
 
 module _ {K : Type 0} (sp : Meaning State PageMove K) (labels : List Label) where
   pub first_at : (index : ℕ) (x : Label) (to : Place) → index < length labels → x ≡ slice_index_or labels index x →

@@ -1,5 +1,5 @@
 -- Labels that cover states of a space.
-use Rattle.std.specs.Prelude.{◌≡◌, ◌<◌, ◌+◌, ◌⊎◌, ◌++◌, ◌&&◌, ℕ, Bool, true, false, if◌then◌else◌, List, Option, Some, None, slice_get, ℤ, ◌+ℤ◌, ◌≤ℤ◌, int_le, Contains}
+use Rattle.std.specs.Prelude.{◌≡◌, ◌<◌, ◌+◌, ◌⊎◌, ◌++◌, ◌&&◌, ◌||◌, ℕ, Bool, true, false, if◌then◌else◌, List, Option, Some, None, slice_get, ℤ, ◌+ℤ◌, ◌≤ℤ◌, ◌<ℤ◌, pos, int_le, Contains}
 use Rattle.std.specs.List.{list_any}
 use Rattle.std.specs.Ordering.{is_lt}
 use Rattle.std.specs.declared.cmp.Ordering.TheVariants.{Less}
@@ -32,6 +32,21 @@ pub record CoveredBy {M K : Type 0} (sp : Meaning State M K) (labels : List Labe
 -- the same as a test
 unfoldable pub has_cover : {M K : Type 0} → Meaning State M K → List Label → State → ℤ → Bool
 has_cover sp labels state cost = list_any (λ label. sp.no_worse label.state state && int_le label.cost cost) labels
+
+-- a label covers the state, or what is remembered tells that it was reached at no greater cost
+unfoldable pub is_spared : {M K : Type 0} → Meaning State M K → List Label → (State → ℤ → Bool) → State → ℤ → Bool
+is_spared sp labels outdone state cost = has_cover sp labels state cost || outdone state (cost +ℤ pos 1)
+
+-- a label has a state that is no worse, at a lower cost
+pub record IsLowered (NoWorse : State → State → Type 0) (labels : List Label) (state : State) (cost : ℤ) : Type 0 where
+  pub label : Label
+  pub listed : Contains labels label
+  pub no_worse : NoWorse label.state state
+  pub cheaper : label.cost <ℤ cost
+
+-- of each state that is remembered there is a label that is no worse and costs less
+pub record AreMarksOf (NoWorse : State → State → Type 0) (labels : List Label) (outdone : State → ℤ → Bool) : Type 0 where
+  pub known : (state : State) (cost : ℤ) → outdone state cost ≡ true → IsLowered NoWorse labels state cost
 
 -- a label covers what the step of a label leads to
 abbrev pub CoversStep : {K : Type 0} → Meaning State PageMove K → List Label → Label → Step State PageMove → Type 0

@@ -1,22 +1,27 @@
 //! Labels tested whether they are closed.
-ghost use Rattle.std.specs.Prelude.{◌≡◌, ◌≤◌, ◌+◌, true, length, Contains, IfOk, Some, None, ◌+ℤ◌};
+ghost use Rattle.std.specs.Prelude.{◌≡◌, ◌≤◌, ◌+◌, true, length, Contains, IfOk, OnOk, Some, None, ◌+ℤ◌};
 ghost use Rattle.std.specs.Bool.{Decides};
 ghost use Rattle.pg_plan.specs.declared.states.Label.{Label as ALabel};
+ghost use Rattle.pg_table.specs.Needless.{MarksMore};
 ghost use Rattle.pg_table.specs.Space.{AreWanted};
 ghost use Rattle.pg_table.specs.declared.step.Step.{Step as AStep};
 ghost use Rattle.pg_plan.specs.declared.pages.PageMove.{PageMove as AMove};
 ghost use Rattle.pg_plan.specs.declared.states.State.{State as AState};
 ghost use Rattle.pg_cover.specs.declared.cover.Open.{Open as AnOpen};
-ghost use Rattle.pg_cover.specs.Covered.{AreOwn, CoveredBy, DoesCover, CoversStep, LeastOf, least_with, has_cover, IsOpenOf, NoneOpenBefore, IsFirstOpen, opened_count};
+ghost use Rattle.pg_cover.specs.Covered.{AreMarksOf, AreOwn, CoveredBy, DoesCover, CoversStep, LeastOf, least_with, has_cover, IsOpenOf, NoneOpenBefore, IsFirstOpen, opened_count};
 
 use crate::covering::{Covering, is_within};
 use crate::hints::{Hints, hints_of};
 use pg_list::Place;
 use pg_plan::compare_places;
 use pg_small::{SmallLabel, SmallMove, SmallState};
-use pg_table::{Offering, Space, Step, StepList, Steps};
+use pg_table::{Marking, Offering, Space, Step, StepList, Steps};
 use std::alloc::{AllocError, Global};
 use std::sync::ledger::Ledger;
+
+/// How far ahead of the label that is opened labels are marked: as far as its columns lead, in most galleys, and not so
+/// far that these marks are written over before they are asked about.
+const AHEAD: usize = 1 << 12;
 
 // Whether the label has a state that is no worse, at a cost that is at most the sum of two.
 fn label_covers<S: Space<State = SmallState>>(
@@ -151,10 +156,12 @@ fn steps_of<S: Offering<State = SmallState, Move = SmallMove>, L: Ledger>(
     space: &S,
     labels: &[SmallLabel],
     hints: &Hints,
+    marks: &S::Marks,
     label: &SmallLabel,
     steps: &mut Steps<L>,
 ) -> Result<StepList<SmallState, SmallMove>, AllocError>
-    requires { (S.meaning space.now).Own label.now.state }
+    requires marks { AreMarksOf S.Marks.NoWorse labels.now (S.Marks.outdone marks.now) }
+    requires label { (S.meaning space.now).Own label.now.state }
     ensures wanted { IfOk result (AreWanted (S.meaning space.now) label.now.state
         (λ v c. has_cover (S.meaning space.now) labels.now v (label.now.cost +ℤ c))) }
     ensures counted { steps.new ≡ steps.old + 1 }
@@ -163,6 +170,7 @@ fn steps_of<S: Offering<State = SmallState, Move = SmallMove>, L: Ledger>(
         space,
         labels,
         hints,
+        marks,
         cost: label.cost,
     };
     Ok(space.offer(&label.state, steps, &wants)?.steps)
@@ -173,16 +181,44 @@ fn open_of<S: Offering<State = SmallState, Move = SmallMove>, L: Ledger>(
     space: &S,
     labels: &[SmallLabel],
     hints: &Hints,
+    marks: &S::Marks,
     label: &SmallLabel,
     steps: &mut Steps<L>,
 ) -> Result<Option<Place>, AllocError>
     requires labels { AreOwn (S.meaning space.now) labels.now }
+    requires marks { AreMarksOf S.Marks.NoWorse labels.now (S.Marks.outdone marks.now) }
     requires label { (S.meaning space.now).Own label.now.state }
     ensures least { IfOk result (IsOpenOf (S.meaning space.now) labels.now label.now) }
     ensures counted { steps.new ≡ steps.old + 1 }
 {
-    let opened = steps_of(space, labels, hints, label, steps)?;
+    let opened = steps_of(space, labels, hints, marks, label, steps)?;
     Ok(least_open(space, labels, hints, label, opened))
+}
+
+// Remembers the state of a label, at its cost.
+fn mark_label<M: Marking<SmallState>>(label: &SmallLabel, marks: &mut M) -> Result<(), AllocError>
+    ensures { OnOk result (MarksMore M.NoWorse (M.outdone marks.old) label.now.state label.now.cost
+        (M.outdone marks.new)) }
+{
+    marks.mark(&label.state, label.cost)
+}
+
+// Marks the labels from an index to another, as far as there are labels. It answers the index of the next one.
+fn mark_ahead<M: Marking<SmallState>>(
+    labels: &[SmallLabel],
+    from: usize,
+    until: usize,
+    marks: &mut M,
+) -> Result<usize, AllocError>
+    requires { AreMarksOf M.NoWorse labels.now (M.outdone marks.old) }
+    ensures { OnOk result (AreMarksOf M.NoWorse labels.now (M.outdone marks.new)) }
+{
+    let mut next = from;
+    'ahead: while next < labels.len() && next < until {
+        mark_label(&labels[next], marks)?;
+        next += 1;
+    }
+    Ok(next)
 }
 
 /// A label, by its index from 0, behind which stands a column that leads to what no label covers, and the least place
@@ -211,8 +247,11 @@ pub fn first_open<S: Offering<State = SmallState, Move = SmallMove>, L: Ledger>(
     ensures bounded { steps.new ≤ steps.old + length labels.now }
 {
     let hints = hints_of(alloc, space, labels)?;
+    let mut marks = S::Marks::none(alloc);
+    let mut unmarked = 0;
     for index in 0..labels.len() {
-        if let Some(to) = open_of(space, labels, &hints, &labels[index], steps)? {
+        unmarked = mark_ahead(labels, unmarked, index.saturating_add(AHEAD), &mut marks)?;
+        if let Some(to) = open_of(space, labels, &hints, &marks, &labels[index], steps)? {
             return Ok(Some(Open { index, to }));
         }
     }

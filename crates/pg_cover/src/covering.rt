@@ -36,6 +36,8 @@ pub(crate) struct Covering<'a, S: Offering<State = SmallState>> {
     pub(crate) space: &'a S,
     pub(crate) labels: &'a [SmallLabel],
     pub(crate) hints: &'a Hints,
+    /// What is remembered of the labels.
+    pub(crate) marks: &'a S::Marks,
     /// What the label costs.
     pub(crate) cost: i128,
 }
@@ -66,12 +68,17 @@ impl<S: Offering<State = SmallState>> Wants for Covering<'_, S> {
     type Marks = S::Marks;
 
     ghost use Rattle.std.specs.Prelude.{◌+ℤ◌};
-    ghost use Rattle.pg_cover.specs.Covered.{has_cover};
+    ghost use Rattle.pg_cover.specs.Covered.{is_spared};
 
-    ghost spares = { λ w v c. has_cover (S.meaning w.space.now) w.labels.now v (w.cost +ℤ c) };
+    ghost spares = { λ w v c. is_spared (S.meaning w.space.now) w.labels.now (S.Marks.outdone w.marks.now) v
+        (w.cost +ℤ c) };
 
     fn marked(&self) -> Option<Marked<'_, S::Marks>> {
-        None
+        // one more, since what costs as much covers too
+        Some(Marked {
+            marks: self.marks,
+            cost: self.cost.checked_add(1)?,
+        })
     }
 
     fn wants(&self, to: &SmallState, rank: u64, cost: i128) -> bool {

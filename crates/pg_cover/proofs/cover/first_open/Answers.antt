@@ -2,8 +2,16 @@ use Rattle.std.proofs.Common.{subst, arith}
 use Rattle.std.proofs.lemmas.Option.{same_Some}
 use Rattle.pg_cover.specs.Covered.{IsFirstOpen, IsOpenOf}
 use Rattle.pg_cover.specs.declared.cover.Open.{Open as AnOpen}
+use Rattle.pg_cover.proofs.Remembered.{marks_none}
 use Rattle.pg_cover.proofs.Searched.{first_at, none_open_more}
 use Rattle.pg_cover.proofs.cover.first_open.Goals as goal
+
+pub loop-index-init : goal.loop-index-init
+loop-index-init g c = record {
+  before = λ i label less at. absurd (omega (arith, less));
+  opened = omega arith;
+  marks = marks_none _ _ _ c.none-marks.ensures;
+}
 
 pub returns-in-Some-clause-some : goal.returns-in-Some-clause-some
 returns-in-Some-clause-some g c = λ o e.
@@ -21,6 +29,7 @@ loop-index-preserved g c = record {
       (subst (IsOpenOf (g.S.Space.meaning c.args.space.now) c.args.labels.now c.index-labels-index.result)
       c.in_default.is c.in_ok-to.ensures.least) c.loop-index.invariant.before;
   opened = let one = c.open_of.ensures.counted in let all = c.loop-index.invariant.opened in omega (arith, one, all);
+  marks = c.in_ok-unmarked.ensures;
 }
 
 pub returns-clause-none : goal.returns-clause-none
