@@ -8,3 +8,5 @@ pub mod Needed
 pub mod Nears
 pub mod TooLow
 pub mod Ordered
+pub mod Handed
+pub mod Plain

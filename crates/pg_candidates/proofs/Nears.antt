@@ -1,8 +1,7 @@
 -- A candidate's end in a room.
-use Rattle.std.proofs.Common.{◌≡◌, refl, sym, ap, ◌∙◌, subst, ℤ, List, [], ◌∷◌, ◌++◌, append-nil, arith, Bool, false, true, Option, Some, ◌-ℤ◌}
-use Rattle.std.specs.Prelude.{◌&&◌, ◌||◌, not, int_le, int_lt, nat_le, slice_get}
+use Rattle.std.proofs.Common.{◌≡◌, refl, sym, ap, ◌∙◌, subst, ℤ, List, [], ◌∷◌, ◌++◌, append-nil, arith, Bool, false, true, ◌-ℤ◌}
+use Rattle.std.specs.Prelude.{◌&&◌, ◌||◌, not, int_le, int_lt, nat_le}
 use Rattle.std.specs.List.{AllByRecursion}
-use Rattle.std.specs.Option.{option_map_or}
 use Rattle.std.proofs.lemmas.Int.{ints}
 use Rattle.pg_breaks.specs.Near.{place_forced}
 use Rattle.pg_column.specs.Numbers.{cost_for, give_by, goal_by, most_room}
@@ -61,13 +60,12 @@ module _ (doc : Document) (most : ℤ) (room : TextRoom) (it : Candidate) (near 
       (fits it.passed.bound (most_room room)) (is.least room ∙ not_below (most_room room) near.least high)
       ∙ sym tolerable_is
 
-  pub end_is : (ds : List Candidate) → slice_get ds near.at ≡ Some it → end_of ds (end_by near cost) ≡ end_in doc room it
+  pub end_is : (ds : List Candidate) → picks_at ds near.at ≡ it.picks → end_of ds (end_by near cost) ≡ end_in doc room it
   end_is ds there = end_same near.to it.to (picks_at ds near.at) it.picks cost (cost_in doc room it) near.pick_demerits
-      it.pick_demerits is.to (ap (λ (o : Option Candidate). option_map_or (λ (c : Candidate). c.picks) o []) there)
-      cost_is is.pick_demerits
+      it.pick_demerits is.to there cost_is is.pick_demerits
 
   -- the best with this candidate's end
-  module _ (cs ds : List Candidate) (there : slice_get ds near.at ≡ Some it) (bs : List End)
+  module _ (cs ds : List Candidate) (there : picks_at ds near.at ≡ it.picks) (bs : List End)
       (best : AreBest (text_ends doc room cs) bs) (high : int_lt (most_room room) near.least ≡ false) where
     pub best_refused : (near.kind.is_forced || nat_le cost.badness doc.style.tolerance) ≡ false →
         AreBest (text_ends doc room (cs ++ it ∷ [])) bs

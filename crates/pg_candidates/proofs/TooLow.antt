@@ -49,6 +49,13 @@ hopeless_below doc c least room is low =
     (place_forced doc.blocks c.to || nat_le (cost_in doc room c).badness doc.style.tolerance)
     (fits c.passed.bound (most_room room)) (is room ∙ below)
 
+-- its end is none of the best
+pub best_too_low : (doc : Document) (room : TextRoom) (cs : List Candidate) (c : Candidate) (least : ℤ) (bs : List End) →
+    most_room room <ℤ least → IsLeastRoom doc c least → AreBest (text_ends doc room cs) bs →
+    AreBest (text_ends doc room (cs ++ c ∷ [])) bs
+best_too_low doc room cs c least bs low is best = subst (AreBest (text_ends doc room (cs ++ c ∷ [])))
+    (if_false (keeps_text doc room c) _ _ (hopeless_below doc c least room is low)) (keep_more doc room cs c bs best)
+
 pub best_below : (doc : Document) (most : ℤ) (room : TextRoom) (cs ds : List Candidate) (near : NearValue)
     (bs : List End) → most_room room <ℤ near.least → IsNearIn doc most ds near → AreBest (text_ends doc room cs) bs →
     AreBest (text_ends doc room (cs ++ needed_of room.size ds near)) bs
@@ -58,9 +65,7 @@ best_below doc most room cs ds near bs low is best = by (is_needed room.size nea
         AreBest (text_ends doc room (cs ++ (if b then one_at o else []))) bs
     by false o e = best_same doc room cs bs best
     by true None e = best_same doc room cs bs best
-    by true (Some c) e = subst (AreBest (text_ends doc room (cs ++ c ∷ [])))
-        (if_false (keeps_text doc room c) _ _ (hopeless_below doc c near.least room (is c e).least low))
-        (keep_more doc room cs c bs best)
+    by true (Some c) e = best_too_low doc room cs c near.least bs low (is c e).least best
 
 -- ---- a room below the least one of a text
 

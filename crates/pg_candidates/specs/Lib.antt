@@ -4,3 +4,4 @@ pub mod RoomEnds
 pub mod Nears
 pub mod Seen
 pub mod Groups
+pub mod Taken

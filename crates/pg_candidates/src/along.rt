@@ -12,7 +12,8 @@ ghost use Rattle.pg_hops.specs.View.{IsFor, view};
 ghost use Rattle.pg_hops.specs.Index.{AreHops};
 ghost use Rattle.pg_candidates.specs.View.{passed_of};
 
-use crate::candidate::{Candidate, CandidateList};
+use crate::candidate::CandidateList;
+use crate::taking::TakesEnds;
 use pg_hops::{BreakIndex, Cursor, Passed, State, go, hop_ahead, is_end_ahead};
 use pg_list::{Galley, Place};
 use pg_plan::Picks;
@@ -20,28 +21,23 @@ use pg_style::Style;
 use std::alloc::AllocError;
 use std::rc::Rc;
 
-// Adds an end at a place where one may be, if it is a break behind a box.
-fn end_at(
+// Hands on an end at a place where one may be, if it is a break behind a box.
+fn end_at<T: TakesEnds>(
     style: &Style,
     at: Place,
     is_end: bool,
     passed: &Passed,
     picks: &Rc<Picks>,
     demerits: i64,
-    found: &mut CandidateList,
+    found: &mut T,
 ) -> Result<(), AllocError>
     ensures { OnOk result ((g : GalleyValue) → is_end ≡ is_end_here g.blocks (view passed.now) at →
-        found.new ≡ found.old ++ end_here (document g style.now) picks.now.value demerits at (view passed.now)) }
+        T.Took found.old found.new (end_here (document g style.now) picks.now.value demerits at (view passed.now))) }
 {
-    if is_end && passed.is_within_limits(style) {
-        found.push(Candidate {
-            to: at,
-            picks: Rc::clone(picks)?,
-            passed: *passed,
-            pick_demerits: demerits,
-        })?;
+    if !(is_end && passed.is_within_limits(style)) {
+        return Ok(());
     }
-    Ok(())
+    found.take(at, passed, picks, demerits)
 }
 
 /// What a walk along a stretch tells: what was passed with the front behind it, where some room up to the greatest one
@@ -68,11 +64,11 @@ fn stopped(style: &Style, passed: &Passed, greatest: u32) -> Walked
     }
 }
 
-/// Goes through the items ahead, by hops where the index knows them, and adds the ends on the way, with these picks at these
-/// demerits. Answers how far it came; where the notes passed take no room, a walk without notes comes as far.
+/// Goes through the items ahead, by hops where the index knows them, and hands on the ends on the way, with these picks at
+/// these demerits. Answers how far it came; where the notes passed take no room, a walk without notes comes as far.
 ///
 /// Conditions: as for `pass_on` of pg_hops.
-pub fn walk_on(
+pub fn walk_on<T: TakesEnds>(
     galley: &Galley,
     style: &Style,
     index: &BreakIndex,
@@ -81,7 +77,7 @@ pub fn walk_on(
     before: Passed,
     picks: &Picks,
     demerits: i64,
-    found: &mut CandidateList,
+    found: &mut T,
 ) -> Result<Walked, AllocError>
     requires hops { AreHops galley.now.blocks style.now.maxdepth index.now }
     requires settled { IsSettled galley.now.blocks start }
@@ -89,9 +85,8 @@ pub fn walk_on(
     requires bound { fits before.bound top ≡ true }
     requires few { (before.sums.count + length (items_ahead galley.now.blocks start) ≤ 2 ^ 20)
         × (before.notes.count + length (items_ahead galley.now.blocks start) ≤ 2 ^ 20) }
-    ensures ends { OnOk result (found.new ≡ found.old
-        ++ ends_along (document galley.now style.now) top picks.now demerits
-        (place_of (front_ahead galley.now.blocks start) 0 0) (view before) (items_ahead galley.now.blocks start)) }
+    ensures ends { OnOk result (T.Took found.old found.new (ends_along (document galley.now style.now) top picks.now demerits
+        (place_of (front_ahead galley.now.blocks start) 0 0) (view before) (items_ahead galley.now.blocks start))) }
     ensures past { IfOk result (λ w. passed_of w.state
         ≡ past_stretch (document galley.now style.now) top (view before) (items_ahead galley.now.blocks start)) }
     ensures front { IfOk result (λ w. IfSome w.state (λ s. s.block ≡ front_ahead galley.now.blocks start)) }

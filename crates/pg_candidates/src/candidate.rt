@@ -2,6 +2,7 @@
 ghost use Rattle.std.specs.Prelude.{◌≡◌, ◌++◌, ◌∷◌, [], IfOk, OnOk, map};
 ghost use Rattle.pg_candidates.specs.View.{candidate_of};
 
+use crate::taking::TakesEnds;
 use pg_hops::Passed;
 use pg_list::Place;
 use pg_plan::Picks;
@@ -49,6 +50,15 @@ impl CandidateList {
         })
     }
 
+    // No candidates. No memory is taken.
+    pub(crate) fn none(alloc: Global) -> CandidateList
+        ensures { result ≡ [] }
+    {
+        CandidateList {
+            items: Vec::new(alloc),
+        }
+    }
+
     /// Adds a candidate behind the others.
     pub fn push(&mut self, candidate: Candidate) -> Result<(), AllocError>
         ensures { OnOk result (self.new ≡ self.old ++ candidate_of candidate ∷ []) }
@@ -57,17 +67,40 @@ impl CandidateList {
         Ok(())
     }
 
-    // The same picks, to be shared by candidates.
-    pub(crate) fn share(&self, picks: &Picks) -> Result<Rc<Picks>, AllocError>
-        ensures { IfOk result (λ shared. shared.value ≡ picks.now) }
-    {
-        Ok(Rc::new(*self.items.allocator(), picks.copy()?)?)
-    }
-
     // The candidates, one after another.
     pub(crate) fn as_slice(&self) -> &[Candidate]
         ensures { map candidate_of result.now ≡ self.now }
     {
         self.items.as_slice()
     }
+}
+
+impl TakesEnds for CandidateList {
+    ghost use Rattle.std.specs.Prelude.{◌≡◌, ◌++◌};
+    ghost use Rattle.pg_candidates.specs.Taken.{listed_both, listed_none};
+
+    ghost Took = { λ old new cs. new ≡ old ++ cs };
+
+    fn share(&self, picks: &Picks) -> Result<Rc<Picks>, AllocError> {
+        Ok(Rc::new(*self.items.allocator(), picks.copy()?)?)
+    }
+
+    fn take(
+        &mut self,
+        to: Place,
+        passed: &Passed,
+        picks: &Rc<Picks>,
+        demerits: i64,
+    ) -> Result<(), AllocError> {
+        self.push(Candidate {
+            to,
+            picks: Rc::clone(picks)?,
+            passed: *passed,
+            pick_demerits: demerits,
+        })
+    }
+
+    ghost none_taken = { listed_none };
+
+    ghost both_taken = { listed_both };
 }

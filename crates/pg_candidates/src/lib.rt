@@ -1,8 +1,9 @@
 //! Candidates for the ends of columns from a place: where columns may end in some room up to a greatest one, with what
 //! they pass on the way; and the ends in a room among them.
 //!
-//! Proved: `walk_on` finds the ends along a stretch (`ends_along` of law_walk, `specs/Walk`), and tells how far it came
-//! (`reach_along`) and whether the notes passed take room; `ends_on` finds the ends alone;
+//! Proved: `walk_on` hands on the ends along a stretch (`ends_along` of law_walk, `specs/Walk`) to what takes them
+//! (`TakesEnds`): a list of candidates, or `OneRoom`, which keeps the best ends in one room (`specs/Taken`). It tells how far
+//! it came (`reach_along`) and whether the notes passed take room; `ends_on` finds the ends alone;
 //! `CandidateList::into_near` works out of candidates what no room changes, below which room no column to the end of each
 //! keeps the rules, and from which room on that end is not needed (`AreNear`: in each room the ends of those that are
 //! needed there suffice); `NearList::text_ends` gives the best ends in a room however low the room is (`AreBest`);
@@ -17,13 +18,17 @@ mod kind;
 mod least;
 mod making;
 mod near;
+mod one_room;
 mod order;
 mod room;
 mod room_end;
+mod taking;
 mod until;
 
 pub use along::{Walked, ends_on, walk_on};
 pub use candidate::{Candidate, CandidateList};
 pub use near::NearList;
+pub use one_room::OneRoom;
 pub use room::has_text;
 pub use room_end::RoomEnd;
+pub use taking::TakesEnds;

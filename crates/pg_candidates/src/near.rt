@@ -13,6 +13,7 @@ use pg_plan::Picks;
 use pg_scaled::plus;
 use pg_style::Give;
 use pg_sums::Sums;
+use std::alloc::Global;
 use std::marker::Model;
 
 /// What no room changes of a candidate, in scaled points: which one of the list it is, where its end is, the sums of what
@@ -119,6 +120,16 @@ impl Model for NearList {
 }
 
 impl NearList {
+    /// No candidates. No memory is taken.
+    pub fn none(alloc: Global) -> NearList
+        ensures { result.candidates ≡ [] }
+    {
+        NearList {
+            candidates: CandidateList::none(alloc),
+            nears: Vec::new(alloc),
+        }
+    }
+
     /// The picks of the candidate with this number, if there is one.
     pub fn picks_of(&self, at: usize) -> Option<&Picks>
         ensures some { IfSome result (λ picks. picks.now ≡ picks_at self.now.candidates at) }

@@ -1,5 +1,5 @@
 //! The ends in a room among candidates.
-ghost use Rattle.std.specs.Prelude.{◌≡◌, ◌<◌, ◌^◌, ◌≤ℤ◌, ◌-ℤ◌, ◌||◌, ◌++◌, ◌∷◌, [], ℤ, List, false, int_lt, map, nat_le, OnOk, IfOk, IfSome, nat_abs, slice_get, Some};
+ghost use Rattle.std.specs.Prelude.{◌≡◌, ◌<◌, ◌^◌, ◌≤ℤ◌, ◌-ℤ◌, ◌||◌, ◌++◌, ◌∷◌, [], ℤ, List, false, int_lt, map, nat_le, OnOk, IfOk, IfSome, nat_abs};
 ghost use Rattle.std.specs.List.{AllByRecursion};
 ghost use Rattle.pg_list.specs.GalleyValue.{GalleyValue};
 ghost use Rattle.pg_list.specs.declared.galley.Place.{Place as APlace};
@@ -10,7 +10,7 @@ ghost use Rattle.pg_rules.specs.Legal.{document};
 ghost use Rattle.law_walk.specs.Best.{AreBest};
 ghost use Rattle.law_walk.specs.Candidates.{AreCandidates, Candidate as ACandidate, has_text as has_text_of, kept_ends, text_ends};
 ghost use Rattle.pg_candidates.specs.Nears.{AreNear, IsNear, IsNearIn, IsWithin, IsWorstCost, needed_in, needed_of};
-ghost use Rattle.pg_candidates.specs.RoomEnds.{ends_of};
+ghost use Rattle.pg_candidates.specs.RoomEnds.{ends_of, picks_at};
 ghost use Rattle.pg_candidates.specs.View.{candidate_of};
 
 use crate::best::keep_best;
@@ -78,7 +78,7 @@ fn cost_of(style: &Style, room: &TextRoom, near: &Near) -> TextCost
 
 // Adds the end of the candidate that this is of, where it keeps the rules on its text in a room that is not below its least
 // one and no end there is better.
-fn keep_end(
+pub(crate) fn keep_end(
     style: &Style,
     room: &TextRoom,
     candidates: &[Candidate],
@@ -88,7 +88,7 @@ fn keep_end(
     requires size { IsRoom room.now }
     requires high { int_lt (most_room room.now) near.now.least ≡ false }
     ensures { OnOk result ((g : GalleyValue) (most : ℤ) → room.now.give.stretch ≤ℤ most → (cs : List ACandidate)
-        (c : ACandidate) → slice_get (map candidate_of candidates.now) near.now.at ≡ Some c →
+        (c : ACandidate) → picks_at (map candidate_of candidates.now) near.now.at ≡ c.picks →
         IsNear (document g style.now) most c near.now →
         AreBest (text_ends (document g style.now) room.now cs)
         (ends_of (map candidate_of candidates.now) ends.old.items) →

@@ -367,21 +367,22 @@ groups_done doc u spared cs layout groups (group ∷ left) ends rest old new les
     absurd (omega (arith, less))
 
 -- the steps to the ends that are kept of a room
-pub in_room : (doc : Document) (u : State) (spared : State → ℤ → Bool) (it : Laid) (cs : List Candidate)
+pub in_room : (doc : Document) (u : State) (spared : State → ℤ → Bool) (it : Laid) (all cs : List Candidate)
     (rooms : List RoomEnds) (room : TextRoom) (groups : List Group) (ends : List RoomEnd)
     (old new : List (Step State PageMove)) → groups ≡ groups_in rooms room → ends ≡ ends_in rooms room →
     (AreGroups doc groups ends → Adds spared old (listed_of doc u cs it.layout ends) new) →
-    AllByRecursion (AreRoomEnds doc cs) rooms → Adds spared old (steps_at doc u cs rooms room it) new
-in_room doc u spared it cs rooms room groups ends old new g e step right =
+    AllByRecursion (AreRoomEnds doc all cs) rooms → Adds spared old (steps_at doc u cs rooms room it) new
+in_room doc u spared it all cs rooms room groups ends old new g e step right =
     subst (λ (xs : List RoomEnd). Adds spared old (listed_of doc u cs it.layout xs) new) e
     (step (subst (λ (gs : List Group). AreGroups doc gs ends) (sym g)
-    (subst (AreGroups doc (groups_in rooms room)) (sym e) (groups_right doc cs rooms room right))))
+    (subst (AreGroups doc (groups_in rooms room)) (sym e) (groups_right doc all cs rooms room right))))
 
 -- the steps behind a front are those to the ends in what the room of a layout leaves there
 pub behind_added : (doc : Document) (u : State) (spared : State → ℤ → Bool) (it : Laid) (behind : Behind)
     (left : Option TextRoom) (room : TextRoom) (old new : List (Step State PageMove)) →
     left ≡ room_behind behind it.room → left ≡ Some room →
-    (AllByRecursion (AreRoomEnds doc behind.ends.walk.near.candidates) behind.ends.rooms.items → Adds spared old
+    (AllByRecursion (AreRoomEnds doc behind.ends.walk.near.candidates behind.ends.walk.near.candidates)
+    behind.ends.rooms.items → Adds spared old
     (steps_at doc u behind.ends.walk.near.candidates behind.ends.rooms.items room it) new) →
     AreFrontEnds doc behind.ends → Adds spared old (steps_behind doc u (Some behind) it) new
 behind_added doc u spared it behind left room old new is some step are = subst (λ (o : Option TextRoom).

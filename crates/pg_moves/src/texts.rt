@@ -1,8 +1,9 @@
 //! The steps of columns of text, layout by layout.
-ghost use Rattle.std.specs.Prelude.{◌≡◌, Contains, IfOk, OnOk, Some};
+ghost use Rattle.std.specs.Prelude.{◌≡◌, Contains, IfOk, List, OnOk, Some};
 ghost use Rattle.std.specs.List.{AllByRecursion, flat_map};
 ghost use Rattle.pg_column.specs.Numbers.{IsRoom};
 ghost use Rattle.pg_rules.specs.IsState.{IsState};
+ghost use Rattle.law_walk.specs.Candidates.{Candidate};
 ghost use Rattle.pg_sources.specs.Document.{doc_of};
 ghost use Rattle.pg_rooms.specs.Laid.{HasSoMany, laid_of};
 ghost use Rattle.pg_rooms.specs.PlaceEnds.{AreFrontEnds, ArePlaceEnds, AreRoomEnds};
@@ -38,7 +39,8 @@ fn add_kept<W: Wants<State = SmallState, Marks = PageMarks>>(
     requires own { IsState (doc_of sources.now) state.now }
     requires known { known.now ≡ known_of (doc_of sources.now) state.now }
     requires laid { laid.now ≡ laid_of (doc_of sources.now) state.now laid.now.layout }
-    ensures { OnOk result (AllByRecursion (AreRoomEnds (doc_of sources.now) near.now.candidates) rooms.now →
+    ensures { OnOk result ((all : List Candidate) →
+        AllByRecursion (AreRoomEnds (doc_of sources.now) all near.now.candidates) rooms.now →
         Adds (W.spares wants.now) steps.old
         (steps_at (doc_of sources.now) state.now near.now.candidates rooms.now room.now laid.now) steps.new) }
 {
@@ -153,7 +155,7 @@ pub fn text_steps<W: Wants<State = SmallState, Marks = PageMarks>>(
     candidates_give_ends(sources.galley, sources.style);
     let layouts = lay_texts(sources, state, ceiling.as_slice())?;
     let laid = layouts.as_slice();
-    kept.ask_all(sources, laid)?;
+    kept.ask_all(sources, state.place, laid)?;
     let mut steps = StepList::new(sources.alloc);
     add_all(sources, state, known, laid, kept, wants, &mut steps)?;
     Ok(steps)

@@ -1,6 +1,6 @@
 -- What is kept of a place.
 use Rattle.std.proofs.Common.{Ok, Err, Result, ◌≡◌, refl, sym, ap, subst, ◌∙◌, ℕ, zero, suc, ◌+◌, ◌<◌, true, false, Bool, ℤ, pos, ◌+ℤ◌, ◌-ℤ◌, ◌≤ℤ◌, arith, get_or, append-nil, Option, Some, None, IfSome}
-use Rattle.std.specs.Prelude.{◌&&◌, List, [], ◌∷◌, ◌++◌, length, map, take, if◌then◌else◌, Contains, OnOk}
+use Rattle.std.specs.Prelude.{◌&&◌, List, [], ◌∷◌, ◌++◌, length, map, take, if◌then◌else◌, is_some, Contains, OnOk}
 use Rattle.std.specs.Option.{option_map_or}
 use Rattle.std.proofs.lemmas.Int.{ints}
 use Rattle.std.proofs.lemmas.Option.{same_Some}
@@ -16,30 +16,35 @@ use Rattle.pg_lemmas.proofs.Bools.{both, both_of, by_bool, if_false, if_true}
 use Rattle.pg_lemmas.proofs.Lists.{all_append, none_among}
 use Rattle.pg_rooms.specs.declared.laid.Laid.{Laid}
 use Rattle.pg_list.specs.declared.galley.Place.{Place}
-use Rattle.pg_rules.specs.Floats.{gap_stretch}
-use Rattle.pg_rules.specs.Reach.{greatest_areas}
+use Rattle.law_columns.proofs.Gives.{IsPart, IsTo, few_give, shrink_part, skips_to, stretch_part}
+use Rattle.pg_rules.specs.Floats.{gap_shrink, gap_stretch}
+use Rattle.pg_rules.specs.Reach.{greatest_areas, greatest_extra, greatest_skips}
 use Rattle.pg_rules.specs.Room.{Document}
+use Rattle.pg_style.specs.Ranges.{IsStyle}
 use Rattle.pg_style.specs.Values.{StyleValue}
-use Rattle.pg_walk.specs.Fronts.{AreApart, ComesTo, IsFrontWalk, Serves}
+use Rattle.pg_style.specs.declared.style.Gap.{Gap}
+use Rattle.pg_walk.specs.Fronts.{AreApart, IsFrontWalk}
+use Rattle.pg_walk.specs.Straight.{AreStraight, Tells, straight_candidates, tallest_room}
 use Rattle.pg_walk.specs.Moved.{moved_candidate}
 use Rattle.pg_walk.proofs.Lifted.{among_map, origin_of}
-use Rattle.pg_walk.specs.declared.front.Front.{Front}
 use Rattle.pg_walk.specs.declared.front.FrontWalk.{FrontWalk}
+use Rattle.pg_walk.specs.declared.place.FirstWalk.{FirstWalk}
 use Rattle.pg_walk.specs.declared.place.PlaceWalk.{PlaceWalk}
+use Rattle.pg_walk.specs.declared.straight.StraightEnds.{StraightEnds}
 use Rattle.law_walk.specs.Best.{AreBest, Ascend, IsAmong, IsFirst, IsUnder, end_cmp}
 use Rattle.law_walk.specs.Candidates.{AreCandidates, Candidate, has_text, kept_ends, text_ends}
 use Rattle.law_walk.specs.Laws.{CandidatesGiveEnds}
 use Rattle.law_walk.specs.Reached.{tallest}
 use Rattle.law_walk.proofs.BestLaws.{none_best}
 use Rattle.law_walk.proofs.Ends.{kept_all, kept_none}
-use Rattle.pg_candidates.specs.Nears.{AreNear, AreNearOnPages}
+use Rattle.pg_candidates.specs.Nears.{AreNear, AreNearOnPages, NearsValue}
 use Rattle.pg_candidates.specs.RoomEnds.{ends_of}
 use Rattle.pg_candidates.specs.declared.room_end.RoomEnd.{RoomEnd}
 use Rattle.pg_rooms.proofs.Grouped.{all_more}
 use Rattle.pg_rooms.specs.Calls.{AreCalls}
 use Rattle.pg_rooms.proofs.Higher.{kept_moved, lower_room, none_moved}
 use Rattle.pg_rooms.proofs.Joined.{best_append, kept_apart, kept_append}
-use Rattle.pg_rooms.specs.PlaceEnds.{AreFrontEnds, AreGroups, ArePlaceEnds, AreRoomEnds, IsNearOnPages, IsPageRoom, IsSameBehind, all_ends, behind_candidates, ends_behind, ends_in, ends_left, groups_in, has_behind, has_room, higher_end, is_same_room, room_behind}
+use Rattle.pg_rooms.specs.PlaceEnds.{AreFirst, AreFrontEnds, AreGroups, ArePlaceEnds, AreRoomEnds, IsNearOnPages, IsPageRoom, IsSameBehind, all_ends, behind_candidates, ends_behind, ends_in, ends_left, groups_in, has_behind, has_room, higher_end, is_same_room, room_behind}
 use Rattle.pg_rooms.specs.declared.calls.Calls.{Calls}
 use Rattle.pg_rooms.specs.declared.grouping.Group.{Group}
 use Rattle.pg_rooms.specs.declared.behind.Behind.{Behind}
@@ -102,11 +107,11 @@ has_still rooms now it room push h =
     subst (λ (xs : List RoomEnds). has_room xs room ≡ true) (sym push) (has_front rooms (it ∷ []) room h)
 
 -- with it all ends are right
-pub rooms_added : (doc : Document) (cs : List Candidate) (old now : List RoomEnds) (it : RoomEnds) →
-    now ≡ old ++ it ∷ [] → AllByRecursion (AreRoomEnds doc cs) old → AreRoomEnds doc cs it →
-    AllByRecursion (AreRoomEnds doc cs) now
-rooms_added doc cs old now it push are own = subst (AllByRecursion (AreRoomEnds doc cs)) (sym push)
-    (all_append (AreRoomEnds doc cs) old (it ∷ []) are (own, tt))
+pub rooms_added : (doc : Document) (cs listed : List Candidate) (old now : List RoomEnds) (it : RoomEnds) →
+    now ≡ old ++ it ∷ [] → AllByRecursion (AreRoomEnds doc cs listed) old → AreRoomEnds doc cs listed it →
+    AllByRecursion (AreRoomEnds doc cs listed) now
+rooms_added doc cs listed old now it push are own = subst (AllByRecursion (AreRoomEnds doc cs listed)) (sym push)
+    (all_append (AreRoomEnds doc cs listed) old (it ∷ []) are (own, tt))
 
 -- ---- the rooms of layouts
 
@@ -135,17 +140,18 @@ AreBehind doc o = IfSome o (λ (behind : Behind). AreFrontEnds doc behind.ends)
 
 -- a walk is, with the calls of any places
 pub begun : (doc : Document) (from : Place) (it : PlaceEnds) (walk : PlaceWalk) (calls : Calls) → it.walk ≡ walk →
-    it.rooms.items ≡ [] → it.calls ≡ calls → it.behind ≡ None → AreNearOnPages doc from walk.near →
-    AreCalls doc calls.items.items → ArePlaceEnds doc from it
-begun doc from it walk calls w r k b near are = record {
-  near = subst (λ (x : PlaceWalk). IsNearOnPages doc x.near) (sym w) own;
+    it.is_straight ≡ false → it.rooms.items ≡ [] → it.calls ≡ calls → it.behind ≡ None →
+    AreNearOnPages doc from walk.near → AreCalls doc calls.items.items → ArePlaceEnds doc from it
+begun doc from it walk calls w f r k b near are = record {
+  first = near.candidates;
+  are_first = subst (λ (x : PlaceWalk). AreFirst doc from near.candidates it.is_straight x.near) (sym w)
+      (subst (λ (is_straight : Bool). AreFirst doc from near.candidates is_straight walk.near) (sym f)
+      (sym near.near.same, own));
   candidates = subst (λ (o : Option Behind).
-      AreCandidates doc from (tallest doc.style) (it.walk.near.candidates ++ behind_candidates o)) (sym b)
-      (subst (AreCandidates doc from (tallest doc.style)) (sym (append-nil it.walk.near.candidates))
-      (subst (λ (x : PlaceWalk). AreCandidates doc from (tallest doc.style) x.near.candidates) (sym w)
-      (subst (AreCandidates doc from (tallest doc.style)) (sym near.near.same) near.found)));
+      AreCandidates doc from (tallest doc.style) (near.candidates ++ behind_candidates o)) (sym b)
+      (subst (AreCandidates doc from (tallest doc.style)) (sym (append-nil near.candidates)) near.found);
   apart = λ c d a e. absurd (subst (λ (o : Option Behind). IsAmong d (behind_candidates o)) b e);
-  rooms = subst (AllByRecursion (AreRoomEnds doc it.walk.near.candidates)) (sym r) tt;
+  rooms = subst (AllByRecursion (AreRoomEnds doc near.candidates it.walk.near.candidates)) (sym r) tt;
   behind = subst (AreBehind doc) (sym b) tt;
   calls = subst (λ (kept : Calls). AreCalls doc kept.items.items) (sym k) are;
 }
@@ -154,48 +160,103 @@ begun doc from it walk calls w r k b near are = record {
     own = subst (λ (cs : List Candidate). AreNear doc (greatest_areas gap_stretch doc.style) cs walk.near)
         (sym near.near.same) near.near
 
--- a first stretch is, with what is kept behind the front there
-pub before : (doc : Document) (from : Place) (it : PlaceEnds) (walk : PlaceWalk) (front : Front) (behind : Behind)
-    (calls : Calls) → it.walk ≡ walk → it.rooms.items ≡ [] → it.calls ≡ calls → it.behind ≡ Some behind →
-    ComesTo doc from walk.near front → AreFrontEnds doc behind.ends →
-    Serves doc from walk.near behind.by behind.bound behind.ends.walk → AreCalls doc calls.items.items →
-    ArePlaceEnds doc from it
-before doc from it walk front behind calls w r k b comes ends serves are = record {
-  near = subst (λ (x : PlaceWalk). IsNearOnPages doc x.near) (sym w) comes.near;
-  candidates = subst (λ (o : Option Behind).
-      AreCandidates doc from (tallest doc.style) (it.walk.near.candidates ++ behind_candidates o)) (sym b)
-      (subst (λ (x : PlaceWalk).
-      AreCandidates doc from (tallest doc.style) (x.near.candidates ++ behind_candidates (Some behind))) (sym w)
-      serves.candidates);
-  apart = subst (λ (o : Option Behind). AreApart it.walk.near.candidates (behind_candidates o)) (sym b)
-      (subst (λ (x : PlaceWalk). AreApart x.near.candidates (behind_candidates (Some behind))) (sym w) serves.apart);
-  rooms = subst (AllByRecursion (AreRoomEnds doc it.walk.near.candidates)) (sym r) tt;
-  behind = subst (AreBehind doc) (sym b) ends;
-  calls = subst (λ (kept : Calls). AreCalls doc kept.items.items) (sym k) are;
-}
+-- what the first stretch tells of its ends
+pub told_first : (doc : Document) (from : Place) (cs : List Candidate) (first : FirstWalk) → Tells doc from cs first →
+    AreFirst doc from cs (is_some first.straight) first.near
+told_first doc from cs first tells = by first.straight refl tells.straight
+  where
+    by : (o : Option StraightEnds) → first.straight ≡ o → IfSome o (λ it. (first.near.candidates ≡ [])
+        × ((cs ≡ straight_candidates doc from) × ((it.room ≡ tallest_room doc.style) × AreStraight doc from it))) →
+        AreFirst doc from cs (is_some o) first.near
+    by None e told = (sym (tells.near e).0, (tells.near e).1)
+    by (Some it) e told = (told.1.0, told.0)
+
+-- and in the one room of the style
+pub told_rooms : (doc : Document) (from : Place) (cs : List Candidate) (first : FirstWalk) (rooms : List RoomEnds) →
+    Tells doc from cs first → (first.straight ≡ None → rooms ≡ []) →
+    (IfSome first.straight (λ it. (it.room ≡ tallest_room doc.style)
+    × AreBest (text_ends doc it.room cs) (ends_of [] it.ends.items)) → AllByRecursion (AreRoomEnds doc cs []) rooms) →
+    AllByRecursion (AreRoomEnds doc cs first.near.candidates) rooms
+told_rooms doc from cs first rooms tells none are = by first.straight refl tells.straight
+  where
+    by : (o : Option StraightEnds) → first.straight ≡ o → IfSome o (λ it. (first.near.candidates ≡ [])
+        × ((cs ≡ straight_candidates doc from) × ((it.room ≡ tallest_room doc.style) × AreStraight doc from it))) →
+        AllByRecursion (AreRoomEnds doc cs first.near.candidates) rooms
+    by None e told = subst (AllByRecursion (AreRoomEnds doc cs first.near.candidates)) (sym (none e)) tt
+    by (Some it) e told =
+        subst (λ (listed : List Candidate). AllByRecursion (AreRoomEnds doc cs listed) rooms) (sym told.0)
+        (are (subst (λ (o : Option StraightEnds). IfSome o (λ x. (x.room ≡ tallest_room doc.style)
+        × AreBest (text_ends doc x.room cs) (ends_of [] x.ends.items))) (sym e) (
+          told.1.1.0,
+          subst (λ (ds : List Candidate). AreBest (text_ends doc it.room ds) (ends_of [] it.ends.items))
+              (sym told.1.0) told.1.1.1,
+        )))
+
+-- the room of the tallest run with no areas is one of a page
+pub tallest_is_page : (style : StyleValue) → IsStyle style → (room : TextRoom) → room ≡ tallest_room style →
+    IsPageRoom style room
+tallest_is_page style style_in room e = subst (IsPageRoom style) (sym e) (record {
+  low = low style.height (greatest_extra style.runs) (greatest_areas gap_shrink style)
+      (greatest_skips gap_shrink style) (areas_from gap_shrink shrink_part) skips_from;
+  within = record { stretch = areas_from gap_stretch stretch_part; shrink = omega (arith, ints) };
+})
+  where
+    low : (h x a s : ℤ) → pos 0 ≤ℤ a → pos 0 ≤ℤ s → ((h +ℤ x) +ℤ pos 0) ≤ℤ ((h +ℤ x) +ℤ (a +ℤ s))
+    low h x a s i j = omega (arith, ints)
+
+    over : (m x : ℤ) → IsTo m x → pos 0 ≤ℤ m
+    over m x to = past to.0 to.1
+      where
+        past : pos 0 ≤ℤ x → x ≤ℤ m → pos 0 ≤ℤ m
+        past a b = omega (arith, ints)
+
+    plus : (m n : ℤ) → pos 0 ≤ℤ m → pos 0 ≤ℤ n → pos 0 ≤ℤ (m +ℤ n)
+    plus m n a b = omega (arith, ints)
+
+    areas_from : (part : Gap → ℤ) → IsPart part → pos 0 ≤ℤ greatest_areas part style
+    areas_from part sized = plus _ _
+        (over _ _ (few_give part sized style.top style_in.top_in 0 (omega (arith))))
+        (over _ _ (few_give part sized style.bottom style_in.bottom_in 0 (omega (arith))))
+
+    skips_from : pos 0 ≤ℤ greatest_skips gap_shrink style
+    skips_from =
+        let all = skips_to gap_shrink shrink_part [] style.classes style_in.classes_in.each in
+        over _ _ all
+
+-- where the ends are found room by room, none is listed
+pub straight_of : (doc : Document) (from : Place) (cs : List Candidate) (b : Bool) (near : NearsValue) → b ≡ true →
+    AreFirst doc from cs b near → (cs ≡ straight_candidates doc from) × (near.candidates ≡ [])
+straight_of doc from cs true near e a = a
+straight_of doc from cs false near e a = absurd cc
+
+-- and where they are not, all are
+pub listed_of : (doc : Document) (from : Place) (cs : List Candidate) (b : Bool) (near : NearsValue) → b ≡ false →
+    AreFirst doc from cs b near → (cs ≡ near.candidates) × IsNearOnPages doc near
+listed_of doc from cs true near e a = absurd cc
+listed_of doc from cs false near e a = a
 
 -- a walk behind a front is
 pub front_begun : (doc : Document) (it : FrontEnds) (walk : FrontWalk) → it.walk ≡ walk → it.rooms.items ≡ [] →
     IsFrontWalk doc walk → AreFrontEnds doc it
 front_begun doc it walk w r is = record {
   walk = subst (IsFrontWalk doc) (sym w) is;
-  rooms = subst (AllByRecursion (AreRoomEnds doc it.walk.near.candidates)) (sym r) tt;
+  rooms = subst (AllByRecursion (AreRoomEnds doc it.walk.near.candidates it.walk.near.candidates)) (sym r) tt;
 }
 
 -- with rooms asked for there is still the same behind the front
 pub still_kept : (doc : Document) (from : Place) (old new : PlaceEnds) → new.walk ≡ old.walk →
-    behind_candidates new.behind ≡ behind_candidates old.behind → ArePlaceEnds doc from old →
-    AllByRecursion (AreRoomEnds doc old.walk.near.candidates) new.rooms.items → AreBehind doc new.behind →
-    AreCalls doc new.calls.items.items → ArePlaceEnds doc from new
-still_kept doc from old new w b are rooms behind calls = record {
-  near = subst (λ (x : PlaceWalk). IsNearOnPages doc x.near) (sym w) are.near;
-  candidates = subst (λ (ds : List Candidate).
-      AreCandidates doc from (tallest doc.style) (new.walk.near.candidates ++ ds)) (sym b)
-      (subst (λ (x : PlaceWalk). AreCandidates doc from (tallest doc.style)
-      (x.near.candidates ++ behind_candidates old.behind)) (sym w) are.candidates);
-  apart = subst (AreApart new.walk.near.candidates) (sym b)
-      (subst (λ (x : PlaceWalk). AreApart x.near.candidates (behind_candidates old.behind)) (sym w) are.apart);
-  rooms = subst (λ (x : PlaceWalk). AllByRecursion (AreRoomEnds doc x.near.candidates) new.rooms.items) (sym w) rooms;
+    new.is_straight ≡ old.is_straight → behind_candidates new.behind ≡ behind_candidates old.behind →
+    (are : ArePlaceEnds doc from old) → AllByRecursion (AreRoomEnds doc are.first old.walk.near.candidates) new.rooms.items →
+    AreBehind doc new.behind → AreCalls doc new.calls.items.items → ArePlaceEnds doc from new
+still_kept doc from old new w f b are rooms behind calls = record {
+  first = are.first;
+  are_first = subst (λ (x : PlaceWalk). AreFirst doc from are.first new.is_straight x.near) (sym w)
+      (subst (λ (is_straight : Bool). AreFirst doc from are.first is_straight old.walk.near) (sym f) are.are_first);
+  candidates = subst (λ (ds : List Candidate). AreCandidates doc from (tallest doc.style) (are.first ++ ds)) (sym b)
+      are.candidates;
+  apart = subst (AreApart are.first) (sym b) are.apart;
+  rooms = subst (λ (x : PlaceWalk). AllByRecursion (AreRoomEnds doc are.first x.near.candidates) new.rooms.items) (sym w)
+      rooms;
   behind = behind;
   calls = calls;
 }
@@ -271,20 +332,20 @@ joined doc room cs ds bs es apart first rest =
     (kept_apart doc room cs ds apart))
 
 -- in a room that is kept of some candidates
-pub room_best : (doc : Document) (cs : List Candidate) (rooms : List RoomEnds) (room : TextRoom) →
-    AllByRecursion (AreRoomEnds doc cs) rooms → has_room rooms room ≡ true →
-    AreBest (text_ends doc room cs) (ends_of cs (ends_in rooms room))
-room_best doc cs [] room all h = absurd cc
-room_best doc cs (first ∷ rooms) room all h = by_bool (is_same_room first.room room)
+pub room_best : (doc : Document) (cs listed : List Candidate) (rooms : List RoomEnds) (room : TextRoom) →
+    AllByRecursion (AreRoomEnds doc cs listed) rooms → has_room rooms room ≡ true →
+    AreBest (text_ends doc room cs) (ends_of listed (ends_in rooms room))
+room_best doc cs listed [] room all h = absurd cc
+room_best doc cs listed (first ∷ rooms) room all h = by_bool (is_same_room first.room room)
     (λ t. subst AreOf (sym (if_true (is_same_room first.room room) first.ends.items (ends_in rooms room) t))
-    (subst (λ (z : TextRoom). AreBest (text_ends doc z cs) (ends_of cs first.ends.items))
+    (subst (λ (z : TextRoom). AreBest (text_ends doc z cs) (ends_of listed first.ends.items))
     (same_is first.room room t) all.0.best))
     (λ f. subst AreOf (sym (if_false (is_same_room first.room room) first.ends.items (ends_in rooms room) f))
-    (room_best doc cs rooms room all.1
+    (room_best doc cs listed rooms room all.1
     (sym (if_false (is_same_room first.room room) true (has_room rooms room) f) ∙ h)))
   where
     AreOf : List RoomEnd → Type 0
-    AreOf ends = AreBest (text_ends doc room cs) (ends_of cs ends)
+    AreOf ends = AreBest (text_ends doc room cs) (ends_of listed ends)
 
 module _ (doc : Document) (room : TextRoom) (text : has_text doc.style room ≡ true) where
   left_best : (it : Behind) → AreFrontEnds doc it.ends → has_behind (Some it) room ≡ true →
@@ -296,8 +357,8 @@ module _ (doc : Document) (room : TextRoom) (text : has_text doc.style room ≡ 
       option_map_or (λ (r : TextRoom). map (higher_end it.by) (ends_left it r)) o []) left))
       (subst (λ (es : List End). AreBest es (map (higher_end it.by) (ends_left it (lower_room it.by room))))
       (sym (kept_moved doc room it.by it.bound text f it.ends.walk.near.candidates))
-      (best_higher it.by _ _ (room_best doc it.ends.walk.near.candidates it.ends.rooms.items (lower_room it.by room)
-      are.rooms (sym (ap (λ (o : Option TextRoom). option_map_or (has_room it.ends.rooms.items) o true) left) ∙ h)))))
+      (best_higher it.by _ _ (room_best doc it.ends.walk.near.candidates it.ends.walk.near.candidates it.ends.rooms.items
+      (lower_room it.by room) are.rooms (sym (ap (λ (o : Option TextRoom). option_map_or (has_room it.ends.rooms.items) o true) left) ∙ h)))))
       (λ f.
       let left = if_false (fits it.bound (most_room room)) (Some (lower_room it.by room)) None f in
       subst (AreBest (kept_ends doc room (behind_candidates (Some it)))) (sym (ap (λ (o : Option TextRoom).
@@ -310,15 +371,15 @@ module _ (doc : Document) (room : TextRoom) (text : has_text doc.style room ≡ 
   behind_best None are h = none_best
   behind_best (Some it) are h = left_best it are h
 
-  both_best : (from : Place) (it : PlaceEnds) → ArePlaceEnds doc from it → has_room it.rooms.items room ≡ true →
+  both_best : (from : Place) (it : PlaceEnds) (are : ArePlaceEnds doc from it) → has_room it.rooms.items room ≡ true →
       has_behind it.behind room ≡ true →
-      AreBest (kept_ends doc room (it.walk.near.candidates ++ behind_candidates it.behind))
+      AreBest (kept_ends doc room (are.first ++ behind_candidates it.behind))
       (ends_of it.walk.near.candidates (ends_in it.rooms.items room) ++ ends_behind it.behind room)
   both_best from it are h b =
-      joined doc room it.walk.near.candidates (behind_candidates it.behind) _ _ are.apart
+      joined doc room are.first (behind_candidates it.behind) _ _ are.apart
       (subst (λ (es : List End). AreBest es (ends_of it.walk.near.candidates (ends_in it.rooms.items room)))
-      (sym (kept_all doc room text it.walk.near.candidates))
-      (room_best doc it.walk.near.candidates it.rooms.items room are.rooms h))
+      (sym (kept_all doc room text are.first))
+      (room_best doc are.first it.walk.near.candidates it.rooms.items room are.rooms h))
       (behind_best it.behind are.behind b)
 
 -- all ends in a room that was asked for, where it is not below the least one
@@ -328,25 +389,26 @@ pub room_right : (doc : Document) → CandidatesGiveEnds doc → (from : Place) 
     (has_text doc.style room ≡ true → has_behind it.behind room ≡ true) →
     AreEnds doc from room (all_ends doc.style it room)
 room_right doc law from it room page are h b =
-    law from (tallest doc.style) room (it.walk.near.candidates ++ behind_candidates it.behind)
+    law from (tallest doc.style) room (are.first ++ behind_candidates it.behind)
     (all_ends doc.style it room) page.low are.candidates
     (by_bool (has_text doc.style room)
-    (λ t. subst (AreBest (kept_ends doc room (it.walk.near.candidates ++ behind_candidates it.behind)))
+    (λ t. subst (AreBest (kept_ends doc room (are.first ++ behind_candidates it.behind)))
     (sym (if_true (has_text doc.style room)
     (ends_of it.walk.near.candidates (ends_in it.rooms.items room) ++ ends_behind it.behind room) [] t))
     (both_best doc room t from it are (h t) (b t)))
-    (λ f. subst (AreBest (kept_ends doc room (it.walk.near.candidates ++ behind_candidates it.behind)))
+    (λ f. subst (AreBest (kept_ends doc room (are.first ++ behind_candidates it.behind)))
     (sym (if_false (has_text doc.style room)
     (ends_of it.walk.near.candidates (ends_in it.rooms.items room) ++ ends_behind it.behind room) [] f))
     (subst (λ (es : List End). AreBest es [])
-    (sym (kept_none doc room f (it.walk.near.candidates ++ behind_candidates it.behind))) none_best)))
+    (sym (kept_none doc room f (are.first ++ behind_candidates it.behind))) none_best)))
 
 -- the groups of ends, also where the room is not kept
-pub groups_right : (doc : Document) (cs : List Candidate) (rooms : List RoomEnds) (room : TextRoom) →
-    AllByRecursion (AreRoomEnds doc cs) rooms → AreGroups doc (groups_in rooms room) (ends_in rooms room)
-groups_right doc cs [] room all = refl
-groups_right doc cs (first ∷ rooms) room all = either (is_same_room first.room room) first.groups.items
-    (groups_in rooms room) first.ends.items (ends_in rooms room) all.0.groups (groups_right doc cs rooms room all.1)
+pub groups_right : (doc : Document) (cs listed : List Candidate) (rooms : List RoomEnds) (room : TextRoom) →
+    AllByRecursion (AreRoomEnds doc cs listed) rooms → AreGroups doc (groups_in rooms room) (ends_in rooms room)
+groups_right doc cs listed [] room all = refl
+groups_right doc cs listed (first ∷ rooms) room all = either (is_same_room first.room room) first.groups.items
+    (groups_in rooms room) first.ends.items (ends_in rooms room) all.0.groups
+    (groups_right doc cs listed rooms room all.1)
   where
     either : (b : Bool) (gs hs : List Group) (xs ys : List RoomEnd) → AreGroups doc gs xs → AreGroups doc hs ys →
         AreGroups doc (if b then gs else hs) (if b then xs else ys)

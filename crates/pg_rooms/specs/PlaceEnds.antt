@@ -21,6 +21,7 @@ use Rattle.pg_candidates.specs.declared.room_end.RoomEnd.{RoomEnd}
 use Rattle.pg_sources.specs.Document.{before_of}
 use Rattle.pg_walk.specs.Fronts.{AreApart, IsFrontWalk}
 use Rattle.pg_walk.specs.Moved.{moved_candidate}
+use Rattle.pg_walk.specs.Straight.{straight_candidates}
 use Rattle.pg_rooms.specs.Calls.{AreCalls}
 use Rattle.pg_rooms.specs.declared.grouping.Group.{Group}
 use Rattle.pg_rooms.specs.declared.behind.Behind.{Behind}
@@ -45,16 +46,17 @@ AreGroups doc (group ∷ groups) ends =
 abbrev pub IsNearOnPages : Document → NearsValue → Type 0
 IsNearOnPages doc near = AreNear doc (greatest_areas gap_stretch doc.style) near.candidates near
 
--- the best ends of these candidates in a room of a page or in what one leaves, and their groups
-pub record AreRoomEnds (doc : Document) (cs : List Candidate) (it : RoomEnds) : Type 0 where
+-- the best ends of these candidates in a room of a page or in what one leaves, with picks by number from a list, and their
+-- groups
+pub record AreRoomEnds (doc : Document) (cs listed : List Candidate) (it : RoomEnds) : Type 0 where
   pub page : IsPageRoom doc.style it.room
-  pub best : AreBest (text_ends doc it.room cs) (ends_of cs it.ends.items)
+  pub best : AreBest (text_ends doc it.room cs) (ends_of listed it.ends.items)
   pub groups : AreGroups doc it.groups.items it.ends.items
 
 -- what is kept behind a front: its walk, and the ends in some rooms
 pub record AreFrontEnds (doc : Document) (it : FrontEnds) : Type 0 where
   pub walk : IsFrontWalk doc it.walk
-  pub rooms : AllByRecursion (AreRoomEnds doc it.walk.near.candidates) it.rooms.items
+  pub rooms : AllByRecursion (AreRoomEnds doc it.walk.near.candidates it.walk.near.candidates) it.rooms.items
 
 -- its candidates, as columns from a place come there
 abbrev pub behind_candidates : Option Behind → List Candidate
@@ -67,13 +69,20 @@ pub record IsSameBehind (a b : Behind) : Type 0 where
   pub by : b.by ≡ a.by
   pub bound : b.bound ≡ a.bound
 
+-- candidates from a place up to the first choice: those that are listed with what no room changes of each, or, where the ends
+-- are found room by room, all along the first stretch, and none is listed
+abbrev pub AreFirst : Document → Place → List Candidate → Bool → NearsValue → Type 0
+AreFirst doc from cs true near = (cs ≡ straight_candidates doc from) × (near.candidates ≡ [])
+AreFirst doc from cs false near = (cs ≡ near.candidates) × IsNearOnPages doc near
+
 -- what a place keeps: candidates that suffice, those behind the front last, the ends in some rooms, and what is called
 -- before them
 pub record ArePlaceEnds (doc : Document) (from : Place) (it : PlaceEnds) : Type 0 where
-  pub near : IsNearOnPages doc it.walk.near
-  pub candidates : AreCandidates doc from (tallest doc.style) (it.walk.near.candidates ++ behind_candidates it.behind)
-  pub apart : AreApart it.walk.near.candidates (behind_candidates it.behind)
-  pub rooms : AllByRecursion (AreRoomEnds doc it.walk.near.candidates) it.rooms.items
+  pub first : List Candidate
+  pub are_first : AreFirst doc from first it.is_straight it.walk.near
+  pub candidates : AreCandidates doc from (tallest doc.style) (first ++ behind_candidates it.behind)
+  pub apart : AreApart first (behind_candidates it.behind)
+  pub rooms : AllByRecursion (AreRoomEnds doc first it.walk.near.candidates) it.rooms.items
   pub behind : IfSome it.behind (λ (behind : Behind). AreFrontEnds doc behind.ends)
   pub calls : AreCalls doc it.calls.items.items
 

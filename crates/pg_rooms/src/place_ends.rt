@@ -1,14 +1,20 @@
 //! The ends in the rooms of a place.
-ghost use Rattle.std.specs.Prelude.{◌≡◌, [], true, is_some, Contains, IfOk, MatchOption, None, OnOk, Some};
+ghost use Rattle.std.specs.Prelude.{◌≡◌, ◌++◌, [], true, false, is_some, Contains, IfOk, IfSome, List, MatchOption, None, OnOk};
 ghost use Rattle.std.specs.List.{AllByRecursion};
 ghost use Rattle.pg_list.specs.declared.galley.Place.{Place as APlace};
 ghost use Rattle.pg_column.specs.Numbers.{IsRoom};
 ghost use Rattle.pg_column.specs.declared.cost.TextRoom.{TextRoom as ATextRoom};
-ghost use Rattle.law_walk.specs.Candidates.{has_text as has_text_of};
+ghost use Rattle.pg_rules.specs.IsState.{IsPlace};
+ghost use Rattle.law_walk.specs.Best.{AreBest};
+ghost use Rattle.law_walk.specs.Candidates.{AreCandidates, Candidate, has_text as has_text_of, text_ends};
+ghost use Rattle.law_walk.specs.Reached.{tallest};
+ghost use Rattle.pg_candidates.specs.RoomEnds.{ends_of};
+ghost use Rattle.pg_walk.specs.Fronts.{AreApart};
+ghost use Rattle.pg_walk.specs.Straight.{Tells, straight_candidates, tallest_room};
 ghost use Rattle.pg_rooms.specs.declared.laid.Laid.{Laid as ALaid};
 ghost use Rattle.pg_sources.specs.Document.{doc_of};
 ghost use Rattle.pg_rooms.specs.Calls.{AreCalls};
-ghost use Rattle.pg_rooms.specs.PlaceEnds.{ArePlaceEnds, AreRoomEnds, IsNearOnPages, IsPageRoom, ends_in as ends_in_of, groups_in as groups_in_of, has_behind, has_room, is_same_room};
+ghost use Rattle.pg_rooms.specs.PlaceEnds.{AreFirst, AreFrontEnds, ArePlaceEnds, AreRoomEnds, IsNearOnPages, IsPageRoom, behind_candidates, ends_in as ends_in_of, groups_in as groups_in_of, has_behind, has_room, is_same_room};
 
 use crate::Laid;
 use crate::behind::Behind;
@@ -17,8 +23,9 @@ use crate::grouping::{Group, group_ends};
 use crate::left::ask_behind;
 use pg_candidates::{NearList, RoomEnd, has_text};
 use pg_column::TextRoom;
+use pg_list::Place;
 use pg_sources::Sources;
-use pg_walk::PlaceWalk;
+use pg_walk::{FirstWalk, PlaceWalk, StraightEnds, straight_ends};
 use std::alloc::{AllocError, Global};
 
 /// The ends in a room, of the candidates of a place, and their groups.
@@ -50,6 +57,8 @@ impl RoomEnds {
 #[derive(Drop)]
 pub struct PlaceEnds {
     pub walk: PlaceWalk,
+    /// Whether the ends along the first stretch are found room by room, and not among candidates.
+    pub is_straight: bool,
     pub rooms: Vec<RoomEnds>,
     pub calls: Calls,
     pub behind: Option<Behind>,
@@ -73,31 +82,42 @@ fn kept<'a>(rooms: &'a [RoomEnds], room: &TextRoom) -> Option<&'a RoomEnds>
     None
 }
 
-// The ends in a room, in groups.
-fn room_ends(
+// Whether the ends in a room are kept.
+fn is_kept(rooms: &[RoomEnds], room: &TextRoom) -> bool
+    ensures { result ≡ has_room rooms.now room.now }
+{
+    kept(rooms, room).is_some()
+}
+
+// Keeps the ends in a room, in groups.
+fn keep_room(
     sources: &Sources<'_>,
-    near: &NearList,
     room: &TextRoom,
+    ends: Vec<RoomEnd>,
+    rooms: &mut Vec<RoomEnds>,
     calls: &mut Calls,
-) -> Result<RoomEnds, AllocError>
-    requires { IsRoom room.now }
-    ensures room { IfOk result (λ it. it.room ≡ room.now) }
-    ensures right { IfOk result (λ it. IsNearOnPages (doc_of sources.now) near.now →
+) -> Result<(), AllocError>
+    ensures has { OnOk result (has_room rooms.new.items room.now ≡ true) }
+    ensures keeps { OnOk result ((other : ATextRoom) → has_room rooms.old.items other ≡ true →
+        has_room rooms.new.items other ≡ true) }
+    ensures right { OnOk result ((cs ps : List Candidate) →
+        AreBest (text_ends (doc_of sources.now) room.now cs) (ends_of ps ends.items) →
         IsPageRoom sources.now.style.now room.now → AreCalls (doc_of sources.now) calls.old.items.items →
-        AreRoomEnds (doc_of sources.now) near.now.candidates it) }
+        AllByRecursion (AreRoomEnds (doc_of sources.now) cs ps) rooms.old.items →
+        AllByRecursion (AreRoomEnds (doc_of sources.now) cs ps) rooms.new.items) }
     ensures calls { OnOk result (AreCalls (doc_of sources.now) calls.old.items.items →
         AreCalls (doc_of sources.now) calls.new.items.items) }
 {
-    let ends = near.text_ends(sources.alloc, sources.style, room)?;
     let groups = group_ends(sources, calls, ends.as_slice())?;
-    Ok(RoomEnds {
+    rooms.push(RoomEnds {
         room: *room,
         ends,
         groups,
-    })
+    })?;
+    Ok(())
 }
 
-/// Works out the ends in a room, where they are not kept yet.
+/// Works out the ends in a room from candidates, where they are not kept yet.
 pub(crate) fn add_room(
     sources: &Sources<'_>,
     near: &NearList,
@@ -111,41 +131,98 @@ pub(crate) fn add_room(
         has_room rooms.new.items other ≡ true) }
     ensures right { OnOk result (IsNearOnPages (doc_of sources.now) near.now →
         IsPageRoom sources.now.style.now room.now → AreCalls (doc_of sources.now) calls.old.items.items →
-        AllByRecursion (AreRoomEnds (doc_of sources.now) near.now.candidates) rooms.old.items →
-        AllByRecursion (AreRoomEnds (doc_of sources.now) near.now.candidates) rooms.new.items) }
+        AllByRecursion (AreRoomEnds (doc_of sources.now) near.now.candidates near.now.candidates) rooms.old.items →
+        AllByRecursion (AreRoomEnds (doc_of sources.now) near.now.candidates near.now.candidates) rooms.new.items) }
     ensures calls { OnOk result (AreCalls (doc_of sources.now) calls.old.items.items →
         AreCalls (doc_of sources.now) calls.new.items.items) }
 {
-    if kept(rooms.as_slice(), room).is_some() {
+    if is_kept(rooms.as_slice(), room) {
         return Ok(());
     }
-    let ends = room_ends(sources, near, room, calls)?;
-    rooms.push(ends)?;
-    Ok(())
+    let ends = near.text_ends(sources.alloc, sources.style, room)?;
+    keep_room(sources, room, ends, rooms, calls)
 }
 
-// Works out the ends in a room that is not below the least one, where they are not kept yet.
+// Works out the ends in a room along the first stretch from a place by a walk, where they are not kept yet.
+fn add_straight(
+    sources: &Sources<'_>,
+    from: Place,
+    room: &TextRoom,
+    rooms: &mut Vec<RoomEnds>,
+    calls: &mut Calls,
+) -> Result<(), AllocError>
+    requires place { IsPlace sources.now.galley.now.blocks from }
+    requires room { IsRoom room.now }
+    ensures has { OnOk result (has_room rooms.new.items room.now ≡ true) }
+    ensures keeps { OnOk result ((other : ATextRoom) → has_room rooms.old.items other ≡ true →
+        has_room rooms.new.items other ≡ true) }
+    ensures right { OnOk result (IsPageRoom sources.now.style.now room.now →
+        AreCalls (doc_of sources.now) calls.old.items.items →
+        AllByRecursion (AreRoomEnds (doc_of sources.now) (straight_candidates (doc_of sources.now) from) []) rooms.old.items →
+        AllByRecursion (AreRoomEnds (doc_of sources.now) (straight_candidates (doc_of sources.now) from) [])
+        rooms.new.items) }
+    ensures calls { OnOk result (AreCalls (doc_of sources.now) calls.old.items.items →
+        AreCalls (doc_of sources.now) calls.new.items.items) }
+{
+    if is_kept(rooms.as_slice(), room) {
+        return Ok(());
+    }
+    let straight = straight_ends(sources.alloc, sources.galley, sources.style, from, room)?;
+    keep_room(sources, room, straight.ends, rooms, calls)
+}
+
+// The ends in the one room of the style, where the first stretch tells them.
+fn first_rooms(
+    sources: &Sources<'_>,
+    straight: Option<StraightEnds>,
+    calls: &mut Calls,
+) -> Result<Vec<RoomEnds>, AllocError>
+    ensures none { IfOk result (λ rooms. straight ≡ None → rooms.items ≡ []) }
+    ensures right { IfOk result (λ rooms. (cs : List Candidate) → IfSome straight (λ it.
+        (it.room ≡ tallest_room sources.now.style.now)
+        × AreBest (text_ends (doc_of sources.now) it.room cs) (ends_of [] it.ends.items)) →
+        AreCalls (doc_of sources.now) calls.old.items.items →
+        AllByRecursion (AreRoomEnds (doc_of sources.now) cs []) rooms.items) }
+    ensures calls { OnOk result (AreCalls (doc_of sources.now) calls.old.items.items →
+        AreCalls (doc_of sources.now) calls.new.items.items) }
+{
+    sources.style.stays_in_range();
+    let mut rooms = Vec::new(sources.alloc);
+    let Some(StraightEnds { room, ends }) = straight else {
+        return Ok(rooms);
+    };
+    keep_room(sources, &room, ends, &mut rooms, calls)?;
+    Ok(rooms)
+}
+
+// Works out the ends in a room that is not below the least one, where they are not kept yet: by a walk, or from candidates.
 fn ask_room(
     sources: &Sources<'_>,
+    from: Place,
+    is_straight: bool,
     near: &NearList,
     room: &TextRoom,
     rooms: &mut Vec<RoomEnds>,
     calls: &mut Calls,
 ) -> Result<(), AllocError>
-    requires { IsRoom room.now }
+    requires place { IsPlace sources.now.galley.now.blocks from }
+    requires room { IsRoom room.now }
     ensures has { OnOk result (has_text_of sources.now.style.now room.now ≡ true →
         has_room rooms.new.items room.now ≡ true) }
     ensures keeps { OnOk result ((other : ATextRoom) → has_room rooms.old.items other ≡ true →
         has_room rooms.new.items other ≡ true) }
-    ensures right { OnOk result (IsNearOnPages (doc_of sources.now) near.now →
+    ensures right { OnOk result ((cs : List Candidate) → AreFirst (doc_of sources.now) from cs is_straight near.now →
         IsPageRoom sources.now.style.now room.now → AreCalls (doc_of sources.now) calls.old.items.items →
-        AllByRecursion (AreRoomEnds (doc_of sources.now) near.now.candidates) rooms.old.items →
-        AllByRecursion (AreRoomEnds (doc_of sources.now) near.now.candidates) rooms.new.items) }
+        AllByRecursion (AreRoomEnds (doc_of sources.now) cs near.now.candidates) rooms.old.items →
+        AllByRecursion (AreRoomEnds (doc_of sources.now) cs near.now.candidates) rooms.new.items) }
     ensures calls { OnOk result (AreCalls (doc_of sources.now) calls.old.items.items →
         AreCalls (doc_of sources.now) calls.new.items.items) }
 {
     if !has_text(sources.style, room) {
         return Ok(());
+    }
+    if is_straight {
+        return add_straight(sources, from, room, rooms, calls);
     }
     add_room(sources, near, room, rooms, calls)
 }
@@ -153,24 +230,27 @@ fn ask_room(
 // Works out the ends in the rooms of layouts that are not below the least one, where they are not kept yet.
 fn add_rooms(
     sources: &Sources<'_>,
+    from: Place,
+    is_straight: bool,
     near: &NearList,
     laid: &[Laid],
     rooms: &mut Vec<RoomEnds>,
     calls: &mut Calls,
 ) -> Result<(), AllocError>
+    requires place { IsPlace sources.now.galley.now.blocks from }
     requires small { AllByRecursion (λ (it : ALaid). IsRoom it.room) laid.now }
     ensures has { OnOk result ((it : ALaid) → Contains laid.now it → has_text_of sources.now.style.now it.room ≡ true →
         has_room rooms.new.items it.room ≡ true) }
-    ensures right { OnOk result (IsNearOnPages (doc_of sources.now) near.now →
+    ensures right { OnOk result ((cs : List Candidate) → AreFirst (doc_of sources.now) from cs is_straight near.now →
         AllByRecursion (λ (it : ALaid). IsPageRoom sources.now.style.now it.room) laid.now →
         AreCalls (doc_of sources.now) calls.old.items.items →
-        AllByRecursion (AreRoomEnds (doc_of sources.now) near.now.candidates) rooms.old.items →
-        AllByRecursion (AreRoomEnds (doc_of sources.now) near.now.candidates) rooms.new.items) }
+        AllByRecursion (AreRoomEnds (doc_of sources.now) cs near.now.candidates) rooms.old.items →
+        AllByRecursion (AreRoomEnds (doc_of sources.now) cs near.now.candidates) rooms.new.items) }
     ensures calls { OnOk result (AreCalls (doc_of sources.now) calls.old.items.items →
         AreCalls (doc_of sources.now) calls.new.items.items) }
 {
     for it in laid {
-        ask_room(sources, near, &it.room, rooms, calls)?;
+        ask_room(sources, from, is_straight, near, &it.room, rooms, calls)?;
     }
     Ok(())
 }
@@ -199,50 +279,80 @@ impl PlaceEnds {
     /// A walk, with no room asked for, and calls of any places. No memory is taken.
     pub fn new(alloc: Global, walk: PlaceWalk, calls: Calls) -> PlaceEnds
         ensures walk { result.walk ≡ walk }
+        ensures listed { result.is_straight ≡ false }
         ensures rooms { result.rooms.items ≡ [] }
         ensures calls { result.calls ≡ calls }
         ensures behind { result.behind ≡ None }
     {
         PlaceEnds {
             walk,
+            is_straight: false,
             rooms: Vec::new(alloc),
             calls,
             behind: None,
         }
     }
 
-    /// The ends along the first stretch from a place, with no room asked for, what is kept behind the front there, and calls
-    /// of any places. No memory is taken.
-    pub fn before(alloc: Global, walk: PlaceWalk, behind: Behind, calls: Calls) -> PlaceEnds
-        ensures walk { result.walk ≡ walk }
-        ensures rooms { result.rooms.items ≡ [] }
-        ensures calls { result.calls ≡ calls }
-        ensures behind { result.behind ≡ Some behind }
+    /// What the first stretch from a place tells, what is kept behind the front there, if columns come to one, and calls of any
+    /// places. The one refusal is want of memory.
+    pub fn of_first(
+        sources: &Sources<'_>,
+        first: FirstWalk,
+        reach: u32,
+        behind: Option<Behind>,
+        calls: Calls,
+    ) -> Result<PlaceEnds, AllocError>
+        ensures reach { IfOk result (λ it. it.walk.reach ≡ reach) }
+        ensures right { IfOk result (λ it. (from : APlace) (cs : List Candidate) → Tells (doc_of sources.now) from cs first →
+            AreCandidates (doc_of sources.now) from (tallest sources.now.style.now) (cs ++ behind_candidates behind) →
+            AreApart cs (behind_candidates behind) → AreCalls (doc_of sources.now) calls.items.items →
+            IfSome behind (λ it. AreFrontEnds (doc_of sources.now) it.ends) → ArePlaceEnds (doc_of sources.now) from it) }
     {
-        PlaceEnds {
-            walk,
-            rooms: Vec::new(alloc),
+        let mut calls = calls;
+        let FirstWalk { near, straight, .. } = first;
+        let is_straight = straight.is_some();
+        let rooms = first_rooms(sources, straight, &mut calls)?;
+        Ok(PlaceEnds {
+            walk: PlaceWalk { near, reach },
+            is_straight,
+            rooms,
             calls,
-            behind: Some(behind),
-        }
+            behind,
+        })
     }
 
     /// Works out the ends in the rooms of layouts that are not below the least one, where they are not kept yet.
     ///
-    /// Condition: the numbers of each room are below 2^40 in size. The one refusal is want of memory.
-    pub fn ask_all(&mut self, sources: &Sources<'_>, laid: &[Laid]) -> Result<(), AllocError>
+    /// Conditions: the place is the one of which this is kept, and the numbers of each room are below 2^40 in size. The one
+    /// refusal is want of memory.
+    pub fn ask_all(
+        &mut self,
+        sources: &Sources<'_>,
+        from: Place,
+        laid: &[Laid],
+    ) -> Result<(), AllocError>
+        requires place { IsPlace sources.now.galley.now.blocks from }
         requires small { AllByRecursion (λ (it : ALaid). IsRoom it.room) laid.now }
         ensures walk { OnOk result (self.new.walk ≡ self.old.walk) }
         ensures has { OnOk result ((it : ALaid) → Contains laid.now it → has_text_of sources.now.style.now it.room ≡ true →
             has_room self.new.rooms.items it.room ≡ true) }
         ensures behind { OnOk result ((it : ALaid) → Contains laid.now it → has_text_of sources.now.style.now it.room ≡ true →
             has_behind self.new.behind it.room ≡ true) }
-        ensures right { OnOk result ((from : APlace) →
+        ensures right { OnOk result (
             AllByRecursion (λ (it : ALaid). IsPageRoom sources.now.style.now it.room) laid.now →
             ArePlaceEnds (doc_of sources.now) from self.old → ArePlaceEnds (doc_of sources.now) from self.new) }
     {
         let near = &self.walk.near;
-        add_rooms(sources, near, laid, &mut self.rooms, &mut self.calls)?;
+        let rooms = &mut self.rooms;
+        add_rooms(
+            sources,
+            from,
+            self.is_straight,
+            near,
+            laid,
+            rooms,
+            &mut self.calls,
+        )?;
         ask_behind(sources, laid, &mut self.behind, &mut self.calls)
     }
 }

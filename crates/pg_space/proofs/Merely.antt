@@ -1,27 +1,28 @@
 -- What is kept of a place is kept for an equal document.
-use Rattle.std.proofs.Common.{◌≡◌, ◌∙◌, sym, ap, subst, List, [], true, Option, Some, IfSome, ℕ, ℤ}
+use Rattle.std.proofs.Common.{◌≡◌, ◌∙◌, sym, ap, subst, append-nil, List, [], ◌++◌, true, Option, Some, IfSome, ℕ, ℤ}
 use Rattle.std.proofs.Props.{props}
-use Rattle.std.proofs.Math.Logic.{∥∥₁_elim, ∥∥₁_map₂}
+use Rattle.std.proofs.Math.Logic.{∥∥₁_elim, ∥∥₁_map, ∥∥₁_map₂}
 use Rattle.pg_list.specs.GalleyValue.{GalleyValue}
 use Rattle.pg_list.specs.declared.galley.Place.{Place}
 use Rattle.pg_style.specs.Values.{StyleValue}
 use Rattle.pg_hops.specs.declared.state.State.{State}
 use Rattle.pg_rules.specs.Legal.{document}
 use Rattle.pg_rooms.specs.Calls.{AreCalls}
-use Rattle.pg_rooms.specs.PlaceEnds.{AreFrontEnds, ArePlaceEnds}
-use Rattle.pg_rooms.proofs.Kept.{before}
+use Rattle.pg_rooms.specs.PlaceEnds.{AreFrontEnds, ArePlaceEnds, behind_candidates}
 use Rattle.pg_rules.specs.IsState.{IsPlace}
 use Rattle.pg_rules.specs.Room.{Document}
 use Rattle.law_space.specs.ReachAt.{reach_at}
 use Rattle.law_space.specs.ReachLaws.{IsTheReach}
+use Rattle.law_walk.specs.Candidates.{AreCandidates, Candidate}
 use Rattle.law_walk.specs.Reached.{quiet, tallest}
 use Rattle.law_walk.specs.Space.{WalkState}
 use Rattle.pg_walk.specs.Blocks.{IsBegun}
-use Rattle.pg_walk.specs.Fronts.{ComesTo, FrontsServe, IsReachBehind, ReachesServe, is_same_state}
+use Rattle.pg_walk.specs.Straight.{Tells, TellsAll, straight_candidates}
+use Rattle.pg_walk.specs.Fronts.{AreApart, ComesTo, FrontsServe, IsReachBehind, ReachesServe, is_same_state}
 use Rattle.pg_walk.specs.Meaning.{state_of}
 use Rattle.pg_walk.specs.Moved.{IsMoved}
 use Rattle.pg_walk.specs.declared.front.Front.{Front}
-use Rattle.pg_walk.specs.declared.place.PlaceWalk.{PlaceWalk}
+use Rattle.pg_walk.specs.declared.place.FirstWalk.{FirstWalk}
 use Rattle.pg_walk.proofs.Behind.{same_state}
 use Rattle.pg_rooms.specs.declared.calls.Calls.{Calls}
 use Rattle.pg_rooms.specs.declared.calls.Call.{Call}
@@ -63,20 +64,23 @@ one_reach m n = hlevel props
 
 module _ (g h : GalleyValue) (s t : StyleValue) (p : g ≡ h) (q : s ≡ t) (from : Place) (at : IsPlace g.blocks from) where
   -- a first stretch with what is merely known to be kept behind the front there, from a state that is moved to it
-  pub before_front : (it : PlaceEnds) (walk : PlaceWalk) (front : Front) (base : State) (height : ℤ)
+  pub before_front : (it : PlaceEnds) (first : FirstWalk) (front : Front) (base : State) (height : ℤ)
       (bound : Option ℤ) (ends : FrontEnds) (behind : Behind) (calls : Calls) → FrontsServe (document g s) →
-      ComesTo (document g s) from walk.near front → IsMoved height bound (state_of base) (state_of front.start) →
+      ComesTo (document g s) from first front → IsMoved height bound (state_of base) (state_of front.start) →
       is_same_state (state_of ends.walk.base) (state_of base) ≡ true → ∥ AreFrontEnds (document h t) ends ∥₁ →
-      behind.ends ≡ ends → behind.by ≡ height → behind.bound ≡ bound → it.walk ≡ walk → it.rooms.items ≡ [] →
-      it.calls ≡ calls → it.behind ≡ Some behind → ∥ AreCalls (document h t) calls.items.items ∥₁ →
+      behind.ends ≡ ends → behind.by ≡ height → behind.bound ≡ bound → ∥ AreCalls (document h t) calls.items.items ∥₁ →
+      ((at : Place) (cs : List Candidate) → Tells (document g s) at cs first →
+      AreCandidates (document g s) at (tallest s) (cs ++ behind_candidates (Some behind)) →
+      AreApart cs (behind_candidates (Some behind)) → AreCalls (document g s) calls.items.items →
+      AreFrontEnds (document g s) behind.ends → ArePlaceEnds (document g s) at it) →
       ∥ ArePlaceEnds (document h t) from it ∥₁
-  before_front it walk front base height bound ends behind calls law comes moved alike right e b o w r k is called =
+  before_front it first front base height bound ends behind calls law comes moved alike right e b o called made =
       ∥∥₁_map₂ right called (λ are those.
+      let serves = law from front behind.by behind.bound behind.ends.walk at comes.ahead there (here are).walk in
       of_equal (λ (a : GalleyValue) (b : StyleValue). ArePlaceEnds (document a b) from it) g h s t p q
-      (before (document g s) from it walk front behind calls w r k is comes (here are)
-      (law from walk.near front behind.by behind.bound behind.ends.walk at comes there (here are).walk)
+      (made from (straight_candidates (document g s) from) comes.tells serves.candidates serves.apart
       (of_equal (λ (a : GalleyValue) (b : StyleValue). AreCalls (document a b) calls.items.items) h g t s
-      (sym p) (sym q) those)))
+      (sym p) (sym q) those) (here are)))
     where
       here : AreFrontEnds (document h t) ends → AreFrontEnds (document g s) behind.ends
       here are = subst (AreFrontEnds (document g s)) (sym e)
@@ -89,6 +93,21 @@ module _ (g h : GalleyValue) (s t : StyleValue) (p : g ≡ h) (q : s ≡ t) (fro
       there = subst (λ (z : ℤ). IsMoved z behind.bound (state_of behind.ends.walk.base) (state_of front.start)) (sym b)
           (subst (λ (x : Option ℤ). IsMoved height x (state_of behind.ends.walk.base) (state_of front.start)) (sym o)
           (subst (λ (u : WalkState). IsMoved height bound u (state_of front.start)) (sym same) moved))
+
+  -- a first stretch behind which there is no choice
+  pub alone : (it : PlaceEnds) (first : FirstWalk) (calls : Calls) → TellsAll (document g s) from first →
+      ∥ AreCalls (document h t) calls.items.items ∥₁ →
+      ((at : Place) (cs : List Candidate) → Tells (document g s) at cs first →
+      AreCandidates (document g s) at (tallest s) (cs ++ []) → AreApart cs [] →
+      AreCalls (document g s) calls.items.items → Unit {0} → ArePlaceEnds (document g s) at it) →
+      ∥ ArePlaceEnds (document h t) from it ∥₁
+  alone it first calls tells called made = ∥∥₁_map called (λ those.
+      of_equal (λ (a : GalleyValue) (b : StyleValue). ArePlaceEnds (document a b) from it) g h s t p q
+      (made from tells.candidates tells.tells
+      (subst (AreCandidates (document g s) from (tallest s)) (sym (append-nil tells.candidates)) tells.found)
+      (λ c d a e. absurd e)
+      (of_equal (λ (a : GalleyValue) (b : StyleValue). AreCalls (document a b) calls.items.items) h g t s
+      (sym p) (sym q) those) tt))
 
   -- how far columns go that come to a front in a state of which it is merely known
   pub kept_reach : (start kept : State) (reach : ℕ) → ReachesServe (document g s) → IsTheReach (document g s) →

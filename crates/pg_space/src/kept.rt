@@ -12,9 +12,9 @@ ghost use Rattle.pg_rooms.specs.PlaceEnds.{ArePlaceEnds};
 ghost use Rattle.law_walk.specs.Reached.{quiet, tallest};
 ghost use Rattle.pg_walk.specs.Blocks.{IsBegun};
 ghost use Rattle.pg_walk.specs.Fronts.{ComesTo, is_same_state};
+ghost use Rattle.pg_walk.specs.Straight.{TellsAll};
 ghost use Rattle.pg_walk.specs.Meaning.{IsOwn, state_of};
 ghost use Rattle.pg_rules.specs.IsState.{IsPlace, IsState};
-ghost use Rattle.pg_candidates.specs.Nears.{AreNearOnPages};
 ghost use Rattle.pg_rules.specs.Legal.{document};
 ghost use Rattle.pg_rules.specs.Reach.{IsReach};
 ghost use Rattle.law_space.specs.PageSpace.{page_meaning};
@@ -37,7 +37,7 @@ use pg_states::{PageMarks, no_worse};
 use pg_style::Style;
 use pg_table::{EveryMove, Offering, Opened, Space, Steps, Wants};
 use pg_walk::{
-    Front, LoweredState, NearList, PlaceWalk, fronts_serve, lowered, reach_behind, reaches_serve,
+    FirstWalk, Front, LoweredState, fronts_serve, lowered, reach_behind, reaches_serve,
     walk_behind, walk_first,
 };
 use std::alloc::{AllocError, Global};
@@ -218,12 +218,12 @@ impl<'a, D: Document> KeptPages<'a, D> {
     fn keep_before(
         &self,
         from: Place,
-        near: NearList,
+        first: FirstWalk,
         front: Front,
         shared: Shared<D>,
     ) -> Result<Kept<D>, AllocError>
         requires place { IsPlace self.now.pages.sources.galley.now.blocks from }
-        requires comes { ComesTo (doc_of self.now.pages.sources) from near front }
+        requires comes { ComesTo (doc_of self.now.pages.sources) from first front }
         ensures { IfOk result (λ kept. kept.from ≡ from) }
     {
         let sources = &self.pages.sources;
@@ -234,8 +234,7 @@ impl<'a, D: Document> KeptPages<'a, D> {
         let lowered = lowered(&front.start);
         let kept = self.behind(lowered.base, &mut fronts)?;
         let behind = behind_by(kept.ends, &lowered);
-        let walk = PlaceWalk { near, reach };
-        let ends = PlaceEnds::before(sources.alloc, walk, behind, shared.calls);
+        let ends = PlaceEnds::of_first(sources, first, reach, Some(behind), shared.calls)?;
         Ok(Kept {
             from,
             ends,
@@ -245,20 +244,27 @@ impl<'a, D: Document> KeptPages<'a, D> {
     }
 
     // What is kept of a place whose columns come to no front.
-    fn keep_alone(&self, from: Place, walk: PlaceWalk, shared: Shared<D>) -> Kept<D>
+    fn keep_alone(
+        &self,
+        from: Place,
+        first: FirstWalk,
+        shared: Shared<D>,
+    ) -> Result<Kept<D>, AllocError>
         requires place { IsPlace self.now.pages.sources.galley.now.blocks from }
-        requires near { AreNearOnPages (doc_of self.now.pages.sources) from walk.near }
-        requires reach { IsReach (doc_of self.now.pages.sources) from walk.reach }
-        ensures { result.from ≡ from }
+        requires tells { TellsAll (doc_of self.now.pages.sources) from first }
+        requires reach { IsReach (doc_of self.now.pages.sources) from first.reach }
+        ensures { IfOk result (λ kept. kept.from ≡ from) }
     {
         let sources = &self.pages.sources;
         reach_is_the_greatest(sources.galley, sources.style);
-        Kept {
+        let reach = first.reach;
+        let ends = PlaceEnds::of_first(sources, first, reach, None, shared.calls)?;
+        Ok(Kept {
             from,
-            ends: PlaceEnds::new(sources.alloc, walk, shared.calls),
+            ends,
             fronts: shared.fronts,
             of: PhantomData,
-        }
+        })
     }
 
     // The walk from a place, with what is kept for others.
@@ -272,14 +278,8 @@ impl<'a, D: Document> KeptPages<'a, D> {
         let first = walk_first(sources.alloc, galley, style, self.index, from)?;
         let front = first.front;
         match front {
-            Some(front) => self.keep_before(from, first.near, front, shared),
-            None => {
-                let walk = PlaceWalk {
-                    near: first.near,
-                    reach: first.reach,
-                };
-                Ok(self.keep_alone(from, walk, shared))
-            }
+            Some(front) => self.keep_before(from, first, front, shared),
+            None => self.keep_alone(from, first, shared),
         }
     }
 

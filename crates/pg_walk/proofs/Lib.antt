@@ -11,3 +11,4 @@ pub mod Several
 pub mod Standing
 pub mod Behind
 pub mod Moved
+pub mod InRoom

@@ -1,6 +1,7 @@
 -- The greatest block that columns from a place come to.
-use Rattle.std.specs.Prelude.{◌≡◌, ◌⊎◌, ℕ, [], true, Option, Some, None, IfSome, ℤ}
+use Rattle.std.specs.Prelude.{◌≡◌, ◌⊎◌, ℕ, List, [], true, Option, Some, None, IfSome, ℤ}
 use Rattle.pg_column.specs.Passed.{nothing}
+use Rattle.pg_list.specs.declared.blocks.Block.{Block}
 use Rattle.pg_list.specs.declared.galley.Place.{Place}
 use Rattle.pg_rules.specs.Room.{Document}
 use Rattle.pg_hops.specs.View.{view}
@@ -42,6 +43,11 @@ pub record HasStart (doc : Document) (top : ℤ) (from : Place) (start : Option 
   pub past : passed_of start ≡ past_stretch doc top nothing (first_items doc.blocks from)
   pub front : IfSome start (λ s. s.block ≡ first_front doc.blocks from)
   pub own : IfSome start (IsOwn doc top)
+
+-- no choice stands behind the state, if there is one
+abbrev pub IsLast : List Block → Option State → Type 0
+IsLast blocks None = Unit {0}
+IsLast blocks (Some start) = variants_at blocks start.block ≡ []
 
 -- where the first stretch is all there is, this is the greatest block of columns without notes, if it is told
 abbrev pub TellsAlone : Document → ℤ → Place → Option State → Option ℕ → Type 0

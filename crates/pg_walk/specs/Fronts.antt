@@ -8,18 +8,20 @@ use Rattle.pg_rules.specs.IsState.{IsPlace}
 use Rattle.pg_rules.specs.Reach.{IsReach, greatest_areas}
 use Rattle.pg_rules.specs.Room.{Document}
 use Rattle.pg_hops.specs.declared.state.State.{State}
-use Rattle.pg_candidates.specs.Nears.{AreNear, NearsValue}
+use Rattle.pg_candidates.specs.Nears.{AreNear}
 use Rattle.law_walk.specs.Best.{IsAmong}
 use Rattle.law_walk.specs.Candidates.{AreCandidates, Candidate}
 use Rattle.law_walk.specs.Reached.{quiet, tallest}
-use Rattle.law_walk.specs.Space.{WalkState, first_ends, is_no_worse}
+use Rattle.law_walk.specs.Space.{WalkState, is_no_worse}
 use Rattle.pg_walk.specs.Blocks.{IsBegun}
 use Rattle.pg_walk.specs.Collected.{Collects}
 use Rattle.pg_walk.specs.Furthest.{GoesTo}
 use Rattle.pg_walk.specs.Meaning.{state_of}
 use Rattle.pg_walk.specs.Moved.{IsMoved, moved_candidate}
 use Rattle.pg_walk.specs.declared.front.Front.{Front}
+use Rattle.pg_walk.specs.Straight.{Tells, straight_candidates}
 use Rattle.pg_walk.specs.declared.front.FrontWalk.{FrontWalk}
+use Rattle.pg_walk.specs.declared.place.FirstWalk.{FirstWalk}
 
 -- each is no worse than the other: one front, the same sums and notes, the same bound
 abbrev pub is_same_state : WalkState → WalkState → Bool
@@ -30,10 +32,9 @@ pub record IsAhead (doc : Document) (from : Place) (front : Front) : Type 0 wher
   pub start : IsBegun doc (tallest doc.style) from front.start
   pub quiet : IsBegun (quiet doc) (tallest doc.style) from front.quiet
 
--- the first stretch from a place: its ends with what no room changes, and how columns come to the front behind it
-pub record ComesTo (doc : Document) (from : Place) (first : NearsValue) (front : Front) : Type 0 where
-  pub ends : first.candidates ≡ first_ends doc (tallest doc.style) from
-  pub near : AreNear doc (greatest_areas gap_stretch doc.style) first.candidates first
+-- the first stretch from a place: what is told of its ends, and how columns come to the front behind it
+pub record ComesTo (doc : Document) (from : Place) (first : FirstWalk) (front : Front) : Type 0 where
+  pub tells : Tells doc from (straight_candidates doc from) first
   pub ahead : IsAhead doc from front
 
 -- what stands behind a state at a front: the ends along the picks of the labels, with what no room changes
@@ -46,16 +47,16 @@ abbrev pub AreApart : List Candidate → List Candidate → Type 0
 AreApart cs ds = (c d : Candidate) → IsAmong c cs → IsAmong d ds → place_cmp c.to d.to ≡ Less
 
 -- with the ends along the first stretch from a place those behind a front, moved, suffice, and they stand behind them
-pub record Serves (doc : Document) (from : Place) (near : NearsValue) (by : ℤ) (bound : Option ℤ) (it : FrontWalk) : Type 0 where
+pub record Serves (doc : Document) (from : Place) (by : ℤ) (bound : Option ℤ) (it : FrontWalk) : Type 0 where
   pub candidates : AreCandidates doc from (tallest doc.style)
-      (near.candidates ++ map (moved_candidate by bound) it.near.candidates)
-  pub apart : AreApart near.candidates (map (moved_candidate by bound) it.near.candidates)
+      (straight_candidates doc from ++ map (moved_candidate by bound) it.near.candidates)
+  pub apart : AreApart (straight_candidates doc from) (map (moved_candidate by bound) it.near.candidates)
 
 -- so it is for each place whose columns come to the front as the walk behind it does, but for their height
 abbrev pub FrontsServe : Document → Type 0
-FrontsServe doc = (from : Place) (near : NearsValue) (front : Front) (by : ℤ) (bound : Option ℤ) (it : FrontWalk) →
-    IsPlace doc.blocks from → ComesTo doc from near front →
-    IsMoved by bound (state_of it.base) (state_of front.start) → IsFrontWalk doc it → Serves doc from near by bound it
+FrontsServe doc = (from : Place) (front : Front) (by : ℤ) (bound : Option ℤ) (it : FrontWalk) →
+    IsPlace doc.blocks from → IsAhead doc from front →
+    IsMoved by bound (state_of it.base) (state_of front.start) → IsFrontWalk doc it → Serves doc from by bound it
 
 -- ---- how far columns go
 

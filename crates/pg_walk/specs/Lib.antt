@@ -7,3 +7,4 @@ pub mod Blocks
 pub mod Fronts
 pub mod Moved
 pub mod Rooms
+pub mod Straight

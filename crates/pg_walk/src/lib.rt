@@ -11,7 +11,8 @@
 //!
 //! The program cuts that walk at the first choice: `walk_first` goes so far, and `walk_behind` goes on from the state
 //! there without its height (`lowered`). What it finds serves all places whose columns come to the front alike but for
-//! their height (`fronts_serve`), and so does the reach told there (`reaches_serve`).
+//! their height (`fronts_serve`), and so does the reach told there (`reaches_serve`). Where a style has one room, `walk_first`
+//! keeps the ends in it on the way and no candidates (`Tells`); `straight_ends` finds them in another room.
 //!
 //! Below that: `WalkSpace` keeps the laws that the table wants of a space (`specs/WalkLawful`), with the moves of the
 //! walk of law_walk (`specs/Meaning`); `collect` adds what stands along the picks of the labels of a filled table
@@ -29,6 +30,7 @@ mod reach;
 mod rooms;
 mod runs;
 mod space;
+mod straight;
 mod table;
 mod walking;
 
@@ -44,5 +46,6 @@ pub use place::{FirstWalk, PlaceWalk, walk_first, walk_from};
 pub use reach::{reach_behind, reach_of};
 pub use rooms::{ends, ends_many};
 pub use space::{Key, WalkSpace};
+pub use straight::{StraightEnds, straight_ends};
 pub use table::collect;
 pub use walking::candidates;

@@ -9,12 +9,17 @@ ghost use Rattle.law_walk.specs.Reached.{tallest as tallest_of};
 ghost use Rattle.law_walk.specs.Space.{first_ends};
 ghost use Rattle.pg_walk.specs.Blocks.{HasStart, TellsAlone};
 ghost use Rattle.pg_walk.specs.Fronts.{ComesTo, IsAhead};
+ghost use Rattle.pg_walk.specs.Straight.{TellsAll};
 
 use crate::front::Front;
 use crate::give::areas_give;
 use crate::reach::{quiet_state, reach_told, tallest};
+use crate::straight::{
+    StraightEnds, StraightWalk, comes_to_choice, has_one_room, straight_walk, tallest_room,
+};
 use crate::variants_at;
 use crate::walking::{candidates, collect_behind, first_stretch, quiet_greatest, state_behind};
+use law_walk::laws::walk_is_a_space;
 use pg_candidates::{CandidateList, NearList};
 use pg_hops::{BreakIndex, State};
 use pg_list::{Galley, Place};
@@ -100,11 +105,13 @@ pub fn walk_from(
 }
 
 /// What the first stretch from a place tells, up to the first choice: where columns may end along it, with what no room
-/// changes, and how they come to the front behind it. Where they come to none, these are all ends, and the reach is one
-/// more than the greatest block of a place that they may reach.
+/// changes, or, where the style has one room, which of these ends there are in it; and how columns come to the front
+/// behind it. Where they come to none, these are all ends, and the reach is one more than the greatest block of a place
+/// that they may reach.
 #[derive(Drop)]
 pub struct FirstWalk {
     pub near: NearList,
+    pub straight: Option<StraightEnds>,
     pub front: Option<Front>,
     pub reach: u32,
 }
@@ -131,6 +138,91 @@ fn front_behind(
     Some(Front { start, quiet })
 }
 
+// What the ends in the one room of the style tell, with how columns come to the front behind the first stretch; none where
+// that is not known without the other walk.
+fn walk_straight(
+    alloc: Global,
+    galley: &Galley,
+    style: &Style,
+    index: &BreakIndex,
+    from: Place,
+) -> Result<Option<FirstWalk>, AllocError>
+    requires hops { AreHops galley.now.blocks style.now.maxdepth index.now }
+    requires place { IsPlace galley.now.blocks from }
+    ensures whole { IfOk result (λ o. IfSome o (λ it. it.front ≡ None → TellsAll (document galley.now style.now) from it)) }
+    ensures reach { IfOk result (λ o. IfSome o (λ it. it.front ≡ None →
+        IsReach (document galley.now style.now) from it.reach)) }
+    ensures front { IfOk result (λ o. IfSome o (λ it.
+        IfSome it.front (ComesTo (document galley.now style.now) from it))) }
+{
+    let _ = galley.blocks().as_slice();
+    walk_is_a_space(galley, style);
+    let room = tallest_room(style);
+    let StraightWalk { straight, walked } = straight_walk(alloc, galley, style, index, from, room)?;
+    let straight = Some(straight);
+    let told = quiet_greatest(&walked);
+    let near = NearList::none(alloc);
+    if !comes_to_choice(galley, state_behind(&walked)) {
+        let reach = reach_told(alloc, galley, style, index, from, told)?;
+        return Ok(Some(FirstWalk {
+            near,
+            straight,
+            front: None,
+            reach,
+        }));
+    }
+    let front = front_behind(alloc, galley, style, index, from, state_behind(&walked));
+    let Some(front) = front else {
+        return Ok(None);
+    };
+    let reach = front.start.block;
+    Ok(Some(FirstWalk {
+        near,
+        straight,
+        front: Some(front),
+        reach,
+    }))
+}
+
+// Walks along the first stretch from a place, and on where no choice stands behind it, for all rooms.
+fn walk_for_rooms(
+    alloc: Global,
+    galley: &Galley,
+    style: &Style,
+    index: &BreakIndex,
+    from: Place,
+) -> Result<FirstWalk, AllocError>
+    requires hops { AreHops galley.now.blocks style.now.maxdepth index.now }
+    requires place { IsPlace galley.now.blocks from }
+    ensures whole { IfOk result (λ it. it.front ≡ None → TellsAll (document galley.now style.now) from it) }
+    ensures reach { IfOk result (λ it. it.front ≡ None → IsReach (document galley.now style.now) from it.reach) }
+    ensures front { IfOk result (λ it. IfSome it.front (ComesTo (document galley.now style.now) from it)) }
+{
+    let mut found = CandidateList::with_room(alloc)?;
+    let top = tallest(style);
+    let walked = first_stretch(alloc, galley, style, index, from, top, &mut found)?;
+    let front = front_behind(alloc, galley, style, index, from, state_behind(&walked));
+    let Some(front) = front else {
+        let start = state_behind(&walked);
+        let told = quiet_greatest(&walked);
+        let walk = walk_on_from(alloc, galley, style, index, from, start, told, found)?;
+        return Ok(FirstWalk {
+            near: walk.near,
+            straight: None,
+            front: None,
+            reach: walk.reach,
+        });
+    };
+    let reach = front.start.block;
+    let near = found.into_near(alloc, galley, style, &areas_give(style))?;
+    Ok(FirstWalk {
+        near,
+        straight: None,
+        front: Some(front),
+        reach,
+    })
+}
+
 /// Walks along the first stretch from a place, and on where no choice stands behind it.
 ///
 /// Conditions: the place is the galley's, and the index is of the galley and style. The one refusal is want of memory.
@@ -143,29 +235,15 @@ pub fn walk_first(
 ) -> Result<FirstWalk, AllocError>
     requires hops { AreHops galley.now.blocks style.now.maxdepth index.now }
     requires place { IsPlace galley.now.blocks from }
-    ensures whole { IfOk result (λ it. it.front ≡ None → AreNearOnPages (document galley.now style.now) from it.near) }
+    ensures whole { IfOk result (λ it. it.front ≡ None → TellsAll (document galley.now style.now) from it) }
     ensures reach { IfOk result (λ it. it.front ≡ None → IsReach (document galley.now style.now) from it.reach) }
-    ensures front { IfOk result (λ it. IfSome it.front (ComesTo (document galley.now style.now) from it.near)) }
+    ensures front { IfOk result (λ it. IfSome it.front (ComesTo (document galley.now style.now) from it)) }
 {
-    let mut found = CandidateList::with_room(alloc)?;
-    let top = tallest(style);
-    let walked = first_stretch(alloc, galley, style, index, from, top, &mut found)?;
-    let front = front_behind(alloc, galley, style, index, from, state_behind(&walked));
-    let Some(front) = front else {
-        let start = state_behind(&walked);
-        let told = quiet_greatest(&walked);
-        let walk = walk_on_from(alloc, galley, style, index, from, start, told, found)?;
-        return Ok(FirstWalk {
-            near: walk.near,
-            front: None,
-            reach: walk.reach,
-        });
-    };
-    let reach = front.start.block;
-    let near = found.into_near(alloc, galley, style, &areas_give(style))?;
-    Ok(FirstWalk {
-        near,
-        front: Some(front),
-        reach,
-    })
+    if !has_one_room(style) {
+        return walk_for_rooms(alloc, galley, style, index, from);
+    }
+    match walk_straight(alloc, galley, style, index, from)? {
+        Some(walk) => Ok(walk),
+        None => walk_for_rooms(alloc, galley, style, index, from),
+    }
 }

@@ -78,8 +78,8 @@ fn greatest_extra(runs: &[Run]) -> i32
     greatest
 }
 
-// The room of the tallest run.
-fn tallest_run(style: &Style) -> i64
+/// The room of the tallest run.
+pub(crate) fn tallest_run(style: &Style) -> i64
     ensures value { result ≡ style.now.height +ℤ greatest_extra_of style.now.runs }
     ensures size { nat_abs result < 2 ^ 40 }
 {

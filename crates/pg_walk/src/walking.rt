@@ -16,7 +16,7 @@ ghost use Rattle.pg_walk.specs.Blocks.{HasStart, HasWalked, IsAlone, TellsAlone}
 
 use crate::{collect, variants_at};
 use law_walk::laws::walk_is_a_space;
-use pg_candidates::{CandidateList, Walked, walk_on};
+use pg_candidates::{CandidateList, TakesEnds, Walked, walk_on};
 use pg_hops::{BreakIndex, Cursor, Passed, State};
 use pg_list::{Galley, Place};
 use pg_plan::Picks;
@@ -30,20 +30,20 @@ fn has_classes(style: &Style)
     style.stays_in_range();
 }
 
-/// Adds the ends along the first stretch, and answers what the walk along it tells; where the notes passed take no room,
+/// Hands on the ends along the first stretch, and answers what the walk along it tells; where the notes passed take no room,
 /// it tells of a walk without notes.
-pub(crate) fn first_stretch(
+pub(crate) fn first_stretch<T: TakesEnds>(
     alloc: Global,
     galley: &Galley,
     style: &Style,
     index: &BreakIndex,
     from: Place,
     top: i64,
-    found: &mut CandidateList,
+    found: &mut T,
 ) -> Result<Walked, AllocError>
     requires hops { AreHops galley.now.blocks style.now.maxdepth index.now }
     requires place { IsPlace galley.now.blocks from }
-    ensures ends { OnOk result (found.new ≡ found.old ++ first_ends (document galley.now style.now) top from) }
+    ensures ends { OnOk result (T.Took found.old found.new (first_ends (document galley.now style.now) top from)) }
     ensures walked { IfOk result (HasWalked (document galley.now style.now) top from) }
 {
     has_classes(style);

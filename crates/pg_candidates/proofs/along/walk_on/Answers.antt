@@ -1,4 +1,4 @@
-use Rattle.std.proofs.Common.{rules, arith, sym, ap, ◌∙◌, ◌++◌, List, ℕ, w64, to_z, of_z}
+use Rattle.std.proofs.Common.{rules, arith, sym, ap, subst, refl, ◌∙◌, [], List, ℕ, w64, to_z, of_z}
 use Rattle.pg_list.specs.Places.{place}
 use Rattle.std.proofs.lemmas.Int.{to_z-of_z}
 use mir.Val.{SFits}
@@ -15,30 +15,33 @@ use Rattle.pg_hops.proofs.Stepped.{over_past, over_reach, step_past, step_reach,
 use Rattle.pg_candidates.specs.View.{passed_of}
 use Rattle.pg_candidates.specs.declared.along.Walked.{Walked}
 use Rattle.pg_candidates.proofs.Stretched.{end_ends, over_ends, over_quiet, step_ends, step_quiet, stop_ends}
+use Rattle.pg_candidates.proofs.Handed.{all_taken, taking_on}
 use Rattle.pg_candidates.proofs.along.walk_on.Goals as goal
 
 pub is_end_ahead-is_end-requires-clause-hop : goal.is_end_ahead-is_end-requires-clause-hop
-is_end_ahead-is_end-requires-clause-hop c = (
+is_end_ahead-is_end-requires-clause-hop g c = (
   c.args.style.now.maxdepth,
   c.hop_ahead-hop.ensures c.args.galley.now.blocks c.args.style.now.maxdepth c.requires.hops,
 )
 
 pub returns-in_default-go-clause-ends : goal.returns-in_default-go-clause-ends
-returns-in_default-go-clause-ends c =
+returns-in_default-go-clause-ends g c =
     let f0 : SFits w64 c.args.top = search rules in
     let f1 : SFits w64 c.args.demerits = search rules in
     let doc = document c.args.galley.now c.args.style.now in
-    stop_ends doc c.args.top c.ahead.at c.place-here.result c.place-here.ensures (view c.ahead.passed)
-    c.in_ok-shared.shared.value c.args.demerits c.ahead.found c.end_at.new.found
-    (simp to_z-of_z at (c.in_ok-end_at.ensures c.args.galley.now c.is_end_ahead-is_end.ensures))
-    c.in_default-go.ensures.stops
-    ∙ ((simp to_z-of_z at c.ahead.invariant.ends)
-    ∙ ap (λ (picks : List ℕ). c.args.found.now ++ ends_along doc c.args.top picks c.args.demerits
-    (place (front_ahead c.args.galley.now.blocks c.args.start) 0 0) (view c.args.before)
-    (items_ahead c.args.galley.now.blocks c.args.start)) c.in_ok-shared.ensures)
+    let top = to_z w64 (of_z w64 c.args.top) in
+    let demerits = to_z w64 (of_z w64 c.args.demerits) in
+    subst (λ (picks : List ℕ). g.T.TakesEnds.Took c.args.found.now c.end_at.new.found
+    (ends_along doc c.args.top picks c.args.demerits (place (front_ahead c.args.galley.now.blocks c.args.start) 0 0)
+    (view c.args.before) (items_ahead c.args.galley.now.blocks c.args.start))) c.in_ok-shared.ensures
+    (simp to_z-of_z at (all_taken g.T.TakesEnds.Took g.met.T.TakesEnds.both_taken c.args.found.now c.ahead.found
+    c.end_at.new.found _ _ _ c.ahead.invariant.ends
+    (c.in_ok-end_at.ensures c.args.galley.now c.is_end_ahead-is_end.ensures)
+    (stop_ends doc top c.ahead.at c.place-here.result c.place-here.ensures (view c.ahead.passed)
+    c.in_ok-shared.shared.value demerits [] _ refl c.in_default-go.ensures.stops)))
 
 pub returns-in_default-go-clause-past : goal.returns-in_default-go-clause-past
-returns-in_default-go-clause-past c =
+returns-in_default-go-clause-past g c =
     let f0 : SFits w64 c.args.top = search rules in
     let doc = document c.args.galley.now c.args.style.now in
     ap (λ (w : Walked). passed_of w.state) c.stopped.ensures
@@ -46,24 +49,24 @@ returns-in_default-go-clause-past c =
     ∙ (simp to_z-of_z at c.ahead.invariant.past))
 
 pub returns-then-not-fits-clause-ends : goal.returns-then-not-fits-clause-ends
-returns-then-not-fits-clause-ends c =
+returns-then-not-fits-clause-ends g c =
     let f0 : SFits w64 c.args.top = search rules in
     let f1 : SFits w64 c.args.demerits = search rules in
     let doc = document c.args.galley.now c.args.style.now in
-    over_ends doc c.args.top c.ahead.at c.place-here.result c.place-here.ensures (view c.ahead.passed)
-    c.in_ok-shared.shared.value c.args.demerits c.ahead.found c.end_at.new.found
-    (simp to_z-of_z at (c.in_ok-end_at.ensures c.args.galley.now c.is_end_ahead-is_end.ensures))
-    c.in-Some-go.next (view c.go.new.passed) c.in-Some-go.ensures.goes
-    (sym (c.fits.ensures
-    ∙ ap (fits c.go.new.passed.bound) (to_z-of_z w64 c.args.top (record { sfits = search rules })))
-    ∙ c.if-not-fits.true)
-    ∙ ((simp to_z-of_z at c.ahead.invariant.ends)
-    ∙ ap (λ (picks : List ℕ). c.args.found.now ++ ends_along doc c.args.top picks c.args.demerits
-    (place (front_ahead c.args.galley.now.blocks c.args.start) 0 0) (view c.args.before)
-    (items_ahead c.args.galley.now.blocks c.args.start)) c.in_ok-shared.ensures)
+    let top = to_z w64 (of_z w64 c.args.top) in
+    let demerits = to_z w64 (of_z w64 c.args.demerits) in
+    subst (λ (picks : List ℕ). g.T.TakesEnds.Took c.args.found.now c.end_at.new.found
+    (ends_along doc c.args.top picks c.args.demerits (place (front_ahead c.args.galley.now.blocks c.args.start) 0 0)
+    (view c.args.before) (items_ahead c.args.galley.now.blocks c.args.start))) c.in_ok-shared.ensures
+    (simp to_z-of_z at (all_taken g.T.TakesEnds.Took g.met.T.TakesEnds.both_taken c.args.found.now c.ahead.found
+    c.end_at.new.found _ _ _ c.ahead.invariant.ends
+    (c.in_ok-end_at.ensures c.args.galley.now c.is_end_ahead-is_end.ensures)
+    (over_ends doc top c.ahead.at c.place-here.result c.place-here.ensures (view c.ahead.passed)
+    c.in_ok-shared.shared.value demerits [] _ refl c.in-Some-go.next (view c.go.new.passed) c.in-Some-go.ensures.goes
+    (sym c.fits.ensures ∙ c.if-not-fits.true))))
 
 pub returns-then-not-fits-clause-past : goal.returns-then-not-fits-clause-past
-returns-then-not-fits-clause-past c =
+returns-then-not-fits-clause-past g c =
     let f0 : SFits w64 c.args.top = search rules in
     let doc = document c.args.galley.now c.args.style.now in
     ap (λ (w : Walked). passed_of w.state) c.stopped-then-not-fits.ensures
@@ -74,8 +77,23 @@ returns-then-not-fits-clause-past c =
     ∙ c.if-not-fits.true)
     ∙ (simp to_z-of_z at c.ahead.invariant.past))
 
+pub ahead-init : goal.ahead-init
+ahead-init g c = record {
+  settled = c.requires.settled;
+  front = refl;
+  style = c.requires.style;
+  bound = ap (fits c.args.before.bound) (to_z-of_z w64 c.args.top (record { sfits = search rules }))
+      ∙ c.requires.bound;
+  sums = refl;
+  notes = refl;
+  past = refl;
+  ends = ([], (g.met.T.TakesEnds.none_taken c.args.found.now, refl));
+  reach = grind (arith);
+  quiet = refl;
+}
+
 pub ahead-preserved : goal.ahead-preserved
-ahead-preserved c =
+ahead-preserved g c =
     let doc = document c.args.galley.now c.args.style.now in
     let top = to_z w64 (of_z w64 c.args.top) in
     let demerits = to_z w64 (of_z w64 c.args.demerits) in
@@ -93,10 +111,11 @@ ahead-preserved c =
       sums = counts.0.passed ∙ c.ahead.invariant.sums;
       notes = counts.1.passed ∙ c.ahead.invariant.notes;
       past = step_past doc top c.ahead.at to old new went bound ∙ c.ahead.invariant.past;
-      ends = step_ends doc top c.ahead.at c.place-here.result c.place-here.ensures old c.in_ok-shared.shared.value demerits
-          c.ahead.found c.end_at.new.found
-          (c.in_ok-end_at.ensures c.args.galley.now c.is_end_ahead-is_end.ensures) to new went bound
-          ∙ c.ahead.invariant.ends;
+      ends = taking_on g.T.TakesEnds.Took g.met.T.TakesEnds.both_taken c.args.found.now c.ahead.found
+          c.end_at.new.found _ _ _ c.ahead.invariant.ends
+          (c.in_ok-end_at.ensures c.args.galley.now c.is_end_ahead-is_end.ensures) _
+          (step_ends doc top c.ahead.at c.place-here.result c.place-here.ensures old c.in_ok-shared.shared.value demerits
+          [] _ refl to new went bound);
       reach = step_reach c.ahead.at c.place-here.result c.place-here.ensures c.ahead.greatest
           c.max-greatest.result c.max-greatest.ensures doc top to old new went bound
           ∙ c.ahead.invariant.reach;
@@ -104,20 +123,23 @@ ahead-preserved c =
     }
 
 pub returns-clause-ends : goal.returns-clause-ends
-returns-clause-ends c =
+returns-clause-ends g c =
     let f0 : SFits w64 c.args.top = search rules in
     let f1 : SFits w64 c.args.demerits = search rules in
     let doc = document c.args.galley.now c.args.style.now in
-    end_ends doc c.args.top c.ahead.at c.ahead.invariant.settled c.in_default.ensures.item (view c.ahead.passed)
-    c.in_ok-shared.shared.value c.args.demerits c.place-front.result c.place-front.ensures c.ahead.found c.end_at-2.new.found
-    (simp to_z-of_z at (c.in_ok-end_at-2.ensures c.args.galley.now c.is_end-is_end.ensures))
-    ∙ ((simp to_z-of_z at c.ahead.invariant.ends)
-    ∙ ap (λ (picks : List ℕ). c.args.found.now ++ ends_along doc c.args.top picks c.args.demerits
-    (place (front_ahead c.args.galley.now.blocks c.args.start) 0 0) (view c.args.before)
-    (items_ahead c.args.galley.now.blocks c.args.start)) c.in_ok-shared.ensures)
+    let top = to_z w64 (of_z w64 c.args.top) in
+    let demerits = to_z w64 (of_z w64 c.args.demerits) in
+    subst (λ (picks : List ℕ). g.T.TakesEnds.Took c.args.found.now c.end_at-2.new.found
+    (ends_along doc c.args.top picks c.args.demerits (place (front_ahead c.args.galley.now.blocks c.args.start) 0 0)
+    (view c.args.before) (items_ahead c.args.galley.now.blocks c.args.start))) c.in_ok-shared.ensures
+    (simp to_z-of_z at (all_taken g.T.TakesEnds.Took g.met.T.TakesEnds.both_taken c.args.found.now c.ahead.found
+    c.end_at-2.new.found _ _ _ c.ahead.invariant.ends
+    (c.in_ok-end_at-2.ensures c.args.galley.now c.is_end-is_end.ensures)
+    (end_ends doc top c.ahead.at c.ahead.invariant.settled c.in_default.ensures.item (view c.ahead.passed)
+    c.in_ok-shared.shared.value demerits c.place-front.result c.place-front.ensures [] _ refl)))
 
 pub returns-clause-past : goal.returns-clause-past
-returns-clause-past c =
+returns-clause-past g c =
     let f0 : SFits w64 c.args.top = search rules in
     let doc = document c.args.galley.now c.args.style.now in
     end_past doc c.args.top c.ahead.at c.ahead.invariant.settled c.in_default.ensures.item (view c.ahead.passed)
@@ -125,21 +147,21 @@ returns-clause-past c =
     ∙ (simp to_z-of_z at c.ahead.invariant.past)
 
 pub returns-clause-front : goal.returns-clause-front
-returns-clause-front c =
+returns-clause-front g c =
     let doc = document c.args.galley.now c.args.style.now in
     let done = last doc c.args.top c.ahead.at c.ahead.invariant.settled c.in_default.ensures.item
     (view c.ahead.passed) in
     sym done.front ∙ c.ahead.invariant.front
 
 pub returns-clause-counts : goal.returns-clause-counts
-returns-clause-counts c =
+returns-clause-counts g c =
     let doc = document c.args.galley.now c.args.style.now in
     let none = none_left doc c.args.top c.ahead.at c.ahead.invariant.settled c.in_default.ensures.item
     (view c.ahead.passed) in
     (omega (arith, none, c.ahead.invariant.sums), omega (arith, none, c.ahead.invariant.notes))
 
 pub returns-in_default-go-clause-reach : goal.returns-in_default-go-clause-reach
-returns-in_default-go-clause-reach c =
+returns-in_default-go-clause-reach g c =
     let f0 : SFits w64 c.args.top = search rules in
     let doc = document c.args.galley.now c.args.style.now in
     ap (λ (w : Walked). w.greatest) c.stopped.ensures
@@ -149,7 +171,7 @@ returns-in_default-go-clause-reach c =
     ∙ (simp to_z-of_z at c.ahead.invariant.reach))
 
 pub returns-in_default-go-clause-quiet : goal.returns-in_default-go-clause-quiet
-returns-in_default-go-clause-quiet c =
+returns-in_default-go-clause-quiet g c =
     let f0 : SFits w64 c.args.top = search rules in
     ap (λ (w : Walked). w.is_quiet) c.stopped.ensures
     ∙ (ap (λ (p : Passed). is_quiet c.args.style.now (view p)) c.in_default-go.ensures.same
@@ -157,7 +179,7 @@ returns-in_default-go-clause-quiet c =
     ∙ (simp to_z-of_z at c.ahead.invariant.quiet)))
 
 pub returns-then-not-fits-clause-reach : goal.returns-then-not-fits-clause-reach
-returns-then-not-fits-clause-reach c =
+returns-then-not-fits-clause-reach g c =
     let f0 : SFits w64 c.args.top = search rules in
     let doc = document c.args.galley.now c.args.style.now in
     ap (λ (w : Walked). w.greatest) c.stopped-then-not-fits.ensures
@@ -170,7 +192,7 @@ returns-then-not-fits-clause-reach c =
     ∙ (simp to_z-of_z at c.ahead.invariant.reach))
 
 pub returns-then-not-fits-clause-quiet : goal.returns-then-not-fits-clause-quiet
-returns-then-not-fits-clause-quiet c =
+returns-then-not-fits-clause-quiet g c =
     let f0 : SFits w64 c.args.top = search rules in
     let doc = document c.args.galley.now c.args.style.now in
     ap (λ (w : Walked). w.is_quiet) c.stopped-then-not-fits.ensures
@@ -182,7 +204,7 @@ returns-then-not-fits-clause-quiet c =
     ∙ (simp to_z-of_z at c.ahead.invariant.quiet))
 
 pub returns-clause-reach : goal.returns-clause-reach
-returns-clause-reach c =
+returns-clause-reach g c =
     let f0 : SFits w64 c.args.top = search rules in
     let doc = document c.args.galley.now c.args.style.now in
     end_reach doc c.args.top c.ahead.at c.ahead.invariant.settled c.in_default.ensures.item (view c.ahead.passed)
@@ -190,7 +212,7 @@ returns-clause-reach c =
     ∙ (simp to_z-of_z at c.ahead.invariant.reach)
 
 pub returns-clause-quiet : goal.returns-clause-quiet
-returns-clause-quiet c =
+returns-clause-quiet g c =
     let f0 : SFits w64 c.args.top = search rules in
     let doc = document c.args.galley.now c.args.style.now in
     c.is_quiet.ensures

@@ -1,4 +1,4 @@
-use Rattle.std.proofs.Common.{◌≡◌, ◌+◌, ◌++◌, length, true}
+use Rattle.std.proofs.Common.{◌≡◌, ◌+◌, length, true}
 use Rattle.pg_list.specs.Places.{place}
 use Rattle.std.specs.Prelude.{max}
 use Rattle.pg_rules.specs.Legal.{document}
@@ -8,10 +8,11 @@ use Rattle.law_walk.specs.Walk.{ends_along, past_stretch}
 use Rattle.pg_hops.specs.Ahead.{IsSettled, front_ahead, items_ahead}
 use Rattle.pg_hops.specs.Quiet.{is_quiet, passed_along}
 use Rattle.pg_hops.specs.View.{IsFor, view}
+use Rattle.pg_candidates.proofs.Handed.{Taking}
 use Rattle.pg_candidates.proofs.along.walk_on.Given as goal
 
 abbrev pub invariant-ahead : goal.invariant-ahead
-invariant-ahead l = record {
+invariant-ahead g l = record {
   settled : IsSettled l.galley.blocks l.at;
   front : front_ahead l.galley.blocks l.at ≡ front_ahead l.galley.blocks l.fn.start;
   style : IsFor l.style l.passed;
@@ -22,10 +23,11 @@ invariant-ahead l = record {
       ≡ l.fn.before.notes.count + length (items_ahead l.galley.blocks l.fn.start);
   past : past_stretch (document l.galley l.style) l.top (view l.passed) (items_ahead l.galley.blocks l.at)
       ≡ past_stretch (document l.galley l.style) l.top (view l.fn.before) (items_ahead l.galley.blocks l.fn.start);
-  ends : l.found ++ ends_along (document l.galley l.style) l.top l.shared.value l.demerits
-      (place (front_ahead l.galley.blocks l.at) 0 0) (view l.passed) (items_ahead l.galley.blocks l.at)
-      ≡ l.initial.found ++ ends_along (document l.galley l.style) l.top l.shared.value l.demerits
-      (place (front_ahead l.galley.blocks l.fn.start) 0 0) (view l.fn.before) (items_ahead l.galley.blocks l.fn.start);
+  ends : Taking g.T.TakesEnds.Took l.initial.found l.found
+      (ends_along (document l.galley l.style) l.top l.shared.value l.demerits
+      (place (front_ahead l.galley.blocks l.at) 0 0) (view l.passed) (items_ahead l.galley.blocks l.at))
+      (ends_along (document l.galley l.style) l.top l.shared.value l.demerits
+      (place (front_ahead l.galley.blocks l.fn.start) 0 0) (view l.fn.before) (items_ahead l.galley.blocks l.fn.start));
   reach : max l.greatest (reach_along (document l.galley l.style) l.top (front_ahead l.galley.blocks l.at)
       (view l.passed) (items_ahead l.galley.blocks l.at))
       ≡ reach_along (document l.galley l.style) l.top (front_ahead l.galley.blocks l.fn.start) (view l.fn.before)
@@ -37,4 +39,4 @@ invariant-ahead l = record {
 }
 
 abbrev pub decreases-ahead : goal.decreases-ahead
-decreases-ahead l = length (items_ahead l.galley.blocks l.at)
+decreases-ahead g l = length (items_ahead l.galley.blocks l.at)

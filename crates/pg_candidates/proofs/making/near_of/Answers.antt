@@ -15,7 +15,8 @@ returns-clause-near c = λ g kind. record {
   pick_demerits = to_z-of_z w64 c.args.candidate.now.pick_demerits (record { sfits = search rules });
   kind = kind;
   least = subst (IsLeastRoom (document g c.args.style.now) (candidate_of c.args.candidate.now))
-      (sym (to_z-of_z w64 c.least_of.result (record { sfits = search rules }))) (c.least_of.ensures g);
+      (sym (to_z-of_z w64 c.least_of.result (record { sfits = search rules }))) (c.least_of.ensures g c.args.candidate.now.to c.args.candidate.now.picks.value
+      c.args.candidate.now.pick_demerits);
   worst = subst (λ (given : Give). IfSome c.args.worst (IsWorstCost c.args.style.now c.args.most.now.stretch c.args.kind
       c.args.candidate.now.passed.sums.totals given)) (sym c.give.ensures.value) c.requires;
 }

@@ -1,6 +1,8 @@
-use Rattle.std.proofs.Common.{◌≡◌, ◌∙◌, ◌∷◌, [], ap, map, sym, arith, ◌≤◌, ◌<◌, ◌<ℤ◌, length, Some, None}
+use Rattle.std.proofs.Common.{◌≡◌, ◌∙◌, ◌∷◌, [], ap, map, sym, arith, ◌≤◌, ◌<◌, ◌<ℤ◌, length, Option, Some, None}
 use Rattle.std.specs.Prelude.{slice_get}
+use Rattle.std.specs.Option.{option_map_or}
 use Rattle.std.proofs.lemmas.Int.{ints}
+use Rattle.law_walk.specs.Candidates.{Candidate}
 use Rattle.std.proofs.lemmas.Result.{on_ok_weaker}
 use Rattle.pg_column.specs.Numbers.{most_room}
 use Rattle.pg_rules.specs.Legal.{document}
@@ -52,4 +54,6 @@ returns c = on_ok_weaker c.keep_end.result (λ added g most gives cs is.
     best_with doc room cs ds (it.0 ∷ []) c.args.near.now (ends_of ds c.args.ends.now.items)
     (ends_of ds c.keep_end.new.ends.items)
     (in_room room.size ds c.args.near.now it.0 (sym c.is_needed.ensures ∙ c.if-not-is_needed.false) there)
-    (added g most gives cs it.0 there (is it.0 there))) c.keep_end.ensures
+    (added g most gives cs it.0
+    (ap (λ (o : Option Candidate). option_map_or (λ (d : Candidate). d.picks) o []) there) (is it.0 there)))
+    c.keep_end.ensures

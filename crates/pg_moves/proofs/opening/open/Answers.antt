@@ -7,7 +7,7 @@ use Rattle.pg_moves.proofs.opening.open.Goals as goal
 pub returns-clause-moves : goal.returns-clause-moves
 returns-clause-moves c = all_made (doc_of c.args.sources.now) c.args.state.now c.open_by.result _
     (begun (doc_of c.args.sources.now) c.args.state.now.place c.new-kept.result c.in_ok-walk.walk _
-    c.new-kept.ensures.walk c.new-kept.ensures.rooms c.new-kept.ensures.calls c.new-kept.ensures.behind c.in_ok-walk.ensures.near
+    c.new-kept.ensures.walk c.new-kept.ensures.listed c.new-kept.ensures.rooms c.new-kept.ensures.calls c.new-kept.ensures.behind c.in_ok-walk.ensures.near
     (no_calls (doc_of c.args.sources.now) c.none.result.items.items c.none.ensures))
     c.open_by.ensures.moves
 

@@ -17,6 +17,6 @@ returns g c = on_ok_weaker c.add_kept.result (λ step.
     let cs = c.args.behind.now.ends.walk.near.candidates in
     behind_added doc u spares c.args.laid.now c.args.behind.now c.room_behind.result c.in-Some.left c.args.steps.now
     c.add_kept.new.steps c.room_behind.ensures.value c.in-Some.is
-    (subst (λ (rooms : List RoomEnds). AllByRecursion (AreRoomEnds doc cs) rooms →
+    (subst (λ (rooms : List RoomEnds). AllByRecursion (AreRoomEnds doc cs cs) rooms →
     Adds spares c.args.steps.now (steps_at doc u cs rooms c.in-Some.left c.args.laid.now) c.add_kept.new.steps)
-    c.as_slice-rooms.ensures.value step)) c.add_kept.ensures
+    c.as_slice-rooms.ensures.value (step cs))) c.add_kept.ensures

@@ -15,9 +15,10 @@ returns-in-Some g c = on_ok_weaker c.add_behind.result (λ step right.
     let u = c.args.state.now in
     let kept = c.args.kept.now in
     let spares = g.W.Wants.spares c.args.wants.now in
-    let first = subst (λ (rooms : List RoomEnds). AllByRecursion (AreRoomEnds doc kept.walk.near.candidates) rooms →
+    let first = subst (λ (rooms : List RoomEnds). AllByRecursion
+    (AreRoomEnds doc right.first kept.walk.near.candidates) rooms →
     Adds spares c.args.steps.now (steps_at doc u kept.walk.near.candidates rooms c.args.laid.now.room c.args.laid.now)
-    c.add_kept.new.steps) c.as_slice-rooms.ensures.value c.in_ok-add_kept.ensures in
+    c.add_kept.new.steps) c.as_slice-rooms.ensures.value (c.in_ok-add_kept.ensures right.first) in
     added_both doc u spares c.args.laid.now kept (sym c.has_text.ensures ∙ c.if-not-has_text.false) c.in-Some.behind
     c.args.steps.now c.add_kept.new.steps c.add_behind.new.steps c.in-Some.is right.behind (first right.rooms) step)
     c.add_behind.ensures
@@ -28,8 +29,9 @@ returns-in-None g c = λ right.
     let u = c.args.state.now in
     let kept = c.args.kept.now in
     let spares = g.W.Wants.spares c.args.wants.now in
-    let first = subst (λ (rooms : List RoomEnds). AllByRecursion (AreRoomEnds doc kept.walk.near.candidates) rooms →
+    let first = subst (λ (rooms : List RoomEnds). AllByRecursion
+    (AreRoomEnds doc right.first kept.walk.near.candidates) rooms →
     Adds spares c.args.steps.now (steps_at doc u kept.walk.near.candidates rooms c.args.laid.now.room c.args.laid.now)
-    c.add_kept.new.steps) c.as_slice-rooms.ensures.value c.in_ok-add_kept.ensures in
+    c.add_kept.new.steps) c.as_slice-rooms.ensures.value (c.in_ok-add_kept.ensures right.first) in
     added_alone doc u spares c.args.laid.now kept (sym c.has_text.ensures ∙ c.if-not-has_text.false) c.args.steps.now
     c.add_kept.new.steps c.in-None.is (first right.rooms)

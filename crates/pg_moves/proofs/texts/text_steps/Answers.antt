@@ -33,7 +33,7 @@ pub returns-clause-steps : goal.returns-clause-steps
 returns-clause-steps g c = λ right.
     let low = subst (AllByRecursion (λ (it : Laid). IsPageRoom c.args.sources.now.style.now it.room))
     (sym c.as_slice-laid.ensures.value) c.in_ok-layouts.ensures.low in
-    let now = c.in_ok-ask_all.ensures.right c.args.state.now.place low right in
+    let now = c.in_ok-ask_all.ensures.right low right in
     text_steps_are (doc_of c.args.sources.now) c.candidates_give_ends.ensures.one c.args.state.now c.args.ceiling.now c.ask_all.new.self
     c.as_slice-laid.result.now (g.W.Wants.spares c.args.wants.now) c.new-steps.result c.add_all.new.steps
     (c.as_slice-laid.ensures.value ∙ (c.in_ok-layouts.ensures.laid
@@ -42,6 +42,6 @@ returns-clause-steps g c = λ right.
     c.in_ok-ask_all.ensures.has c.in_ok-ask_all.ensures.behind now c.new-steps.ensures (c.in_ok-add_all.ensures now)
 
 pub returns-clause-kept : goal.returns-clause-kept
-returns-clause-kept g c = c.in_ok-ask_all.ensures.right c.args.state.now.place
+returns-clause-kept g c = c.in_ok-ask_all.ensures.right
     (subst (AllByRecursion (λ (it : Laid). IsPageRoom c.args.sources.now.style.now it.room))
     (sym c.as_slice-laid.ensures.value) c.in_ok-layouts.ensures.low)

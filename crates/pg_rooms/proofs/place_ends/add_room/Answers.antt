@@ -1,20 +1,21 @@
-use Rattle.std.proofs.Common.{rules}
+use Rattle.std.proofs.Common.{List}
+use Rattle.std.proofs.lemmas.Result.{on_ok_weaker}
+use Rattle.pg_candidates.proofs.Needed.{best_of_some}
+use Rattle.pg_candidates.specs.Nears.{needed_in}
+use Rattle.pg_candidates.specs.RoomEnds.{ends_of}
+use Rattle.pg_rules.specs.Floats.{gap_stretch}
+use Rattle.pg_rules.specs.Reach.{greatest_areas}
 use Rattle.pg_sources.specs.Document.{doc_of}
-use Rattle.pg_rooms.proofs.Kept.{has_added, has_still, rooms_added}
+use Rattle.law_walk.specs.Candidates.{text_ends}
 use Rattle.pg_rooms.proofs.place_ends.add_room.Goals as goal
 
-pub returns-clause-has : goal.returns-clause-has
-returns-clause-has c = has_added c.args.rooms.now.items c.push.new.self.items c.in_ok-ends.ends c.args.room.now
-    (search rules) c.in_ok-ends.ensures.room
-
-pub returns-clause-keeps : goal.returns-clause-keeps
-returns-clause-keeps c = λ other h. has_still c.args.rooms.now.items c.push.new.self.items c.in_ok-ends.ends other
-    (search rules) h
-
 pub returns-clause-right : goal.returns-clause-right
-returns-clause-right c = λ near page calls are. rooms_added (doc_of c.args.sources.now)
-    c.args.near.now.candidates c.args.rooms.now.items c.push.new.self.items c.in_ok-ends.ends (search rules) are
-    (c.in_ok-ends.ensures.right near page calls)
-
-pub returns-clause-calls : goal.returns-clause-calls
-returns-clause-calls c = c.in_ok-ends.ensures.calls
+returns-clause-right c = on_ok_weaker c.keep_room.result (λ right near page calls are.
+    let doc = doc_of c.args.sources.now in
+    let cs = c.args.near.now.candidates in
+    right cs cs
+    (best_of_some (text_ends doc c.args.room.now cs)
+    (text_ends doc c.args.room.now (needed_in c.args.room.now.size cs c.args.near.now.nears))
+    (ends_of cs c.in_ok-ends.ends.items) (near.suffice c.args.room.now page.within)
+    (c.in_ok-ends.ensures.best c.args.sources.now.galley.now (greatest_areas gap_stretch c.args.sources.now.style.now)
+    page.within.stretch near.right)) page calls are) c.keep_room.ensures.right

@@ -8,7 +8,7 @@ use Rattle.pg_rooms.proofs.Kept.{all_contain, asked_more}
 use Rattle.pg_rooms.proofs.place_ends.add_rooms.Goals as goal
 
 pub loop-it-init : goal.loop-it-init
-loop-it-init c = record { has = tt; right = λ near page calls are. are; calls = λ calls. calls }
+loop-it-init c = record { has = tt; right = λ cs first page calls are. are; calls = λ calls. calls }
 
 pub loop-it-preserved : goal.loop-it-preserved
 loop-it-preserved c = record {
@@ -18,15 +18,15 @@ loop-it-preserved c = record {
       has_text c.args.sources.now.style.now room ≡ true → has_room c.ask_room.new.rooms.items room ≡ true)
       c.args.laid.now c.loop-it.it-index c.it-item.result c.loop-it-test.true c.it-item.is c.loop-it.invariant.has
       c.in_ok-ask_room.ensures.has (λ room h t. c.in_ok-ask_room.ensures.keeps room (h t));
-  right = λ near page calls are. c.in_ok-ask_room.ensures.right near
+  right = λ cs first page calls are. c.in_ok-ask_room.ensures.right cs first
       (all_contain (λ (it : Laid). IsPageRoom c.args.sources.now.style.now it.room) c.args.laid.now c.it-item.result
       page (c.loop-it.it-index, c.loop-it-test.true, sym c.it-item.is))
-      (c.loop-it.invariant.calls calls) (c.loop-it.invariant.right near page calls are);
+      (c.loop-it.invariant.calls calls) (c.loop-it.invariant.right cs first page calls are);
   calls = λ calls. c.in_ok-ask_room.ensures.calls (c.loop-it.invariant.calls calls);
 }
 
-pub ask_room-requires : goal.ask_room-requires
-ask_room-requires c = all_contain (λ (it : Laid). IsRoom it.room) c.args.laid.now c.it-item.result c.requires.small
+pub ask_room-requires-clause-room : goal.ask_room-requires-clause-room
+ask_room-requires-clause-room c = all_contain (λ (it : Laid). IsRoom it.room) c.args.laid.now c.it-item.result c.requires.small
     (c.loop-it.it-index, c.loop-it-test.true, sym c.it-item.is)
 
 pub returns-clause-right : goal.returns-clause-right

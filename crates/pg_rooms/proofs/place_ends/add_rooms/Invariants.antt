@@ -1,20 +1,20 @@
-use Rattle.std.proofs.Common.{◌≡◌, take, true}
+use Rattle.std.proofs.Common.{◌≡◌, List, take, true}
 use Rattle.std.specs.List.{AllByRecursion}
-use Rattle.law_walk.specs.Candidates.{has_text}
+use Rattle.law_walk.specs.Candidates.{Candidate, has_text}
 use Rattle.pg_rooms.specs.declared.laid.Laid.{Laid}
 use Rattle.pg_sources.specs.Document.{doc_of}
 use Rattle.pg_rooms.specs.Calls.{AreCalls}
-use Rattle.pg_rooms.specs.PlaceEnds.{AreRoomEnds, IsNearOnPages, IsPageRoom, has_room}
+use Rattle.pg_rooms.specs.PlaceEnds.{AreFirst, AreRoomEnds, IsPageRoom, has_room}
 use Rattle.pg_rooms.proofs.place_ends.add_rooms.Given as goal
 
 abbrev pub invariant-loop-it : goal.invariant-loop-it
 invariant-loop-it l = record {
   has : AllByRecursion (λ (it : Laid). has_text (doc_of l.sources).style it.room ≡ true →
       has_room l.rooms.items it.room ≡ true) (take l.it-index l.laid);
-  right : IsNearOnPages (doc_of l.sources) l.near →
+  right : (cs : List Candidate) → AreFirst (doc_of l.sources) l.from cs l.is_straight l.near →
       AllByRecursion (λ (it : Laid). IsPageRoom (doc_of l.sources).style it.room) l.laid →
       AreCalls (doc_of l.sources) l.initial.calls.items.items →
-      AllByRecursion (AreRoomEnds (doc_of l.sources) l.near.candidates) l.initial.rooms.items →
-      AllByRecursion (AreRoomEnds (doc_of l.sources) l.near.candidates) l.rooms.items;
+      AllByRecursion (AreRoomEnds (doc_of l.sources) cs l.near.candidates) l.initial.rooms.items →
+      AllByRecursion (AreRoomEnds (doc_of l.sources) cs l.near.candidates) l.rooms.items;
   calls : AreCalls (doc_of l.sources) l.initial.calls.items.items → AreCalls (doc_of l.sources) l.calls.items.items;
 }

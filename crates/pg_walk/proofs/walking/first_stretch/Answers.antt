@@ -10,7 +10,7 @@ use Rattle.pg_walk.proofs.First.{first_owned, first_quiet, first_walked, place_w
 use Rattle.pg_walk.proofs.walking.first_stretch.Goals as goal
 
 pub first-ahead-requires : goal.first-ahead-requires
-first-ahead-requires c =
+first-ahead-requires g c =
     let all = subst (AllByRecursion IsBlock) c.blocks-2.ensures.blocks c.as_slice.ensures.shape in
     let long = blocks_le c.args.galley.now.blocks all in
     let limit = c.blocks-2.ensures.limit in
@@ -18,7 +18,7 @@ first-ahead-requires c =
     omega (arith, long, limit, at)
 
 pub walk_on-requires-clause-few : goal.walk_on-requires-clause-few
-walk_on-requires-clause-few c =
+walk_on-requires-clause-few g c =
     let left = first_left c.args.galley.now.blocks c.args.from in
     let same = ap length c.first-ahead.ensures.items in
     let limit = c.blocks-2.ensures.limit in
@@ -26,7 +26,7 @@ walk_on-requires-clause-few c =
     (omega (arith, left, same, limit, counts.0), omega (arith, left, same, limit, counts.1))
 
 pub returns-clause-walked : goal.returns-clause-walked
-returns-clause-walked c =
+returns-clause-walked g c =
     let doc = document c.args.galley.now c.args.style.now in
     let all = subst (AllByRecursion IsBlock) c.blocks-2.ensures.blocks c.as_slice.ensures.shape in
     let top = to_z-of_z w64 c.args.top (record { sfits = c.ranges.top.sfits }) in

@@ -10,7 +10,7 @@ use Rattle.pg_walk.specs.Fronts.{IsAhead}
 use Rattle.pg_walk.specs.declared.front.Front.{Front}
 use Rattle.pg_walk.proofs.Behind.{alone_at}
 use Rattle.pg_walk.proofs.First.{has_start, tells_alone}
-use Rattle.pg_walk.proofs.place.walk_first.Goals as goal
+use Rattle.pg_walk.proofs.place.walk_for_rooms.Goals as goal
 
 pub front_behind-front-requires-clause-start : goal.front_behind-front-requires-clause-start
 front_behind-front-requires-clause-start c =
@@ -49,9 +49,14 @@ returns-clause-front c =
     let near = subst (λ (most : ℤ). AreNear doc most c.first_stretch.new.found c.in_ok-near.near)
     c.areas_give.ensures.stretch c.in_ok-near.ensures in
     record {
-      ends = near.same ∙ alone_at doc _ _ top c.args.from c.in_ok-found.found c.first_stretch.new.found
-          c.in_ok-found.ensures c.in_ok-walked.ensures.ends;
-      near = subst (λ (cs : List Candidate). AreNear doc (greatest_areas gap_stretch doc.style) cs c.in_ok-near.near)
-          (sym near.same) near;
+      tells = record {
+        near = λ none. (
+          near.same ∙ alone_at doc _ _ top c.args.from c.in_ok-found.found c.first_stretch.new.found
+              c.in_ok-found.ensures c.in_ok-walked.ensures.ends,
+          subst (λ (cs : List Candidate). AreNear doc (greatest_areas gap_stretch doc.style) cs c.in_ok-near.near)
+              (sym near.same) near,
+        );
+        straight = tt;
+      };
       ahead = subst (λ (o : Option Front). IfSome o (IsAhead doc c.args.from)) c.in-Some.is c.front_behind-front.ensures;
     }

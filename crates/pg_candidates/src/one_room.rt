@@ -1,0 +1,90 @@
+//! The ends in one room, found on the way along a stretch.
+ghost use Rattle.std.specs.Prelude.{◌≡◌, ◌<◌, ◌^◌, [], IfOk, nat_abs};
+ghost use Rattle.pg_column.specs.Numbers.{IsRoom};
+
+use crate::kind::kind_at;
+use crate::making::near_alone;
+use crate::room::keep_end;
+use crate::room_end::RoomEnd;
+use crate::taking::TakesEnds;
+use pg_column::TextRoom;
+use pg_hops::Passed;
+use pg_list::{Galley, Place};
+use pg_plan::Picks;
+use pg_style::Style;
+use std::alloc::{AllocError, Global};
+use std::rc::Rc;
+
+// For how many ends there is room at once: few columns have more lines.
+const ROOM: usize = 64;
+
+/// The ends in a room of columns without picks, each taken as a walk comes to it: the best for each place and fitness.
+#[derive(Drop)]
+pub struct OneRoom<'a> {
+    pub galley: &'a Galley,
+    pub style: &'a Style,
+    pub room: TextRoom,
+    pub ends: Vec<RoomEnd>,
+    ghost size: { nat_abs room.size < 2 ^ 40 },
+    ghost stretch: { nat_abs room.give.stretch < 2 ^ 40 },
+    ghost shrink: { nat_abs room.give.shrink < 2 ^ 40 },
+}
+
+impl<'a> OneRoom<'a> {
+    /// No ends in a room.
+    ///
+    /// Condition: the numbers of the room are below 2^40 in size. The one refusal is want of memory.
+    pub fn new(
+        alloc: Global,
+        galley: &'a Galley,
+        style: &'a Style,
+        room: TextRoom,
+    ) -> Result<OneRoom<'a>, AllocError>
+        requires { IsRoom room }
+        ensures galley { IfOk result (λ it. it.galley.now ≡ galley.now) }
+        ensures style { IfOk result (λ it. it.style.now ≡ style.now) }
+        ensures room { IfOk result (λ it. it.room ≡ room) }
+        ensures ends { IfOk result (λ it. it.ends.items ≡ []) }
+    {
+        Ok(OneRoom {
+            galley,
+            style,
+            room,
+            ends: Vec::with_capacity(alloc, ROOM)?,
+        })
+    }
+}
+
+impl TakesEnds for OneRoom<'_> {
+    ghost use Rattle.pg_candidates.specs.Taken.{TookIn, both_in, none_in};
+
+    ghost Took = { TookIn };
+
+    fn share(&self, picks: &Picks) -> Result<Rc<Picks>, AllocError> {
+        Ok(Rc::new(*self.ends.allocator(), picks.copy()?)?)
+    }
+
+    fn take(
+        &mut self,
+        to: Place,
+        passed: &Passed,
+        _picks: &Rc<Picks>,
+        _demerits: i64,
+    ) -> Result<(), AllocError> {
+        let near = near_alone(
+            self.style,
+            &self.room.give,
+            to,
+            kind_at(self.galley, to),
+            passed,
+        );
+        if near.is_too_low(&self.room) {
+            return Ok(());
+        }
+        keep_end(self.style, &self.room, &[], &near, &mut self.ends)
+    }
+
+    ghost none_taken = { none_in };
+
+    ghost both_taken = { both_in };
+}
