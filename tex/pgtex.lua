@@ -507,7 +507,7 @@ local function largest_room(style)
   return size_of(style, "height") + extra
 end
 local function explain(part, blocks, style, log)
-  local room = largest_room(style)
+  local room, depth = largest_room(style), size_of(style, "maxdepth")
   local found = {}
   local function note(item, ...) found[#found + 1] = string.format("%s:%d: ", log.file, item.at) .. string.format(...) end
   local seen = {}
@@ -525,7 +525,7 @@ local function explain(part, blocks, style, log)
             note(item, "note %d is %s high, and at most %s may be", seen[item.class], points(item.size), points(limit))
           end
         end
-      elseif b >= part.first and item.kind == "box" and item.height and item.height + item.depth > room then
+      elseif b >= part.first and item.kind == "box" and item.height and item.height + math.max(item.depth - depth, 0) > room then
         note(item, "a box is %s high, which no page breaks, and a page %s", points(item.height + item.depth), points(room))
       end
     end
@@ -692,8 +692,11 @@ local function with_all_classes(text, style, used)
   return (("\n" .. text):gsub("(\npage [^\n]* wide )(%S+)", all)
     :gsub("(\ncolumn [^\n]* top )(%S+)", all):gsub("(\ncolumn [^\n]* bottom )(%S+)", all):sub(2))
 end
+-- What fits on no page is reason enough; else it is looked for how many pages can be made.
 local function tell_illegal(part, which, blocks, style, style_file, log)
-  for _, line in ipairs(explain(part, blocks, style, log)) do complain("%s", line) end
+  local reasons = explain(part, blocks, style, log)
+  for _, line in ipairs(reasons) do complain("%s", line) end
+  if #reasons > 0 then stop("no legal pagination%s", which) end
   local block, pages = least_illegal_front(part, blocks, style_file, log)
   local item = block and (block.item or block.versions[1][1])
   stop("no legal pagination%s: %d pages can be made, and nothing behind %s:%d%s", which, pages, log.file, item and item.at or 0,
@@ -725,7 +728,10 @@ local function text_of_part(part, which, number, blocks, style, log)
   local galley, output = temporary_name(), temporary_name()
   write_file(galley, part.lines)
   local first = style.first ~= "single" and (number % 2 == 1 and "right" or "left") or style.first
-  local texts = style.text:match("^# written by pg.sty") and { style.text, longer(style.text) } or {}
+  local texts = {}
+  if style.text:match("^# written by pg.sty") and #explain(part, blocks, style, log) == 0 then
+    texts = { style.text, longer(style.text) }
+  end
   for _, text in ipairs(texts) do
     local out, is_refused = best_of(text, part, first, blocks, style, galley)
     if out then return out end
