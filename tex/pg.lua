@@ -3,8 +3,8 @@ local pg = {}
 
 local types = {}
 for number, word in pairs(node.types()) do types[word] = number end
-local HLIST, VLIST, RULE, GLUE, KERN, PENALTY, INSERT =
-  types.hlist, types.vlist, types.rule, types.glue, types.kern, types.penalty, types.ins
+local HLIST, VLIST, RULE, GLUE, KERN, PENALTY, INSERT, GLYPH, DISC =
+  types.hlist, types.vlist, types.rule, types.glue, types.kern, types.penalty, types.ins, types.glyph, types.disc
 
 local function is_box(n) return n.id == HLIST or n.id == VLIST or n.id == RULE end
 local function is_discardable(n) return n.id == GLUE or n.id == KERN or n.id == PENALTY end
@@ -179,11 +179,42 @@ local function described(n)
   elseif n.id == INSERT then return string.format("insert %d %d", n.subtype, n.height)
   else return "carry" end
 end
+-- such a line for a reader, with sizes in points
+local function told(line)
+  local kind, first, second, third = line:match("^(%S+) ?(%S*) ?(%S*) ?(%S*)$")
+  local function size(word)
+    local number, order = word:match("^(-?%d+)(%a*)$")
+    return string.format("%.5f", number / 65536):gsub("0+$", ""):gsub("%.$", ".0") .. (order == "" and "pt" or order)
+  end
+  local function part(word, given) return given == "0" and "" or " " .. word .. " " .. size(given) end
+  if kind == "box" then return string.format("a box %s high and %s deep", size(first), size(second))
+  elseif kind == "glue" then return "glue " .. size(first) .. part("plus", second) .. part("minus", third)
+  elseif kind == "kern" then return "kern " .. size(first)
+  elseif kind == "insert" then return string.format("an insert of class %s, %s high", first, size(second))
+  elseif kind == "carry" then return "a mark or a special"
+  else return line end
+end
+-- the last words of a line
+local function last_words(line)
+  local out = {}
+  local function add(list)
+    for n in node.traverse(list) do
+      if n.id == GLYPH and n.components then add(n.components)
+      elseif n.id == GLYPH and n.char > 32 and n.char < 0x110000 then out[#out + 1] = utf8.char(n.char)
+      elseif n.id == GLUE then out[#out + 1] = " "
+      elseif n.id == DISC and n.replace then add(n.replace)
+      elseif n.id == HLIST and n.list then add(n.list) end
+    end
+  end
+  if line.list then add(line.list) end
+  local text = table.concat(out):gsub(" +", " "):gsub(" $", "")
+  return text:match("%S+ %S+ %S+$") or text
+end
 -- the first item that differs, in words; nothing where all are the same
 function pg.difference(galley, file)
   local lines = io.open(file, "rb")
   if not lines then return "there is no " .. file end
-  local page, wanted = 1, nil
+  local page, wanted, line = 1, nil, nil
   local function next_line()
     wanted = lines:read("l")
     while wanted and wanted:match("^page ") do
@@ -196,13 +227,16 @@ function pg.difference(galley, file)
     local here = described(n)
     if wanted ~= here then
       lines:close()
-      if not wanted then return string.format("behind the last page: there is more, `%s'", here) end
-      return string.format("page %s: there is `%s', and `%s' on pg's page", page, here, wanted)
+      if not wanted then return "behind the last page: there is more, " .. told(here) end
+      local words = line and last_words(line) or ""
+      return string.format("page %s: %sthere is %s, and %s on pg's page", page, words == "" and "" or "behind `" .. words .. "' ",
+        told(here), told(wanted))
     end
+    if is_line(n) then line = n end
   end
   next_line()
   lines:close()
-  if wanted then return string.format("page %s: the text ends, and pg's page goes on with `%s'", page, wanted) end
+  if wanted then return string.format("page %s: the text ends, and pg's page goes on with %s", page, told(wanted)) end
   return ""
 end
 

@@ -286,6 +286,14 @@ local function told_of(said, style_file, galley)
   return { cause = value_of(object, "cause"), act = value_of(object, "act"), takes = value_of(object, "takes"),
     line = object:match('"line":(%d+)') }
 end
+-- the line of a file on which a key stands, if it stands on no other
+local function line_of(file, key)
+  local word, found = key:match("[%w_-]+$"), {}
+  for at, line in ipairs(lines_of(read_file(file) or "")) do
+    if word and line:match("^%s*([%w_-]+)%s*=") == word then found[#found + 1] = at end
+  end
+  return #found == 1 and found[1] or nil
+end
 -- what pg said, in words; read: the items that it read, from line 2 on
 local function in_words(said, style, log, read, told)
   -- where it stands, what is at fault, what the line says, what to do
@@ -305,7 +313,10 @@ local function in_words(said, style, log, read, told)
   if number and told.cause then
     local place = style .. (told.line and ":" .. told.line or "") .. (key == "-" and "" or ": " .. key)
     return sentences(place, told.cause, told.takes and ". It takes: " .. told.takes or "", act)
-  elseif number then return string.format("%s: %s %s", style, key, STYLE_FAULT[integer(number)] or "is at fault") end
+  elseif number then
+    local line = line_of(style, key)
+    return string.format("%s%s: %s %s", style, line and ":" .. line or "", key, STYLE_FAULT[integer(number)] or "is at fault")
+  end
   local class = said:match("class (%d+) is not in the style")
   if class then
     for _, item in ipairs(read) do
