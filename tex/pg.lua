@@ -184,6 +184,7 @@ local function told(line)
   local kind, first, second, third = line:match("^(%S+) ?(%S*) ?(%S*) ?(%S*)$")
   local function size(word)
     local number, order = word:match("^(-?%d+)(%a*)$")
+    if not number then return word end
     return string.format("%.5f", number / 65536):gsub("0+$", ""):gsub("%.$", ".0") .. (order == "" and "pt" or order)
   end
   local function part(word, given) return given == "0" and "" or " " .. word .. " " .. size(given) end
