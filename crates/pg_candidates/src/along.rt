@@ -14,7 +14,7 @@ ghost use Rattle.pg_candidates.specs.View.{passed_of};
 
 use crate::candidate::CandidateList;
 use crate::taking::TakesEnds;
-use pg_hops::{BreakIndex, Cursor, Passed, State, go, hop_ahead, is_end_ahead};
+use pg_hops::{BreakIndex, Cursor, Passed, State, go, hop_ahead, hop_on};
 use pg_list::{Galley, Place};
 use pg_plan::Picks;
 use pg_style::Style;
@@ -103,13 +103,25 @@ pub fn walk_on<T: TakesEnds>(
     let mut at = start;
     let mut passed = before;
     let mut greatest = 0u32;
-    'ahead: while let Some(item) = at.item(galley) {
+    'ahead: loop {
+        if let Some(hop) = hop_ahead(index, &passed, at) {
+            let here = at.place();
+            greatest = greatest.max(here.block);
+            end_at(style, here, true, &passed, &shared, demerits, found)?;
+            at = hop_on(galley, style, at, hop, &mut passed);
+            if !passed.fits(top) {
+                return Ok(stopped(style, &passed, greatest));
+            }
+            continue;
+        }
+        let Some(item) = at.item(galley) else {
+            break;
+        };
         let here = at.place();
         greatest = greatest.max(here.block);
-        let hop = hop_ahead(index, &passed, at);
-        let is_end = is_end_ahead(galley, &passed, at, here, item, hop);
+        let is_end = passed.ends_at(galley, at, here, item);
         end_at(style, here, is_end, &passed, &shared, demerits, found)?;
-        let Some(next) = go(galley, style, at, here, is_end, item, hop, &mut passed) else {
+        let Some(next) = go(galley, style, at, here, is_end, item, None, &mut passed) else {
             return Ok(stopped(style, &passed, greatest));
         };
         if !passed.fits(top) {

@@ -6,13 +6,12 @@ ghost use Rattle.std.specs.List.{insert};
 ghost use Rattle.std.specs.List.Sorted.{IsPartitionPoint, IsPartitionedBy};
 ghost use Rattle.pg_plan.specs.Order.{picks_cmp, place_cmp};
 ghost use Rattle.law_walk.specs.Best.{Ascend, insert_end, is_better as is_better_of};
-ghost use Rattle.pg_candidates.specs.RoomEnds.{end_by, end_of, ends_of, picks_at};
+ghost use Rattle.pg_candidates.specs.RoomEnds.{end_of, ends_of, picks_at};
 ghost use Rattle.pg_candidates.specs.Spots.{is_before as is_before_of, spot_in};
 ghost use Rattle.pg_candidates.specs.View.{candidate_of};
 ghost use Rattle.pg_candidates.specs.declared.room_end.RoomEnd.{RoomEnd as ARoomEnd};
 
 use crate::candidate::Candidate;
-use crate::near::Near;
 use crate::room_end::{RoomEnd, picks_of};
 use pg_column::TextCost;
 use pg_list::Place;
@@ -46,13 +45,13 @@ fn compare_ends(a: &Place, fitness: u8, b: &Place, other: u8) -> Ordering
     fitness.cmp(&other)
 }
 
-// Whether an end stands before that of a candidate with these numbers.
+// Whether an end stands before another.
 #[inline]
-fn is_before(end: &RoomEnd, near: &Near, cost: &TextCost) -> bool
-    ensures { result ≡ is_before_of end.now (end_by near.now cost.now) }
+fn is_before(one: &RoomEnd, other: &RoomEnd) -> bool
+    ensures { result ≡ is_before_of one.now other.now }
 {
     matches!(
-        compare_ends(&end.to, end.cost.fitness, &near.to, cost.fitness),
+        compare_ends(&one.to, one.cost.fitness, &other.to, other.cost.fitness),
         Ordering::Less
     )
 }
@@ -86,75 +85,57 @@ fn compare_listed(candidates: &[Candidate], one: usize, other: usize) -> Orderin
     )
 }
 
-// Whether the end of a candidate with these numbers costs less than another, or the same with picks that are not after.
-fn is_better(candidates: &[Candidate], near: &Near, cost: &TextCost, other: &RoomEnd) -> bool
-    ensures { result ≡ is_better_of (end_of (map candidate_of candidates.now) (end_by near.now cost.now))
+// Whether an end costs less than another, or the same with picks that are not after.
+fn is_better(candidates: &[Candidate], one: &RoomEnd, other: &RoomEnd) -> bool
+    ensures { result ≡ is_better_of (end_of (map candidate_of candidates.now) one.now)
         (end_of (map candidate_of candidates.now) other.now) }
 {
-    let own = price(cost, near.pick_demerits);
+    let own = price(&one.cost, one.pick_demerits);
     let its = price(&other.cost, other.pick_demerits);
     if own < its {
         return true;
     }
     own <= its
         && !matches!(
-            compare_listed(candidates, near.at, other.at),
+            compare_listed(candidates, one.at, other.at),
             Ordering::Greater
         )
 }
 
-// How many of the ends stand before that of a candidate, by a look from the last one back. Candidates come in the order of
-// their places, so that few ends at the end of the list do not; in another order this would take longer and find the same.
+// How many of the ends stand before one more, by a look from the last one back. Ends come in the order of their places, so
+// that few ends at the end of the list do not; in another order this would take longer and find the same.
 #[inline]
-fn count_before(ends: &[RoomEnd], near: &Near, cost: &TextCost) -> usize
-    ensures point { IsPartitionedBy (λ (other : ARoomEnd). is_before_of other (end_by near.now cost.now)) ends.now →
-        IsPartitionPoint (λ (other : ARoomEnd). is_before_of other (end_by near.now cost.now) ≡ true)
-        (λ (other : ARoomEnd). is_before_of other (end_by near.now cost.now) ≡ false) ends.now result }
+fn count_before(ends: &[RoomEnd], end: &RoomEnd) -> usize
+    ensures point { IsPartitionedBy (λ (other : ARoomEnd). is_before_of other end.now) ends.now →
+        IsPartitionPoint (λ (other : ARoomEnd). is_before_of other end.now ≡ true)
+        (λ (other : ARoomEnd). is_before_of other end.now ≡ false) ends.now result }
     ensures within { result ≤ length ends.now }
 {
     let mut at = ends.len();
-    'back: while at > 0 && !is_before(&ends[at - 1], near, cost) {
+    'back: while at > 0 && !is_before(&ends[at - 1], end) {
         at -= 1;
     }
     at
 }
 
-// Where the end of a candidate goes at this index.
-fn spot_at(
-    candidates: &[Candidate],
-    ends: &[RoomEnd],
-    at: usize,
-    near: &Near,
-    cost: &TextCost,
-) -> Spot
+// Where an end goes at this index.
+fn spot_at(candidates: &[Candidate], ends: &[RoomEnd], at: usize, end: &RoomEnd) -> Spot
     ensures { result ≡ spot_in
         (option_map (end_of (map candidate_of candidates.now)) (slice_get ends.now at))
-        (end_of (map candidate_of candidates.now) (end_by near.now cost.now)) }
+        (end_of (map candidate_of candidates.now) end.now) }
 {
     let Some(other) = ends.get(at) else {
         return Spot::Before;
     };
-    match compare_ends(&near.to, cost.fitness, &other.to, other.cost.fitness) {
+    match compare_ends(&end.to, end.cost.fitness, &other.to, other.cost.fitness) {
         Ordering::Equal => {
-            if is_better(candidates, near, cost, other) {
+            if is_better(candidates, end, other) {
                 Spot::Instead
             } else {
                 Spot::Nowhere
             }
         }
         _ => Spot::Before,
-    }
-}
-
-// The end of a candidate with these numbers.
-fn end_with(near: &Near, cost: TextCost) -> RoomEnd
-    ensures { result ≡ end_by near.now cost }
-{
-    RoomEnd {
-        to: near.to,
-        at: near.at,
-        cost,
-        pick_demerits: near.pick_demerits,
     }
 }
 
@@ -171,44 +152,41 @@ fn put_behind(ends: &mut Vec<RoomEnd>, at: usize, end: RoomEnd) -> Result<(), Al
     Ok(())
 }
 
-// Puts the end of a candidate in behind so many others that are in order, where it belongs, or nowhere where it is no better.
+// Puts an end in behind so many others that are in order, where it belongs, or nowhere where it is no better.
 fn put_in(
     candidates: &[Candidate],
     ends: &mut Vec<RoomEnd>,
     at: usize,
-    near: &Near,
-    cost: TextCost,
+    end: RoomEnd,
 ) -> Result<(), AllocError>
     requires within { at ≤ length ends.old.items }
-    requires point { IsPartitionedBy (λ (other : ARoomEnd). is_before_of other (end_by near.now cost)) ends.old.items →
-        IsPartitionPoint (λ (other : ARoomEnd). is_before_of other (end_by near.now cost) ≡ true)
-        (λ (other : ARoomEnd). is_before_of other (end_by near.now cost) ≡ false) ends.old.items at }
+    requires point { IsPartitionedBy (λ (other : ARoomEnd). is_before_of other end) ends.old.items →
+        IsPartitionPoint (λ (other : ARoomEnd). is_before_of other end ≡ true)
+        (λ (other : ARoomEnd). is_before_of other end ≡ false) ends.old.items at }
     ensures { OnOk result (Ascend (ends_of (map candidate_of candidates.now) ends.old.items) →
         ends_of (map candidate_of candidates.now) ends.new.items
-        ≡ insert_end (end_of (map candidate_of candidates.now) (end_by near.now cost))
+        ≡ insert_end (end_of (map candidate_of candidates.now) end)
         (ends_of (map candidate_of candidates.now) ends.old.items)) }
 {
-    match spot_at(candidates, ends.as_slice(), at, near, &cost) {
-        Spot::Before => put_behind(ends, at, end_with(near, cost))?,
-        Spot::Instead => ends[at] = end_with(near, cost),
+    match spot_at(candidates, ends.as_slice(), at, &end) {
+        Spot::Before => put_behind(ends, at, end)?,
+        Spot::Instead => ends[at] = end,
         Spot::Nowhere => {}
     }
     Ok(())
 }
 
-/// Adds the end of a candidate with these numbers to those that are in order, one for each place and fitness; the better one
-/// stays.
+/// Adds an end to those that are in order, one for each place and fitness; the better one stays.
 pub(crate) fn keep_best(
     candidates: &[Candidate],
     ends: &mut Vec<RoomEnd>,
-    near: &Near,
-    cost: TextCost,
+    end: RoomEnd,
 ) -> Result<(), AllocError>
     ensures { OnOk result (Ascend (ends_of (map candidate_of candidates.now) ends.old.items) →
         ends_of (map candidate_of candidates.now) ends.new.items
-        ≡ insert_end (end_of (map candidate_of candidates.now) (end_by near.now cost))
+        ≡ insert_end (end_of (map candidate_of candidates.now) end)
         (ends_of (map candidate_of candidates.now) ends.old.items)) }
 {
-    let at = count_before(ends.as_slice(), near, &cost);
-    put_in(candidates, ends, at, near, cost)
+    let at = count_before(ends.as_slice(), &end);
+    put_in(candidates, ends, at, end)
 }

@@ -7,8 +7,7 @@ ghost use Rattle.pg_rules.specs.Legal.{document};
 ghost use Rattle.law_walk.specs.Candidates.{Candidate as ACandidate};
 ghost use Rattle.pg_candidates.specs.Nears.{IsHopelessFrom, IsNear, IsServedFrom, IsWorst, IsWorstCost, IsWorstGoal, kind_at as kind_at_of};
 ghost use Rattle.pg_candidates.specs.Seen.{AreSeen, AreServed};
-ghost use Rattle.pg_candidates.specs.View.{candidate_of, plain_to};
-ghost use Rattle.pg_hops.specs.View.{view};
+ghost use Rattle.pg_candidates.specs.View.{candidate_of};
 
 use crate::candidate::Candidate;
 use crate::kind::{EndKind, kind_at};
@@ -17,7 +16,6 @@ use crate::near::Near;
 use crate::order::Ranked;
 use crate::until::{room_for, until_alone, until_beside, worst_goal};
 use pg_column::{TextCost, cost_for};
-use pg_hops::Passed;
 use pg_list::{Galley, Place};
 use pg_scaled::plus;
 use pg_style::{Give, Style};
@@ -84,32 +82,6 @@ fn near_of(
         until,
         least: least_of(style, passed),
         worst,
-    }
-}
-
-// What no room changes of an end without picks, where one room alone is asked.
-pub(crate) fn near_alone(
-    style: &Style,
-    most: &Give,
-    to: Place,
-    kind: EndKind,
-    passed: &Passed,
-) -> Near
-    ensures at { result.at ≡ 0 }
-    ensures near { (g : GalleyValue) → kind ≡ kind_at_of g.blocks to →
-        IsNear (document g style.now) most.now.stretch (plain_to to (view passed.now)) result }
-{
-    Near {
-        at: 0,
-        to,
-        sums: passed.sums,
-        notes: passed.notes.height(style),
-        give: passed.notes.give(style),
-        pick_demerits: 0,
-        kind,
-        until: None,
-        least: least_of(style, passed),
-        worst: None,
     }
 }
 

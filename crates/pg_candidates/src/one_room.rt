@@ -1,16 +1,18 @@
 //! The ends in one room, found on the way along a stretch.
-ghost use Rattle.std.specs.Prelude.{◌≡◌, ◌<◌, ◌^◌, [], IfOk, nat_abs};
-ghost use Rattle.pg_column.specs.Numbers.{IsRoom};
+ghost use Rattle.std.specs.Prelude.{◌≡◌, ◌<◌, ◌^◌, [], IfOk, int_lt, nat_abs};
+ghost use Rattle.pg_column.specs.Numbers.{IsRoom, cost_by, most_room};
 
-use crate::kind::kind_at;
-use crate::making::near_alone;
-use crate::room::keep_end;
+use crate::best::keep_best;
+use crate::kind::{EndKind, kind_at};
+use crate::least::least_of;
+use crate::room::is_tolerable;
 use crate::room_end::RoomEnd;
 use crate::taking::TakesEnds;
-use pg_column::TextRoom;
+use pg_column::{TextCost, TextRoom, text_cost};
 use pg_hops::Passed;
 use pg_list::{Galley, Place};
 use pg_plan::Picks;
+use pg_scaled::plus;
 use pg_style::Style;
 use std::alloc::{AllocError, Global};
 use std::rc::Rc;
@@ -55,6 +57,29 @@ impl<'a> OneRoom<'a> {
     }
 }
 
+// Whether a room, the gaps of its areas shrunk, is below the least one worth asking.
+fn is_too_low(room: &TextRoom, least: i64) -> bool
+    requires { IsRoom room.now }
+    ensures { result ≡ int_lt (most_room room.now) least }
+{
+    plus(room.size, room.give.shrink) < least
+}
+
+// The numbers in a room of a column behind which an end of this kind stands.
+fn cost_in(style: &Style, room: &TextRoom, kind: EndKind, passed: &Passed) -> TextCost
+    requires { IsRoom room.now }
+    ensures { result ≡ cost_by style.now room.now passed.now.sums.totals passed.now.notes.sums kind.is_spent kind.penalty }
+{
+    text_cost(
+        style,
+        room,
+        &passed.sums,
+        &passed.notes,
+        kind.is_spent,
+        kind.penalty,
+    )
+}
+
 impl TakesEnds for OneRoom<'_> {
     ghost use Rattle.pg_candidates.specs.Taken.{TookIn, both_in, none_in};
 
@@ -71,17 +96,23 @@ impl TakesEnds for OneRoom<'_> {
         _picks: &Rc<Picks>,
         _demerits: i64,
     ) -> Result<(), AllocError> {
-        let near = near_alone(
-            self.style,
-            &self.room.give,
-            to,
-            kind_at(self.galley, to),
-            passed,
-        );
-        if near.is_too_low(&self.room) {
+        let style = self.style;
+        let room = &self.room;
+        if is_too_low(room, least_of(style, passed)) {
             return Ok(());
         }
-        keep_end(self.style, &self.room, &[], &near, &mut self.ends)
+        let kind = kind_at(self.galley, to);
+        let cost = cost_in(style, room, kind, passed);
+        if !is_tolerable(style, kind, cost.badness) {
+            return Ok(());
+        }
+        let end = RoomEnd {
+            to,
+            at: 0,
+            cost,
+            pick_demerits: 0,
+        };
+        keep_best(&[], &mut self.ends, end)
     }
 
     ghost none_taken = { none_in };

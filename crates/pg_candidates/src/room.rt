@@ -10,11 +10,12 @@ ghost use Rattle.pg_rules.specs.Legal.{document};
 ghost use Rattle.law_walk.specs.Best.{AreBest};
 ghost use Rattle.law_walk.specs.Candidates.{AreCandidates, Candidate as ACandidate, has_text as has_text_of, kept_ends, text_ends};
 ghost use Rattle.pg_candidates.specs.Nears.{AreNear, IsNear, IsNearIn, IsWithin, IsWorstCost, needed_in, needed_of};
-ghost use Rattle.pg_candidates.specs.RoomEnds.{ends_of, picks_at};
+ghost use Rattle.pg_candidates.specs.RoomEnds.{end_by, ends_of, picks_at};
 ghost use Rattle.pg_candidates.specs.View.{candidate_of};
 
 use crate::best::keep_best;
 use crate::candidate::{Candidate, CandidateList};
+use crate::kind::EndKind;
 use crate::making::nears_of;
 use crate::near::{Near, NearList};
 use crate::order::in_order;
@@ -48,10 +49,10 @@ fn give_of(room: &TextRoom, near: &Near) -> Give
 }
 
 // Whether an end is forced or the badness within the tolerance.
-fn is_tolerable(style: &Style, near: &Near, badness: u16) -> bool
-    ensures { result ≡ (near.now.kind.is_forced || nat_le badness style.now.tolerance) }
+pub(crate) fn is_tolerable(style: &Style, kind: EndKind, badness: u16) -> bool
+    ensures { result ≡ (kind.is_forced || nat_le badness style.now.tolerance) }
 {
-    near.kind.is_forced || badness <= style.tolerance
+    kind.is_forced || badness <= style.tolerance
 }
 
 // The numbers of a candidate in a room.
@@ -76,9 +77,21 @@ fn cost_of(style: &Style, room: &TextRoom, near: &Near) -> TextCost
     }
 }
 
+// The end of a candidate with these numbers.
+fn end_with(near: &Near, cost: TextCost) -> RoomEnd
+    ensures { result ≡ end_by near.now cost }
+{
+    RoomEnd {
+        to: near.to,
+        at: near.at,
+        cost,
+        pick_demerits: near.pick_demerits,
+    }
+}
+
 // Adds the end of the candidate that this is of, where it keeps the rules on its text in a room that is not below its least
 // one and no end there is better.
-pub(crate) fn keep_end(
+fn keep_end(
     style: &Style,
     room: &TextRoom,
     candidates: &[Candidate],
@@ -96,10 +109,10 @@ pub(crate) fn keep_end(
         (ends_of (map candidate_of candidates.now) ends.new.items)) }
 {
     let cost = cost_of(style, room, near);
-    if !is_tolerable(style, near, cost.badness) {
+    if !is_tolerable(style, near.kind, cost.badness) {
         return Ok(());
     }
-    keep_best(candidates, ends, near, cost)
+    keep_best(candidates, ends, end_with(near, cost))
 }
 
 // Adds the end of the candidate that this is of, where it is needed in a room.

@@ -1,7 +1,6 @@
 //! Labels tested whether they are closed.
 ghost use Rattle.std.specs.Prelude.{◌≡◌, ◌≤◌, ◌+◌, true, length, Contains, IfOk, OnOk, Some, None, ◌+ℤ◌};
 ghost use Rattle.std.specs.Bool.{Decides};
-ghost use Rattle.pg_plan.specs.declared.states.Label.{Label as ALabel};
 ghost use Rattle.pg_table.specs.Needless.{MarksMore};
 ghost use Rattle.pg_table.specs.Space.{AreWanted};
 ghost use Rattle.pg_table.specs.declared.step.Step.{Step as AStep};

@@ -12,7 +12,8 @@ use Rattle.pg_list.specs.Shapes.{IsBlock, is_insert}
 use Rattle.pg_style.specs.declared.style.Class.{Class}
 use Rattle.pg_list.specs.Break.{is_forcing}
 use Rattle.pg_breaks.specs.Near.{place_forced, place_penalty}
-use Rattle.pg_lemmas.proofs.Bools.{if_false, if_true}
+use Rattle.pg_lemmas.proofs.Bools.{both, if_false, if_true}
+use Rattle.pg_list.specs.declared.galley.Place.{Place}
 use Rattle.pg_notes.specs.declared.sums.NoteSum.{NoteSum}
 use Rattle.pg_notes.specs.Step.{with_note}
 use Rattle.pg_rules.specs.Room.{Document}
@@ -25,7 +26,7 @@ use Rattle.pg_hops.specs.declared.cursor.Cursor.{Cursor}
 use Rattle.pg_hops.specs.Ahead.{before, item_ahead, items_ahead, place_ahead, settled, stepped, is_behind}
 use Rattle.pg_hops.proofs.Cursors.{ahead_is}
 use Rattle.pg_hops.specs.Goes.{Goes}
-use Rattle.pg_hops.specs.Hop.{HopValue, IsHop, IsHopOver, ends_hop, moved, past_one, past_plain, standing}
+use Rattle.pg_hops.specs.Hop.{HopValue, IsHop, IsHopAt, IsHopOver, MayHop, ends_hop, moved, past_one, past_plain, standing}
 use Rattle.pg_hops.proofs.FreeBreak.{break_free, break_insert}
 use Rattle.pg_hops.proofs.OneStep.{goes_on, goes_one, one}
 
@@ -205,3 +206,20 @@ module _ (doc : Document) (from : Cursor) (item : Item) (ahead : Some item ≡ i
     hop_goes = past_all doc.blocks doc.style.maxdepth Reaches plain_step hop (hop.added.count - 1) begun over.plain
         (goes_one doc from item ahead p (moved over_it begun.added.shift)
         (first_passed doc all from item ahead over.is_break over.is_free p box))
+
+-- an item stands ahead of a hop
+pub hop_item : (blocks : List Block) (maxdepth : ℤ) (from : Cursor) (hop : HopValue) (o : Option Item) →
+    IsHopAt blocks maxdepth from hop o → (item : Item) × (o ≡ Some item)
+hop_item blocks maxdepth from hop None is = absurd is
+hop_item blocks maxdepth from hop (Some item) is = (item, refl)
+
+-- a hop leads on from a break behind a box
+pub hop_end : (blocks : List Block) (maxdepth : ℤ) (p : Passed) (from : Cursor) (here : Place) (hop : HopValue) →
+    here ≡ place_ahead from → MayHop blocks maxdepth p from (Some hop) → true ≡ is_end_here blocks p here
+hop_end blocks maxdepth p from here hop e may = sym (both p.totals.has_box (is_some (place_penalty blocks here)) may.0
+    (ap (λ (at : Place). is_some (place_penalty blocks at)) e ∙ breaks (item_ahead blocks from) may.1))
+  where
+    breaks : (o : Option Item) → IsHopAt blocks maxdepth from hop o →
+        is_some (place_penalty blocks (place_ahead from)) ≡ true
+    breaks None is = absurd is
+    breaks (Some item) is = is.is_break

@@ -31,7 +31,7 @@ pub fn hop_ahead<'a>(index: &'a BreakIndex, passed: &Passed, at: Cursor) -> Opti
 /// Whether the next item's place is a break behind a box; it is where a hop leads on from it.
 ///
 /// Conditions: the item is the cursor's next one, and the place is the cursor's.
-pub fn is_end_ahead(
+pub(crate) fn is_end_ahead(
     galley: &Galley,
     passed: &Passed,
     at: Cursor,
@@ -76,6 +76,25 @@ fn hop_over(style: &Style, hop: &Hop, passed: &mut Passed)
 {
     passed.cross(style);
     add_items(hop, passed);
+}
+
+/// Past a break behind a box and all items of the hop from it. Answers where the hop leads.
+///
+/// Conditions: the hop leads on from the cursor, a box was passed, and with the items ahead at most 2^20 are counted.
+pub fn hop_on(galley: &Galley, style: &Style, at: Cursor, hop: &Hop, passed: &mut Passed) -> Cursor
+    requires style { IsFor style.now passed.old }
+    requires hop { MayHop galley.now.blocks style.now.maxdepth (view passed.old) at (Some hop.now) }
+    requires few { (passed.old.sums.count + length (items_ahead galley.now.blocks at) ≤ 2 ^ 20)
+        × (passed.old.notes.count + length (items_ahead galley.now.blocks at) ≤ 2 ^ 20) }
+    ensures goes { Goes (document galley.now style.now) at result (view passed.old) (view passed.new) }
+    ensures style { IsFor style.now passed.new }
+    ensures counts { Counts galley.now.blocks at result passed.old.sums.count passed.new.sums.count
+        × Counts galley.now.blocks at result passed.old.notes.count passed.new.notes.count }
+{
+    // The blocks keep their shape.
+    let _shape = galley.blocks().as_slice();
+    hop_over(style, hop, passed);
+    hop.to()
 }
 
 /// One step from a cursor: past all items of a hop from it, or past its next item. Answers where the step leads; none where

@@ -31,7 +31,7 @@ mod state;
 
 pub use added::Added;
 pub use cursor::Cursor;
-pub use going::{go, hop_ahead, is_end_ahead};
+pub use going::{go, hop_ahead, hop_on};
 pub use hop::Hop;
 pub use index::BreakIndex;
 pub use passed::Passed;

@@ -1,5 +1,5 @@
 //! The candidates of a place.
-ghost use Rattle.std.specs.Prelude.{◌≡◌, ◌++◌, [], true, if◌then◌else◌, None, Some, IfOk, IfSome, OnOk};
+ghost use Rattle.std.specs.Prelude.{◌≡◌, [], if◌then◌else◌, None, Some, IfOk, IfSome, OnOk};
 ghost use Rattle.std.specs.List.{AllByRecursion};
 ghost use Rattle.pg_style.specs.Ranges.{IsClass};
 ghost use Rattle.pg_hops.specs.Index.{AreHops};
@@ -9,9 +9,6 @@ ghost use Rattle.pg_column.specs.Passed.{nothing};
 ghost use Rattle.law_walk.specs.Candidates.{AreCandidates};
 ghost use Rattle.law_walk.specs.Reached.{quiet};
 ghost use Rattle.law_walk.specs.Space.{first_ends};
-ghost use Rattle.law_walk.specs.Walk.{first_front, first_items, past_stretch};
-ghost use Rattle.pg_candidates.specs.View.{passed_of};
-ghost use Rattle.pg_walk.specs.Meaning.{IsOwn};
 ghost use Rattle.pg_walk.specs.Blocks.{HasStart, HasWalked, IsAlone, TellsAlone};
 
 use crate::{collect, variants_at};

@@ -1,4 +1,5 @@
 use Rattle.std.proofs.Common.{rules, arith, sym, ap, subst, refl, ◌∙◌, [], List, ℕ, w64, to_z, of_z}
+use Rattle.std.specs.Option.{option_copied}
 use Rattle.pg_list.specs.Places.{place}
 use Rattle.std.proofs.lemmas.Int.{to_z-of_z}
 use mir.Val.{SFits}
@@ -10,6 +11,8 @@ use Rattle.pg_hops.specs.Quiet.{is_quiet}
 use Rattle.pg_hops.specs.View.{view}
 use Rattle.pg_hops.specs.declared.passed.Passed.{Passed}
 use Rattle.pg_hops.proofs.Along.{end_past, end_reach, last, none_left}
+use Rattle.pg_hops.specs.Hop.{MayHop}
+use Rattle.pg_hops.proofs.PlainOn.{hop_end}
 use Rattle.pg_hops.proofs.Quiet.{end_along}
 use Rattle.pg_hops.proofs.Stepped.{over_past, over_reach, step_past, step_reach, stop_reach}
 use Rattle.pg_candidates.specs.View.{passed_of}
@@ -18,12 +21,6 @@ use Rattle.pg_candidates.proofs.Stretched.{end_ends, over_ends, over_quiet, step
 use Rattle.pg_candidates.proofs.Handed.{all_taken, taking_on}
 use Rattle.pg_candidates.proofs.along.walk_on.Goals as goal
 
-pub is_end_ahead-is_end-requires-clause-hop : goal.is_end_ahead-is_end-requires-clause-hop
-is_end_ahead-is_end-requires-clause-hop g c = (
-  c.args.style.now.maxdepth,
-  c.hop_ahead-hop.ensures c.args.galley.now.blocks c.args.style.now.maxdepth c.requires.hops,
-)
-
 pub returns-in_default-go-clause-ends : goal.returns-in_default-go-clause-ends
 returns-in_default-go-clause-ends g c =
     let f0 : SFits w64 c.args.top = search rules in
@@ -31,20 +28,20 @@ returns-in_default-go-clause-ends g c =
     let doc = document c.args.galley.now c.args.style.now in
     let top = to_z w64 (of_z w64 c.args.top) in
     let demerits = to_z w64 (of_z w64 c.args.demerits) in
-    subst (λ (picks : List ℕ). g.T.TakesEnds.Took c.args.found.now c.end_at.new.found
+    subst (λ (picks : List ℕ). g.T.TakesEnds.Took c.args.found.now c.end_at-in-ahead.new.found
     (ends_along doc c.args.top picks c.args.demerits (place (front_ahead c.args.galley.now.blocks c.args.start) 0 0)
     (view c.args.before) (items_ahead c.args.galley.now.blocks c.args.start))) c.in_ok-shared.ensures
     (simp to_z-of_z at (all_taken g.T.TakesEnds.Took g.met.T.TakesEnds.both_taken c.args.found.now c.ahead.found
-    c.end_at.new.found _ _ _ c.ahead.invariant.ends
-    (c.in_ok-end_at.ensures c.args.galley.now c.is_end_ahead-is_end.ensures)
-    (stop_ends doc top c.ahead.at c.place-here.result c.place-here.ensures (view c.ahead.passed)
+    c.end_at-in-ahead.new.found _ _ _ c.ahead.invariant.ends
+    (c.in_ok-end_at-2.ensures c.args.galley.now c.ends_at-is_end.ensures)
+    (stop_ends doc top c.ahead.at c.place-here-in-ahead.result c.place-here-in-ahead.ensures (view c.ahead.passed)
     c.in_ok-shared.shared.value demerits [] _ refl c.in_default-go.ensures.stops)))
 
 pub returns-in_default-go-clause-past : goal.returns-in_default-go-clause-past
 returns-in_default-go-clause-past g c =
     let f0 : SFits w64 c.args.top = search rules in
     let doc = document c.args.galley.now c.args.style.now in
-    ap (λ (w : Walked). passed_of w.state) c.stopped.ensures
+    ap (λ (w : Walked). passed_of w.state) c.stopped-in_default-go.ensures
     ∙ (sym (c.in_default-go.ensures.stops.past c.args.top)
     ∙ (simp to_z-of_z at c.ahead.invariant.past))
 
@@ -60,21 +57,55 @@ returns-then-not-fits-clause-ends g c =
     (view c.args.before) (items_ahead c.args.galley.now.blocks c.args.start))) c.in_ok-shared.ensures
     (simp to_z-of_z at (all_taken g.T.TakesEnds.Took g.met.T.TakesEnds.both_taken c.args.found.now c.ahead.found
     c.end_at.new.found _ _ _ c.ahead.invariant.ends
-    (c.in_ok-end_at.ensures c.args.galley.now c.is_end_ahead-is_end.ensures)
+    (c.in_ok-end_at.ensures c.args.galley.now
+    (hop_end c.args.galley.now.blocks c.args.style.now.maxdepth (view c.ahead.passed) c.ahead.at c.place-here.result
+    c.in-Some.hop.now c.place-here.ensures
+    (subst (λ o. MayHop c.args.galley.now.blocks c.args.style.now.maxdepth (view c.ahead.passed) c.ahead.at
+    (option_copied o)) c.in-Some.is (c.hop_ahead.ensures c.args.galley.now.blocks c.args.style.now.maxdepth
+    c.requires.hops))))
     (over_ends doc top c.ahead.at c.place-here.result c.place-here.ensures (view c.ahead.passed)
-    c.in_ok-shared.shared.value demerits [] _ refl c.in-Some-go.next (view c.go.new.passed) c.in-Some-go.ensures.goes
+    c.in_ok-shared.shared.value demerits [] _ refl c.hop_on-at.result (view c.hop_on-at.new.passed) c.hop_on-at.ensures.goes
     (sym c.fits.ensures ∙ c.if-not-fits.true))))
+
+pub returns-then-not-fits-2-clause-ends : goal.returns-then-not-fits-2-clause-ends
+returns-then-not-fits-2-clause-ends g c =
+    let f0 : SFits w64 c.args.top = search rules in
+    let f1 : SFits w64 c.args.demerits = search rules in
+    let doc = document c.args.galley.now c.args.style.now in
+    let top = to_z w64 (of_z w64 c.args.top) in
+    let demerits = to_z w64 (of_z w64 c.args.demerits) in
+    subst (λ (picks : List ℕ). g.T.TakesEnds.Took c.args.found.now c.end_at-in-ahead.new.found
+    (ends_along doc c.args.top picks c.args.demerits (place (front_ahead c.args.galley.now.blocks c.args.start) 0 0)
+    (view c.args.before) (items_ahead c.args.galley.now.blocks c.args.start))) c.in_ok-shared.ensures
+    (simp to_z-of_z at (all_taken g.T.TakesEnds.Took g.met.T.TakesEnds.both_taken c.args.found.now c.ahead.found
+    c.end_at-in-ahead.new.found _ _ _ c.ahead.invariant.ends
+    (c.in_ok-end_at-2.ensures c.args.galley.now c.ends_at-is_end.ensures)
+    (over_ends doc top c.ahead.at c.place-here-in-ahead.result c.place-here-in-ahead.ensures (view c.ahead.passed)
+    c.in_ok-shared.shared.value demerits [] _ refl c.in-Some-go.next (view c.go.new.passed) c.in-Some-go.ensures.goes
+    (sym c.fits-in-ahead.ensures ∙ c.if-not-fits-2.true))))
 
 pub returns-then-not-fits-clause-past : goal.returns-then-not-fits-clause-past
 returns-then-not-fits-clause-past g c =
     let f0 : SFits w64 c.args.top = search rules in
     let doc = document c.args.galley.now c.args.style.now in
-    ap (λ (w : Walked). passed_of w.state) c.stopped-then-not-fits.ensures
+    ap (λ (w : Walked). passed_of w.state) c.stopped.ensures
+    ∙ (over_past doc c.args.top c.ahead.at c.hop_on-at.result (view c.ahead.passed) (view c.hop_on-at.new.passed)
+    c.hop_on-at.ensures.goes
+    (sym (c.fits.ensures
+    ∙ ap (fits c.hop_on-at.new.passed.bound) (to_z-of_z w64 c.args.top (record { sfits = search rules })))
+    ∙ c.if-not-fits.true)
+    ∙ (simp to_z-of_z at c.ahead.invariant.past))
+
+pub returns-then-not-fits-2-clause-past : goal.returns-then-not-fits-2-clause-past
+returns-then-not-fits-2-clause-past g c =
+    let f0 : SFits w64 c.args.top = search rules in
+    let doc = document c.args.galley.now c.args.style.now in
+    ap (λ (w : Walked). passed_of w.state) c.stopped-then-not-fits-2.ensures
     ∙ (over_past doc c.args.top c.ahead.at c.in-Some-go.next (view c.ahead.passed) (view c.go.new.passed)
     c.in-Some-go.ensures.goes
-    (sym (c.fits.ensures
+    (sym (c.fits-in-ahead.ensures
     ∙ ap (fits c.go.new.passed.bound) (to_z-of_z w64 c.args.top (record { sfits = search rules })))
-    ∙ c.if-not-fits.true)
+    ∙ c.if-not-fits-2.true)
     ∙ (simp to_z-of_z at c.ahead.invariant.past))
 
 pub ahead-init : goal.ahead-init
@@ -92,6 +123,41 @@ ahead-init g c = record {
   quiet = refl;
 }
 
+pub ahead-preserved-in-Some : goal.ahead-preserved-in-Some
+ahead-preserved-in-Some g c =
+    let doc = document c.args.galley.now c.args.style.now in
+    let top = to_z w64 (of_z w64 c.args.top) in
+    let demerits = to_z w64 (of_z w64 c.args.demerits) in
+    let to = c.hop_on-at.result in
+    let old = view c.ahead.passed in
+    let new = view c.hop_on-at.new.passed in
+    let went = c.hop_on-at.ensures.goes in
+    let counts = c.hop_on-at.ensures.counts in
+    let bound = sym c.fits.ensures ∙ c.if-not-fits.false in
+    record {
+      settled = went.settled;
+      front = went.front ∙ c.ahead.invariant.front;
+      style = c.hop_on-at.ensures.style;
+      bound = bound;
+      sums = counts.0.passed ∙ c.ahead.invariant.sums;
+      notes = counts.1.passed ∙ c.ahead.invariant.notes;
+      past = step_past doc top c.ahead.at to old new went bound ∙ c.ahead.invariant.past;
+      ends = taking_on g.T.TakesEnds.Took g.met.T.TakesEnds.both_taken c.args.found.now c.ahead.found
+          c.end_at.new.found _ _ _ c.ahead.invariant.ends
+          (c.in_ok-end_at.ensures c.args.galley.now
+          (hop_end c.args.galley.now.blocks c.args.style.now.maxdepth (view c.ahead.passed) c.ahead.at c.place-here.result
+          c.in-Some.hop.now c.place-here.ensures
+          (subst (λ o. MayHop c.args.galley.now.blocks c.args.style.now.maxdepth (view c.ahead.passed) c.ahead.at
+          (option_copied o)) c.in-Some.is (c.hop_ahead.ensures c.args.galley.now.blocks c.args.style.now.maxdepth
+          c.requires.hops)))) _
+          (step_ends doc top c.ahead.at c.place-here.result c.place-here.ensures old c.in_ok-shared.shared.value demerits
+          [] _ refl to new went bound);
+      reach = step_reach c.ahead.at c.place-here.result c.place-here.ensures c.ahead.greatest
+          c.max-greatest.result c.max-greatest.ensures doc top to old new went bound
+          ∙ c.ahead.invariant.reach;
+      quiet = step_quiet doc top c.ahead.at to old new went bound ∙ c.ahead.invariant.quiet;
+    }
+
 pub ahead-preserved : goal.ahead-preserved
 ahead-preserved g c =
     let doc = document c.args.galley.now c.args.style.now in
@@ -102,7 +168,7 @@ ahead-preserved g c =
     let new = view c.go.new.passed in
     let went = c.in-Some-go.ensures.goes in
     let counts = c.in-Some-go.ensures.counts in
-    let bound = sym c.fits.ensures ∙ c.if-not-fits.false in
+    let bound = sym c.fits-in-ahead.ensures ∙ c.if-not-fits-2.false in
     record {
       settled = went.settled;
       front = went.front ∙ c.ahead.invariant.front;
@@ -112,12 +178,12 @@ ahead-preserved g c =
       notes = counts.1.passed ∙ c.ahead.invariant.notes;
       past = step_past doc top c.ahead.at to old new went bound ∙ c.ahead.invariant.past;
       ends = taking_on g.T.TakesEnds.Took g.met.T.TakesEnds.both_taken c.args.found.now c.ahead.found
-          c.end_at.new.found _ _ _ c.ahead.invariant.ends
-          (c.in_ok-end_at.ensures c.args.galley.now c.is_end_ahead-is_end.ensures) _
-          (step_ends doc top c.ahead.at c.place-here.result c.place-here.ensures old c.in_ok-shared.shared.value demerits
+          c.end_at-in-ahead.new.found _ _ _ c.ahead.invariant.ends
+          (c.in_ok-end_at-2.ensures c.args.galley.now c.ends_at-is_end.ensures) _
+          (step_ends doc top c.ahead.at c.place-here-in-ahead.result c.place-here-in-ahead.ensures old c.in_ok-shared.shared.value demerits
           [] _ refl to new went bound);
-      reach = step_reach c.ahead.at c.place-here.result c.place-here.ensures c.ahead.greatest
-          c.max-greatest.result c.max-greatest.ensures doc top to old new went bound
+      reach = step_reach c.ahead.at c.place-here-in-ahead.result c.place-here-in-ahead.ensures c.ahead.greatest
+          c.max-greatest-in-ahead.result c.max-greatest-in-ahead.ensures doc top to old new went bound
           ∙ c.ahead.invariant.reach;
       quiet = step_quiet doc top c.ahead.at to old new went bound ∙ c.ahead.invariant.quiet;
     }
@@ -134,29 +200,29 @@ returns-clause-ends g c =
     (view c.args.before) (items_ahead c.args.galley.now.blocks c.args.start))) c.in_ok-shared.ensures
     (simp to_z-of_z at (all_taken g.T.TakesEnds.Took g.met.T.TakesEnds.both_taken c.args.found.now c.ahead.found
     c.end_at-2.new.found _ _ _ c.ahead.invariant.ends
-    (c.in_ok-end_at-2.ensures c.args.galley.now c.is_end-is_end.ensures)
-    (end_ends doc top c.ahead.at c.ahead.invariant.settled c.in_default.ensures.item (view c.ahead.passed)
+    (c.in_ok-end_at-3.ensures c.args.galley.now c.is_end-is_end.ensures)
+    (end_ends doc top c.ahead.at c.ahead.invariant.settled c.in_default-item.ensures.item (view c.ahead.passed)
     c.in_ok-shared.shared.value demerits c.place-front.result c.place-front.ensures [] _ refl)))
 
 pub returns-clause-past : goal.returns-clause-past
 returns-clause-past g c =
     let f0 : SFits w64 c.args.top = search rules in
     let doc = document c.args.galley.now c.args.style.now in
-    end_past doc c.args.top c.ahead.at c.ahead.invariant.settled c.in_default.ensures.item (view c.ahead.passed)
+    end_past doc c.args.top c.ahead.at c.ahead.invariant.settled c.in_default-item.ensures.item (view c.ahead.passed)
     (simp to_z-of_z at c.ahead.invariant.bound)
     ∙ (simp to_z-of_z at c.ahead.invariant.past)
 
 pub returns-clause-front : goal.returns-clause-front
 returns-clause-front g c =
     let doc = document c.args.galley.now c.args.style.now in
-    let done = last doc c.args.top c.ahead.at c.ahead.invariant.settled c.in_default.ensures.item
+    let done = last doc c.args.top c.ahead.at c.ahead.invariant.settled c.in_default-item.ensures.item
     (view c.ahead.passed) in
     sym done.front ∙ c.ahead.invariant.front
 
 pub returns-clause-counts : goal.returns-clause-counts
 returns-clause-counts g c =
     let doc = document c.args.galley.now c.args.style.now in
-    let none = none_left doc c.args.top c.ahead.at c.ahead.invariant.settled c.in_default.ensures.item
+    let none = none_left doc c.args.top c.ahead.at c.ahead.invariant.settled c.in_default-item.ensures.item
     (view c.ahead.passed) in
     (omega (arith, none, c.ahead.invariant.sums), omega (arith, none, c.ahead.invariant.notes))
 
@@ -164,16 +230,16 @@ pub returns-in_default-go-clause-reach : goal.returns-in_default-go-clause-reach
 returns-in_default-go-clause-reach g c =
     let f0 : SFits w64 c.args.top = search rules in
     let doc = document c.args.galley.now c.args.style.now in
-    ap (λ (w : Walked). w.greatest) c.stopped.ensures
-    ∙ (stop_reach c.ahead.at c.place-here.result c.place-here.ensures c.ahead.greatest c.max-greatest.result
-    c.max-greatest.ensures doc c.args.top (view c.ahead.passed) c.in_default-go.ensures.stops
+    ap (λ (w : Walked). w.greatest) c.stopped-in_default-go.ensures
+    ∙ (stop_reach c.ahead.at c.place-here-in-ahead.result c.place-here-in-ahead.ensures c.ahead.greatest c.max-greatest-in-ahead.result
+    c.max-greatest-in-ahead.ensures doc c.args.top (view c.ahead.passed) c.in_default-go.ensures.stops
     (front_ahead c.args.galley.now.blocks c.ahead.at)
     ∙ (simp to_z-of_z at c.ahead.invariant.reach))
 
 pub returns-in_default-go-clause-quiet : goal.returns-in_default-go-clause-quiet
 returns-in_default-go-clause-quiet g c =
     let f0 : SFits w64 c.args.top = search rules in
-    ap (λ (w : Walked). w.is_quiet) c.stopped.ensures
+    ap (λ (w : Walked). w.is_quiet) c.stopped-in_default-go.ensures
     ∙ (ap (λ (p : Passed). is_quiet c.args.style.now (view p)) c.in_default-go.ensures.same
     ∙ (sym (c.in_default-go.ensures.stops.quiet c.args.top)
     ∙ (simp to_z-of_z at c.ahead.invariant.quiet)))
@@ -182,32 +248,57 @@ pub returns-then-not-fits-clause-reach : goal.returns-then-not-fits-clause-reach
 returns-then-not-fits-clause-reach g c =
     let f0 : SFits w64 c.args.top = search rules in
     let doc = document c.args.galley.now c.args.style.now in
-    ap (λ (w : Walked). w.greatest) c.stopped-then-not-fits.ensures
+    ap (λ (w : Walked). w.greatest) c.stopped.ensures
     ∙ (over_reach c.ahead.at c.place-here.result c.place-here.ensures c.ahead.greatest c.max-greatest.result
-    c.max-greatest.ensures doc c.args.top c.in-Some-go.next (view c.ahead.passed) (view c.go.new.passed)
-    c.in-Some-go.ensures.goes
+    c.max-greatest.ensures doc c.args.top c.hop_on-at.result (view c.ahead.passed) (view c.hop_on-at.new.passed)
+    c.hop_on-at.ensures.goes
     (sym (c.fits.ensures
-    ∙ ap (fits c.go.new.passed.bound) (to_z-of_z w64 c.args.top (record { sfits = search rules })))
+    ∙ ap (fits c.hop_on-at.new.passed.bound) (to_z-of_z w64 c.args.top (record { sfits = search rules })))
     ∙ c.if-not-fits.true)
+    ∙ (simp to_z-of_z at c.ahead.invariant.reach))
+
+pub returns-then-not-fits-2-clause-reach : goal.returns-then-not-fits-2-clause-reach
+returns-then-not-fits-2-clause-reach g c =
+    let f0 : SFits w64 c.args.top = search rules in
+    let doc = document c.args.galley.now c.args.style.now in
+    ap (λ (w : Walked). w.greatest) c.stopped-then-not-fits-2.ensures
+    ∙ (over_reach c.ahead.at c.place-here-in-ahead.result c.place-here-in-ahead.ensures c.ahead.greatest c.max-greatest-in-ahead.result
+    c.max-greatest-in-ahead.ensures doc c.args.top c.in-Some-go.next (view c.ahead.passed) (view c.go.new.passed)
+    c.in-Some-go.ensures.goes
+    (sym (c.fits-in-ahead.ensures
+    ∙ ap (fits c.go.new.passed.bound) (to_z-of_z w64 c.args.top (record { sfits = search rules })))
+    ∙ c.if-not-fits-2.true)
     ∙ (simp to_z-of_z at c.ahead.invariant.reach))
 
 pub returns-then-not-fits-clause-quiet : goal.returns-then-not-fits-clause-quiet
 returns-then-not-fits-clause-quiet g c =
     let f0 : SFits w64 c.args.top = search rules in
     let doc = document c.args.galley.now c.args.style.now in
-    ap (λ (w : Walked). w.is_quiet) c.stopped-then-not-fits.ensures
+    ap (λ (w : Walked). w.is_quiet) c.stopped.ensures
+    ∙ (over_quiet doc c.args.top c.ahead.at c.hop_on-at.result (view c.ahead.passed) (view c.hop_on-at.new.passed)
+    c.hop_on-at.ensures.goes
+    (sym (c.fits.ensures
+    ∙ ap (fits c.hop_on-at.new.passed.bound) (to_z-of_z w64 c.args.top (record { sfits = search rules })))
+    ∙ c.if-not-fits.true)
+    ∙ (simp to_z-of_z at c.ahead.invariant.quiet))
+
+pub returns-then-not-fits-2-clause-quiet : goal.returns-then-not-fits-2-clause-quiet
+returns-then-not-fits-2-clause-quiet g c =
+    let f0 : SFits w64 c.args.top = search rules in
+    let doc = document c.args.galley.now c.args.style.now in
+    ap (λ (w : Walked). w.is_quiet) c.stopped-then-not-fits-2.ensures
     ∙ (over_quiet doc c.args.top c.ahead.at c.in-Some-go.next (view c.ahead.passed) (view c.go.new.passed)
     c.in-Some-go.ensures.goes
-    (sym (c.fits.ensures
+    (sym (c.fits-in-ahead.ensures
     ∙ ap (fits c.go.new.passed.bound) (to_z-of_z w64 c.args.top (record { sfits = search rules })))
-    ∙ c.if-not-fits.true)
+    ∙ c.if-not-fits-2.true)
     ∙ (simp to_z-of_z at c.ahead.invariant.quiet))
 
 pub returns-clause-reach : goal.returns-clause-reach
 returns-clause-reach g c =
     let f0 : SFits w64 c.args.top = search rules in
     let doc = document c.args.galley.now c.args.style.now in
-    end_reach doc c.args.top c.ahead.at c.ahead.invariant.settled c.in_default.ensures.item (view c.ahead.passed)
+    end_reach doc c.args.top c.ahead.at c.ahead.invariant.settled c.in_default-item.ensures.item (view c.ahead.passed)
     c.ahead.greatest c.max.result c.max.ensures
     ∙ (simp to_z-of_z at c.ahead.invariant.reach)
 
@@ -217,5 +308,5 @@ returns-clause-quiet g c =
     let doc = document c.args.galley.now c.args.style.now in
     c.is_quiet.ensures
     ∙ (ap (is_quiet c.args.style.now)
-    (end_along doc c.args.top c.ahead.at c.ahead.invariant.settled c.in_default.ensures.item (view c.ahead.passed))
+    (end_along doc c.args.top c.ahead.at c.ahead.invariant.settled c.in_default-item.ensures.item (view c.ahead.passed))
     ∙ (simp to_z-of_z at c.ahead.invariant.quiet))

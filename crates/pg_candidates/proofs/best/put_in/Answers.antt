@@ -1,7 +1,7 @@
 use Rattle.std.proofs.Common.{◌∙◌, ap, map, refl, sym}
 use Rattle.std.specs.List.{insert}
 use Rattle.std.specs.Prelude.{slice_set}
-use Rattle.pg_candidates.specs.RoomEnds.{end_by, ends_of}
+use Rattle.pg_candidates.specs.RoomEnds.{ends_of}
 use Rattle.pg_candidates.specs.View.{candidate_of}
 use Rattle.pg_candidates.specs.declared.best.Spot.TheVariants.{Before, Instead, Nowhere}
 use Rattle.pg_candidates.specs.declared.room_end.RoomEnd.{RoomEnd}
@@ -12,22 +12,20 @@ pub returns-in_ok-put_behind-in-Before : goal.returns-in_ok-put_behind-in-Before
 returns-in_ok-put_behind-in-Before c = λ order.
     let ds = map candidate_of c.args.candidates.now in
     let old = c.args.ends.now.items in
-    ap (ends_of ds) (c.in_ok-put_behind-in-Before.ensures
-    ∙ ap (λ (it : RoomEnd). insert old c.args.at it) c.end_with.ensures)
-    ∙ put_found ds (end_by c.args.near.now c.args.cost) old old c.as_slice.result.now c.args.at
+    ap (ends_of ds) c.in_ok-put_behind-in-Before.ensures
+    ∙ put_found ds c.args.end old old c.as_slice.result.now c.args.at
     Before order refl c.as_slice.ensures.value c.requires.within c.requires.point (sym c.in-Before.is ∙ c.spot_at.ensures)
 
 pub returns-in-Instead : goal.returns-in-Instead
 returns-in-Instead c = λ order.
     let ds = map candidate_of c.args.candidates.now in
     let old = c.args.ends.now.items in
-    ap (λ (it : RoomEnd). ends_of ds (slice_set old c.args.at it)) c.end_with-in-Instead.ensures
-    ∙ put_found ds (end_by c.args.near.now c.args.cost) old old c.as_slice.result.now c.args.at
+    put_found ds c.args.end old old c.as_slice.result.now c.args.at
     Instead order refl c.as_slice.ensures.value c.requires.within c.requires.point (sym c.in-Instead.is ∙ c.spot_at.ensures)
 
 pub returns-in-Nowhere : goal.returns-in-Nowhere
 returns-in-Nowhere c = λ order.
     let ds = map candidate_of c.args.candidates.now in
     let old = c.args.ends.now.items in
-    put_found ds (end_by c.args.near.now c.args.cost) old old c.as_slice.result.now c.args.at
+    put_found ds c.args.end old old c.as_slice.result.now c.args.at
     Nowhere order refl c.as_slice.ensures.value c.requires.within c.requires.point (sym c.in-Nowhere.is ∙ c.spot_at.ensures)

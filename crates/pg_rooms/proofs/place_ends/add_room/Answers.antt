@@ -1,4 +1,3 @@
-use Rattle.std.proofs.Common.{List}
 use Rattle.std.proofs.lemmas.Result.{on_ok_weaker}
 use Rattle.pg_candidates.proofs.Needed.{best_of_some}
 use Rattle.pg_candidates.specs.Nears.{needed_in}

@@ -1,4 +1,4 @@
-use Rattle.std.proofs.Common.{[], List, sym, subst}
+use Rattle.std.proofs.Common.{List, sym, subst}
 use Rattle.std.specs.List.{AllByRecursion}
 use Rattle.std.proofs.lemmas.Result.{on_ok_weaker}
 use Rattle.law_walk.specs.Candidates.{Candidate}

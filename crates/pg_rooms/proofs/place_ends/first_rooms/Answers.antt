@@ -1,7 +1,6 @@
 use Rattle.std.proofs.Common.{[], Option, IfSome, ◌≡◌, subst, sym}
 use Rattle.std.specs.List.{AllByRecursion}
 use Rattle.pg_candidates.specs.RoomEnds.{ends_of}
-use Rattle.pg_column.specs.declared.cost.TextRoom.{TextRoom}
 use Rattle.law_walk.specs.Best.{AreBest}
 use Rattle.law_walk.specs.Candidates.{text_ends}
 use Rattle.pg_sources.specs.Document.{doc_of}

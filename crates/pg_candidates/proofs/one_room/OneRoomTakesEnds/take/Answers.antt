@@ -1,4 +1,5 @@
-use Rattle.std.proofs.Common.{refl, sym, subst, arith, [], ◌∷◌, ◌++◌, ◌<ℤ◌, ◌≤ℤ◌}
+use Rattle.std.proofs.Common.{◌≡◌, ◌∙◌, refl, sym, subst, arith, List, [], ◌∷◌, ◌++◌, ◌<ℤ◌, pos, false}
+use Rattle.std.specs.Prelude.{int_lt}
 use Rattle.std.proofs.lemmas.Int.{ints}
 use Rattle.std.proofs.lemmas.Result.{on_ok_weaker}
 use Rattle.pg_column.specs.Numbers.{most_room}
@@ -8,7 +9,8 @@ use Rattle.law_walk.specs.Best.{AreBest}
 use Rattle.law_walk.specs.Candidates.{Candidate, text_ends}
 use Rattle.pg_candidates.specs.RoomEnds.{ends_of}
 use Rattle.pg_candidates.specs.View.{plain_to}
-use Rattle.pg_candidates.proofs.Plain.{plain_is}
+use Rattle.pg_candidates.proofs.Plain.{plain_is, plain_near, plain_value}
+use Rattle.pg_candidates.proofs.Nears.{best_kept, best_refused}
 use Rattle.pg_candidates.proofs.TooLow.{best_too_low}
 use Rattle.pg_candidates.proofs.one_room.OneRoomTakesEnds.take.Goals as goal
 
@@ -21,24 +23,52 @@ returns-then-is_too_low c = record {
       let doc = document c.args.self.now.galley.now c.args.self.now.style.now in
       let room = c.args.self.now.room in
       let ends = ends_of [] c.args.self.now.ends.items in
-      let low : most_room room <ℤ c.near_alone-near.result.least =
+      let low : most_room room <ℤ c.least_of.result =
       grind (arith, ints, c.is_too_low.ensures, c.if-is_too_low.true) in
       subst (λ (x : Candidate). AreBest (text_ends doc room (cs ++ x ∷ [])) ends) (sym (plain_is _ plain.0))
-      (best_too_low doc room cs (plain_to c.args.to (view c.args.passed.now)) c.near_alone-near.result.least ends low
-      (c.near_alone-near.ensures.near c.args.self.now.galley.now c.kind_at.ensures).least best);
+      (best_too_low doc room cs (plain_to c.args.to (view c.args.passed.now)) c.least_of.result ends low
+      (c.least_of.ensures c.args.self.now.galley.now c.args.to [] (pos 0)) best);
 }
 
-pub returns : goal.returns
-returns c = on_ok_weaker c.keep_end.result (λ added. record {
+pub returns-then-not-is_tolerable : goal.returns-then-not-is_tolerable
+returns-then-not-is_tolerable c = record {
   galley = refl;
   style = refl;
   room = refl;
   best = λ plain cs best.
       let doc = document c.args.self.now.galley.now c.args.self.now.style.now in
       let room = c.args.self.now.room in
-      let within : room.give.stretch ≤ℤ room.give.stretch = omega (arith, ints) in
-      subst (λ (x : Candidate). AreBest (text_ends doc room (cs ++ x ∷ [])) (ends_of [] c.keep_end.new.ends.items))
+      let it = plain_to c.args.to (view c.args.passed.now) in
+      let near = plain_value doc it c.kind_at-kind.result c.least_of.result in
+      let is = plain_near doc room.give.stretch it c.kind_at-kind.result c.least_of.result c.kind_at-kind.ensures
+      (c.least_of.ensures c.args.self.now.galley.now c.args.to [] (pos 0)) in
+      let high : int_lt (most_room room) c.least_of.result ≡ false =
+      grind (arith, ints, c.is_too_low.ensures, c.if-is_too_low.false) in
+      subst (λ (x : Candidate). AreBest (text_ends doc room (cs ++ x ∷ [])) (ends_of [] c.args.self.now.ends.items))
       (sym (plain_is _ plain.0))
-      (added c.args.self.now.galley.now room.give.stretch within cs (plain_to c.args.to (view c.args.passed.now)) refl
-      (c.near_alone-near.ensures.near c.args.self.now.galley.now c.kind_at.ensures) best);
-}) c.keep_end.ensures
+      (best_refused doc room.give.stretch room it near is c.cost_in-cost.result c.cost_in-cost.ensures cs [] refl
+      (ends_of [] c.args.self.now.ends.items) best high
+      (sym c.is_tolerable.ensures ∙ c.if-not-is_tolerable.true));
+}
+
+pub returns : goal.returns
+returns c = on_ok_weaker c.keep_best.result (λ added. record {
+  galley = refl;
+  style = refl;
+  room = refl;
+  best = λ plain cs best.
+      let doc = document c.args.self.now.galley.now c.args.self.now.style.now in
+      let room = c.args.self.now.room in
+      let it = plain_to c.args.to (view c.args.passed.now) in
+      let near = plain_value doc it c.kind_at-kind.result c.least_of.result in
+      let is = plain_near doc room.give.stretch it c.kind_at-kind.result c.least_of.result c.kind_at-kind.ensures
+      (c.least_of.ensures c.args.self.now.galley.now c.args.to [] (pos 0)) in
+      let high : int_lt (most_room room) c.least_of.result ≡ false =
+      grind (arith, ints, c.is_too_low.ensures, c.if-is_too_low.false) in
+      subst (λ (x : Candidate). AreBest (text_ends doc room (cs ++ x ∷ [])) (ends_of [] c.keep_best.new.ends.items))
+      (sym (plain_is _ plain.0))
+      (best_kept doc room.give.stretch room it near is c.cost_in-cost.result c.cost_in-cost.ensures cs [] refl
+      (ends_of [] c.args.self.now.ends.items) best high
+      (sym c.is_tolerable.ensures ∙ c.if-not-is_tolerable.false) (ends_of [] c.keep_best.new.ends.items)
+      (added best.ascend));
+}) c.keep_best.ensures
