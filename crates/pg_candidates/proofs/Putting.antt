@@ -1,5 +1,5 @@
 -- An end put in at its spot among ends that are in order.
-use Rattle.std.proofs.Common.{◌≡◌, refl, sym, ap, ◌∙◌, subst, ℕ, zero, suc, ◌-◌, ◌≤◌, ◌<◌, List, [], ◌∷◌, length, arith, Bool, true, false}
+use Rattle.std.proofs.Common.{◌≡◌, refl, sym, ap, ◌∙◌, subst, ℕ, zero, suc, ◌-◌, ◌≤◌, ◌<◌, List, [], ◌∷◌, ◌++◌, length, arith, Bool, true, false}
 use Rattle.std.specs.Prelude.{if◌then◌else◌, get_or, option_map, slice_get, slice_set}
 use Rattle.std.specs.List.{AllWithin, insert}
 use Rattle.std.specs.List.Sorted.{IsPartitionedBy, IsPartitionPoint}
@@ -117,6 +117,30 @@ module _ (cs : List Candidate) where
       fs i e)) q
       ∙ put_is e fs i (subst (λ (zs : List RoomEnd). i ≤ length zs) p le) there)
 
+  -- ---- an end behind all others
+
+  last_put : (e : RoomEnd) (fs : List RoomEnd) → AllWithin (λ f. is_before f e ≡ true) fs 0 (length fs) →
+      ends_of cs (fs ++ e ∷ []) ≡ insert_end (end_of cs e) (ends_of cs fs)
+  last_put e [] all = refl
+  last_put e (f ∷ fs) all =
+      let less : end_cmp (end_of cs f) (end_of cs e) ≡ Less =
+      less_is (end_cmp (end_of cs f) (end_of cs e)) (all 0 f (omega arith) (omega arith)) in
+      let rest : ends_of cs (fs ++ e ∷ []) ≡ insert_end (end_of cs e) (ends_of cs fs) =
+      last_put e fs (λ k d lo hi. all (suc k) d (omega arith) (omega (arith, hi))) in
+      ap (λ (gs : List End). end_of cs f ∷ gs) rest
+      ∙ sym (ap (λ (o : Ordering). placed_by o (end_of cs e) (end_of cs f) (ends_of cs fs)
+      (insert_end (end_of cs e) (ends_of cs fs))) (turned (end_of cs e) (end_of cs f) Less less))
+
+  -- found in a copy of the list
+  pub put_last : (e : RoomEnd) (fs xs gs : List RoomEnd) → Ascend (ends_of cs fs) → xs ≡ fs → gs ≡ fs ++ e ∷ [] →
+      (IsPartitionedBy (λ f. is_before f e) xs → AllWithin (λ f. is_before f e ≡ true) xs 0 (length xs)) →
+      ends_of cs gs ≡ insert_end (end_of cs e) (ends_of cs fs)
+  put_last e fs xs gs h p q all =
+      let there : AllWithin (λ f. is_before f e ≡ true) fs 0 (length fs) =
+      subst (λ (zs : List RoomEnd). AllWithin (λ f. is_before f e ≡ true) zs 0 (length zs)) p
+      (all (subst (IsPartitionedBy (λ f. is_before f e)) (sym p) (parted e fs h))) in
+      ap (ends_of cs) q ∙ last_put e fs there
+
 -- ---- the point is behind the last end that stands before
 
 pub point_behind : (e : RoomEnd) (fs : List RoomEnd) (i : ℕ) (f : RoomEnd) → 0 < i → i ≤ length fs →
@@ -127,3 +151,12 @@ point_behind e fs i f more within before behind by = (
       (ap (λ (g : RoomEnd). is_before g e) (get_or_default fs (i - 1) d f (omega (arith, more, within))) ∙ before),
   behind,
 )
+
+-- ---- all stand before where the last one does
+
+pub all_before : (e : RoomEnd) (fs : List RoomEnd) (f : RoomEnd) → 0 < length fs →
+    is_before (get_or fs (length fs - 1) f) e ≡ true → IsPartitionedBy (λ g. is_before g e) fs →
+    AllWithin (λ g. is_before g e ≡ true) fs 0 (length fs)
+all_before e fs f more before by = λ k d lo hi.
+    by k (length fs - 1) d (omega (arith, hi)) (omega (arith, more))
+    (ap (λ (g : RoomEnd). is_before g e) (get_or_default fs (length fs - 1) d f (omega (arith, more))) ∙ before)

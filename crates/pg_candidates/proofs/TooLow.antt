@@ -4,10 +4,12 @@ use Rattle.std.specs.Prelude.{◌&&◌, ◌||◌, not, if◌then◌else◌, int_
 use Rattle.std.proofs.lemmas.Int.{ints}
 use Rattle.pg_breaks.specs.Near.{place_forced}
 use Rattle.pg_column.specs.Numbers.{most_room}
-use Rattle.pg_column.specs.Passed.{fits, least_notes, least_room}
+use Rattle.pg_column.specs.Passed.{fits, least_notes, least_room, raised}
 use Rattle.pg_column.specs.declared.cost.TextRoom.{TextRoom}
-use Rattle.pg_column.proofs.Passing.{over_least}
+use Rattle.pg_column.proofs.Passing.{fits_raised, over_least}
 use Rattle.pg_column.specs.declared.end.End.{End}
+use Rattle.pg_hops.specs.Needs.{AreNeeds}
+use Rattle.pg_hops.specs.declared.needs.Needs.{Needs}
 use Rattle.pg_lemmas.proofs.Bools.{if_false}
 use Rattle.pg_rules.specs.Room.{Document}
 use Rattle.law_walk.specs.Best.{AreBest}
@@ -33,6 +35,16 @@ least_is doc c least own is whole room =
     (over_least c.passed.totals.total c.passed.totals.shrink (least_notes doc.style c.passed) (most_room room)
     ∙ ap (λ (z : ℤ). not (int_le z (most_room room))) (sym is))
     ∙ sym (whole (most_room room))
+
+bound_both : (o : Option ℤ) (least own : ℤ) → raised o least ≡ Some own → (z : ℤ) →
+    int_le own z ≡ (fits o z && int_le least z)
+bound_both o least own e z = ap (λ (p : Option ℤ). fits p z) (sym e) ∙ fits_raised o least z
+
+-- the bound past a break at its end
+pub needs_least : (doc : Document) (c : Candidate) (needs : Needs) → AreNeeds doc.style c.passed needs →
+    IsLeastRoom doc c needs.bound
+needs_least doc c needs are = least_is doc c (least_room doc.style c.passed) needs.bound refl
+    (bound_both c.passed.bound (least_room doc.style c.passed) needs.bound are.bound)
 
 -- ---- one that is not asked
 

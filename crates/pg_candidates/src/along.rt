@@ -7,6 +7,7 @@ ghost use Rattle.pg_column.specs.Passed.{fits, is_end_here};
 ghost use Rattle.law_walk.specs.Reached.{reach_along};
 ghost use Rattle.law_walk.specs.Walk.{end_here, ends_along, past_stretch};
 ghost use Rattle.pg_hops.specs.Ahead.{IsSettled, front_ahead, items_ahead};
+ghost use Rattle.pg_hops.specs.Needs.{AreNeeds};
 ghost use Rattle.pg_hops.specs.Quiet.{is_quiet, passed_along};
 ghost use Rattle.pg_hops.specs.View.{IsFor, view};
 ghost use Rattle.pg_hops.specs.Index.{AreHops};
@@ -14,14 +15,37 @@ ghost use Rattle.pg_candidates.specs.View.{passed_of};
 
 use crate::candidate::CandidateList;
 use crate::taking::TakesEnds;
-use pg_hops::{BreakIndex, Cursor, Passed, State, go, hop_ahead, hop_on};
+use pg_hops::{BreakIndex, Cursor, Needs, Passed, State, go, hop_ahead, hop_on};
 use pg_list::{Galley, Place};
 use pg_plan::Picks;
 use pg_style::Style;
 use std::alloc::AllocError;
 use std::rc::Rc;
 
+// Hands on an end at a break behind a box. Nearly all ends come from hops, and are taken without a call.
+#[inline(always)]
+fn hand_on<T: TakesEnds>(
+    style: &Style,
+    at: Place,
+    passed: &Passed,
+    needs: &Needs,
+    picks: &Rc<Picks>,
+    demerits: i64,
+    found: &mut T,
+) -> Result<(), AllocError>
+    requires { AreNeeds style.now (view passed.now) needs.now }
+    ensures { OnOk result ((g : GalleyValue) → true ≡ is_end_here g.blocks (view passed.now) at →
+        T.Took style.now found.old found.new
+        (end_here (document g style.now) picks.now.value demerits at (view passed.now))) }
+{
+    if !needs.is_within {
+        return Ok(());
+    }
+    found.take(style, at, passed, needs, picks, demerits)
+}
+
 // Hands on an end at a place where one may be, if it is a break behind a box.
+#[inline(never)]
 fn end_at<T: TakesEnds>(
     style: &Style,
     at: Place,
@@ -32,12 +56,14 @@ fn end_at<T: TakesEnds>(
     found: &mut T,
 ) -> Result<(), AllocError>
     ensures { OnOk result ((g : GalleyValue) → is_end ≡ is_end_here g.blocks (view passed.now) at →
-        T.Took found.old found.new (end_here (document g style.now) picks.now.value demerits at (view passed.now))) }
+        T.Took style.now found.old found.new
+        (end_here (document g style.now) picks.now.value demerits at (view passed.now))) }
 {
-    if !(is_end && passed.is_within_limits(style)) {
+    if !is_end {
         return Ok(());
     }
-    found.take(at, passed, picks, demerits)
+    let needs = Needs::of(style, passed);
+    hand_on(style, at, passed, &needs, picks, demerits, found)
 }
 
 /// What a walk along a stretch tells: what was passed with the front behind it, where some room up to the greatest one
@@ -85,7 +111,8 @@ pub fn walk_on<T: TakesEnds>(
     requires bound { fits before.bound top ≡ true }
     requires few { (before.sums.count + length (items_ahead galley.now.blocks start) ≤ 2 ^ 20)
         × (before.notes.count + length (items_ahead galley.now.blocks start) ≤ 2 ^ 20) }
-    ensures ends { OnOk result (T.Took found.old found.new (ends_along (document galley.now style.now) top picks.now demerits
+    ensures ends { OnOk result (T.Took style.now found.old found.new
+        (ends_along (document galley.now style.now) top picks.now demerits
         (place_of (front_ahead galley.now.blocks start) 0 0) (view before) (items_ahead galley.now.blocks start))) }
     ensures past { IfOk result (λ w. passed_of w.state
         ≡ past_stretch (document galley.now style.now) top (view before) (items_ahead galley.now.blocks start)) }
@@ -107,8 +134,9 @@ pub fn walk_on<T: TakesEnds>(
         if let Some(hop) = hop_ahead(index, &passed, at) {
             let here = at.place();
             greatest = greatest.max(here.block);
-            end_at(style, here, true, &passed, &shared, demerits, found)?;
-            at = hop_on(galley, style, at, hop, &mut passed);
+            let needs = Needs::of(style, &passed);
+            hand_on(style, here, &passed, &needs, &shared, demerits, found)?;
+            at = hop_on(galley, style, at, hop, &needs, &mut passed);
             if !passed.fits(top) {
                 return Ok(stopped(style, &passed, greatest));
             }
@@ -132,12 +160,10 @@ pub fn walk_on<T: TakesEnds>(
     let front = at.place();
     let is_end = passed.is_end(galley, front);
     end_at(style, front, is_end, &passed, &shared, demerits, found)?;
+    let block = at.block;
     Ok(Walked {
-        state: Some(State {
-            block: at.block,
-            passed,
-        }),
-        greatest: greatest.max(at.block),
+        state: Some(State { block, passed }),
+        greatest: greatest.max(block),
         is_quiet: passed.is_quiet(style),
     })
 }

@@ -2,7 +2,7 @@
 ghost use Rattle.std.specs.Prelude.{◌≡◌, ◌≤◌, ◌+ℤ◌, OnOk, MatchOption, [], length, map, slice_get, true, false};
 ghost use Rattle.std.specs.Option.{option_map};
 ghost use Rattle.std.specs.Ordering.{nat_cmp, ordering_then};
-ghost use Rattle.std.specs.List.{insert};
+ghost use Rattle.std.specs.List.{AllWithin, insert};
 ghost use Rattle.std.specs.List.Sorted.{IsPartitionPoint, IsPartitionedBy};
 ghost use Rattle.pg_plan.specs.Order.{picks_cmp, place_cmp};
 ghost use Rattle.law_walk.specs.Best.{Ascend, insert_end, is_better as is_better_of};
@@ -176,8 +176,22 @@ fn put_in(
     Ok(())
 }
 
-/// Adds an end to those that are in order, one for each place and fitness; the better one stays.
-pub(crate) fn keep_best(
+// Whether an end stands behind the last of the ends, or there is none.
+#[inline]
+fn is_behind_all(ends: &[RoomEnd], end: &RoomEnd) -> bool
+    ensures { result ≡ true → IsPartitionedBy (λ (other : ARoomEnd). is_before_of other end.now) ends.now →
+        AllWithin (λ (other : ARoomEnd). is_before_of other end.now ≡ true) ends.now 0 (length ends.now) }
+{
+    let count = ends.len();
+    if count == 0 {
+        return true;
+    }
+    is_before(&ends[count - 1], end)
+}
+
+// Adds an end to those that are in order, wherever it stands among them. Few ends come this way.
+#[inline(never)]
+fn keep_among(
     candidates: &[Candidate],
     ends: &mut Vec<RoomEnd>,
     end: RoomEnd,
@@ -189,4 +203,24 @@ pub(crate) fn keep_best(
 {
     let at = count_before(ends.as_slice(), &end);
     put_in(candidates, ends, at, end)
+}
+
+/// Adds an end to those that are in order, one for each place and fitness; the better one stays. Nearly all ends come in the
+/// order of their places: one that stands behind the last is compared with no other, and put behind it without a call.
+#[inline(always)]
+pub(crate) fn keep_best(
+    candidates: &[Candidate],
+    ends: &mut Vec<RoomEnd>,
+    end: RoomEnd,
+) -> Result<(), AllocError>
+    ensures { OnOk result (Ascend (ends_of (map candidate_of candidates.now) ends.old.items) →
+        ends_of (map candidate_of candidates.now) ends.new.items
+        ≡ insert_end (end_of (map candidate_of candidates.now) end)
+        (ends_of (map candidate_of candidates.now) ends.old.items)) }
+{
+    if is_behind_all(ends.as_slice(), &end) {
+        ends.push(end)?;
+        return Ok(());
+    }
+    keep_among(candidates, ends, end)
 }

@@ -3,9 +3,10 @@ ghost use Rattle.std.specs.Prelude.{◌≡◌, ◌++◌, ◌∷◌, [], IfOk, On
 ghost use Rattle.pg_candidates.specs.View.{candidate_of};
 
 use crate::taking::TakesEnds;
-use pg_hops::Passed;
+use pg_hops::{Needs, Passed};
 use pg_list::Place;
 use pg_plan::Picks;
+use pg_style::Style;
 use std::alloc::{AllocError, Global};
 use std::marker::Model;
 use std::rc::Rc;
@@ -60,6 +61,7 @@ impl CandidateList {
     }
 
     /// Adds a candidate behind the others.
+    #[inline(always)]
     pub fn push(&mut self, candidate: Candidate) -> Result<(), AllocError>
         ensures { OnOk result (self.new ≡ self.old ++ candidate_of candidate ∷ []) }
     {
@@ -79,16 +81,19 @@ impl TakesEnds for CandidateList {
     ghost use Rattle.std.specs.Prelude.{◌≡◌, ◌++◌};
     ghost use Rattle.pg_candidates.specs.Taken.{listed_both, listed_none};
 
-    ghost Took = { λ old new cs. new ≡ old ++ cs };
+    ghost Took = { λ style old new cs. new ≡ old ++ cs };
 
     fn share(&self, picks: &Picks) -> Result<Rc<Picks>, AllocError> {
         Ok(Rc::new(*self.items.allocator(), picks.copy()?)?)
     }
 
+    #[inline(always)]
     fn take(
         &mut self,
+        _style: &Style,
         to: Place,
         passed: &Passed,
+        _needs: &Needs,
         picks: &Rc<Picks>,
         demerits: i64,
     ) -> Result<(), AllocError> {

@@ -1,18 +1,19 @@
 //! The ends in one room, found on the way along a stretch.
 ghost use Rattle.std.specs.Prelude.{◌≡◌, ◌<◌, ◌^◌, [], IfOk, int_lt, nat_abs};
 ghost use Rattle.pg_column.specs.Numbers.{IsRoom, cost_by, most_room};
+ghost use Rattle.pg_hops.specs.Needs.{AreNeeds};
+ghost use Rattle.pg_hops.specs.View.{view};
 
 use crate::best::keep_best;
 use crate::kind::{EndKind, kind_at};
-use crate::least::least_of;
 use crate::room::is_tolerable;
 use crate::room_end::RoomEnd;
 use crate::taking::TakesEnds;
-use pg_column::{TextCost, TextRoom, text_cost};
-use pg_hops::Passed;
+use pg_column::{TextCost, TextRoom, cost_for};
+use pg_hops::{Needs, Passed};
 use pg_list::{Galley, Place};
 use pg_plan::Picks;
-use pg_scaled::plus;
+use pg_scaled::{minus, plus};
 use pg_style::Style;
 use std::alloc::{AllocError, Global};
 use std::rc::Rc;
@@ -24,7 +25,6 @@ const ROOM: usize = 64;
 #[derive(Drop)]
 pub struct OneRoom<'a> {
     pub galley: &'a Galley,
-    pub style: &'a Style,
     pub room: TextRoom,
     pub ends: Vec<RoomEnd>,
     ghost size: { nat_abs room.size < 2 ^ 40 },
@@ -36,21 +36,14 @@ impl<'a> OneRoom<'a> {
     /// No ends in a room.
     ///
     /// Condition: the numbers of the room are below 2^40 in size. The one refusal is want of memory.
-    pub fn new(
-        alloc: Global,
-        galley: &'a Galley,
-        style: &'a Style,
-        room: TextRoom,
-    ) -> Result<OneRoom<'a>, AllocError>
+    pub fn new(alloc: Global, galley: &'a Galley, room: TextRoom) -> Result<OneRoom<'a>, AllocError>
         requires { IsRoom room }
         ensures galley { IfOk result (λ it. it.galley.now ≡ galley.now) }
-        ensures style { IfOk result (λ it. it.style.now ≡ style.now) }
         ensures room { IfOk result (λ it. it.room ≡ room) }
         ensures ends { IfOk result (λ it. it.ends.items ≡ []) }
     {
         Ok(OneRoom {
             galley,
-            style,
             room,
             ends: Vec::with_capacity(alloc, ROOM)?,
         })
@@ -66,15 +59,22 @@ fn is_too_low(room: &TextRoom, least: i64) -> bool
 }
 
 // The numbers in a room of a column behind which an end of this kind stands.
-fn cost_in(style: &Style, room: &TextRoom, kind: EndKind, passed: &Passed) -> TextCost
-    requires { IsRoom room.now }
+fn cost_in(
+    style: &Style,
+    room: &TextRoom,
+    kind: EndKind,
+    passed: &Passed,
+    needs: &Needs,
+) -> TextCost
+    requires room { IsRoom room.now }
+    requires needs { AreNeeds style.now (view passed.now) needs.now }
     ensures { result ≡ cost_by style.now room.now passed.now.sums.totals passed.now.notes.sums kind.is_spent kind.penalty }
 {
-    text_cost(
+    cost_for(
         style,
-        room,
+        minus(room.size, needs.notes),
+        &room.give.plus(needs.give),
         &passed.sums,
-        &passed.notes,
         kind.is_spent,
         kind.penalty,
     )
@@ -89,20 +89,22 @@ impl TakesEnds for OneRoom<'_> {
         Ok(Rc::new(*self.ends.allocator(), picks.copy()?)?)
     }
 
+    #[inline(always)]
     fn take(
         &mut self,
+        style: &Style,
         to: Place,
         passed: &Passed,
+        needs: &Needs,
         _picks: &Rc<Picks>,
         _demerits: i64,
     ) -> Result<(), AllocError> {
-        let style = self.style;
         let room = &self.room;
-        if is_too_low(room, least_of(style, passed)) {
+        if is_too_low(room, needs.bound) {
             return Ok(());
         }
         let kind = kind_at(self.galley, to);
-        let cost = cost_in(style, room, kind, passed);
+        let cost = cost_in(style, room, kind, passed, needs);
         if !is_tolerable(style, kind, cost.badness) {
             return Ok(());
         }

@@ -16,3 +16,4 @@ pub mod LeapOn
 pub mod LeapBound
 pub mod RowHops
 pub mod Stepped
+pub mod Asking

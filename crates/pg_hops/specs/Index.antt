@@ -5,8 +5,10 @@ use Rattle.pg_hops.specs.declared.cursor.Cursor.{Cursor}
 use Rattle.pg_hops.specs.Hop.{HopValue, IsHop}
 use Rattle.pg_hops.specs.Leap.{IsLeap, LeapValue}
 use Rattle.pg_hops.specs.declared.index.LeapAt.{LeapAt}
+use Rattle.pg_hops.specs.declared.index.RareRow.{RareRow}
+use Rattle.pg_hops.specs.declared.index.RareRow.TheVariants.{Far, Variants}
 use Rattle.pg_hops.specs.declared.index.Row.{Row}
-use Rattle.pg_hops.specs.declared.index.Row.TheVariants.{Single, Variants}
+use Rattle.pg_hops.specs.declared.index.Row.TheVariants.{Rare, Single}
 use Rattle.pg_hops.specs.declared.index.VariantHops.{VariantHops}
 
 -- the hop at an index of a variant
@@ -18,10 +20,16 @@ abbrev pub hop_inside : Option VariantHops → ℕ → Option HopValue
 hop_inside None index = None
 hop_inside (Some variant) index = hop_of (slice_get variant.hops.items index)
 
+-- the hop from a cursor at the block of a row of which there are few
+abbrev pub hop_in_rare : RareRow → Bool → ℕ → ℕ → Option HopValue
+hop_in_rare (Far far) false variant index = Some far.value.hop
+hop_in_rare (Variants variants) true variant index = hop_inside (slice_get variants.items variant) index
+hop_in_rare _ _ variant index = None
+
 -- the hop from a cursor at the block of a row
 abbrev pub hop_in : Option Row → Bool → ℕ → ℕ → Option HopValue
+hop_in (Some (Rare rare)) is_inner variant index = hop_in_rare rare is_inner variant index
 hop_in (Some (Single hop)) false variant index = hop
-hop_in (Some (Variants variants)) true variant index = hop_inside (slice_get variants.items variant) index
 hop_in _ _ variant index = None
 
 -- the hop from a cursor
@@ -37,9 +45,15 @@ abbrev pub leap_inside : Option VariantHops → ℕ → Option LeapValue
 leap_inside None index = None
 leap_inside (Some variant) index = leap_here variant.leap index
 
+-- the leap from a cursor at the block of a row of which there are few
+abbrev pub leap_in_rare : RareRow → Bool → ℕ → ℕ → Option LeapValue
+leap_in_rare (Far far) false variant index = Some far.value.leap
+leap_in_rare (Variants variants) true variant index = leap_inside (slice_get variants.items variant) index
+leap_in_rare _ _ variant index = None
+
 -- the leap from a cursor at the block of a row
 abbrev pub leap_in : Option Row → Bool → ℕ → ℕ → Option LeapValue
-leap_in (Some (Variants variants)) true variant index = leap_inside (slice_get variants.items variant) index
+leap_in (Some (Rare rare)) is_inner variant index = leap_in_rare rare is_inner variant index
 leap_in _ _ variant index = None
 
 -- the leap from a cursor

@@ -5,6 +5,7 @@ pub mod Told
 pub mod Shift
 pub mod Bounds
 pub mod Hop
+pub mod Needs
 pub mod Leap
 pub mod Index
 pub mod Goes

@@ -19,8 +19,8 @@ use pg_style::Style;
 // The most items that a hop passes.
 const LONGEST: u32 = 64;
 
-// The most items that a leap passes.
-const FARTHEST: u32 = 256;
+/// The most items that a leap passes.
+pub(crate) const FARTHEST: u32 = 256;
 
 /// Whether an item is an insert.
 pub(crate) fn is_insert(item: &Item) -> bool
@@ -122,8 +122,9 @@ fn with_asked(highest: Option<i64>, is_break: bool, added: &Added) -> Option<i64
     }
 }
 
-/// The leap from a cursor. None where its next item is at no break, or forces one, and where no break behind it is passed.
-pub(crate) fn leap_from(galley: &Galley, style: &Style, from: Cursor) -> Option<Leap>
+/// The leap from a cursor, which ends at the first break behind enough items. None where its next item is at no break,
+/// or forces one, and where no break behind it is passed.
+pub(crate) fn leap_from(galley: &Galley, style: &Style, from: Cursor, enough: u32) -> Option<Leap>
     ensures { IfSome result (λ leap. IsLeap galley.now.blocks style.now.maxdepth from leap) }
 {
     let first = from.item(galley)?;
@@ -139,6 +140,9 @@ pub(crate) fn leap_from(galley: &Galley, style: &Style, from: Cursor) -> Option<
             break;
         };
         let is_break = at.is_break(galley, item);
+        if is_break && enough <= added.count() {
+            break;
+        }
         if !may_leap(&added, is_break, item) {
             break;
         }

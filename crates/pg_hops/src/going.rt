@@ -3,15 +3,18 @@ ghost use Rattle.std.specs.Prelude.{◌≡◌, ◌+◌, ◌≤◌, ◌^◌, ℤ,
 ghost use Rattle.std.specs.Option.{option_copied};
 ghost use Rattle.pg_list.specs.declared.blocks.Block.{Block as ABlock};
 ghost use Rattle.pg_rules.specs.Legal.{document};
+ghost use Rattle.pg_style.specs.Values.{StyleValue};
 ghost use Rattle.pg_column.specs.Passed.{crossed, is_end_here};
 ghost use Rattle.pg_hops.specs.Ahead.{item_ahead, items_ahead, place_ahead};
 ghost use Rattle.pg_hops.specs.View.{IsFor, view};
 ghost use Rattle.pg_hops.specs.Goes.{Counts, Goes, Stops};
 ghost use Rattle.pg_hops.specs.Hop.{MayHop, moved};
 ghost use Rattle.pg_hops.specs.Index.{AreHops};
+ghost use Rattle.pg_hops.specs.Needs.{AreNeeds};
 
 use crate::hop::Hop;
 use crate::index::BreakIndex;
+use crate::needs::Needs;
 use crate::{Cursor, Passed};
 use pg_list::{Galley, Item, Place};
 use pg_style::Style;
@@ -64,6 +67,20 @@ pub(crate) fn add_items(way: &Hop, passed: &mut Passed)
     passed.notes.count_others(added.count());
 }
 
+// Past a break, of whose place the needs are at hand, and the items of a hop from it.
+fn hop_with(needs: &Needs, hop: &Hop, passed: &mut Passed)
+    requires few { (passed.old.sums.count + hop.now.added.count ≤ 2 ^ 20)
+        × (passed.old.notes.count + hop.now.added.count ≤ 2 ^ 20) }
+    ensures value { (style : StyleValue) → AreNeeds style (view passed.old) needs.now →
+        view passed.new ≡ moved (crossed style (view passed.old)) hop.now.added.shift }
+    ensures style { (style : StyleValue) → IsFor style passed.old → IsFor style passed.new }
+    ensures counts { (passed.new.sums.count ≡ passed.old.sums.count + hop.now.added.count)
+        × (passed.new.notes.count ≡ passed.old.notes.count + hop.now.added.count) }
+{
+    passed.cross_with(needs);
+    add_items(hop, passed);
+}
+
 // Past a break and the items of a hop from it.
 fn hop_over(style: &Style, hop: &Hop, passed: &mut Passed)
     requires style { IsFor style.now passed.old }
@@ -80,9 +97,18 @@ fn hop_over(style: &Style, hop: &Hop, passed: &mut Passed)
 
 /// Past a break behind a box and all items of the hop from it. Answers where the hop leads.
 ///
-/// Conditions: the hop leads on from the cursor, a box was passed, and with the items ahead at most 2^20 are counted.
-pub fn hop_on(galley: &Galley, style: &Style, at: Cursor, hop: &Hop, passed: &mut Passed) -> Cursor
+/// Conditions: the hop leads on from the cursor, a box was passed, the needs are those of the cursor's place behind what was
+/// passed, and with the items ahead at most 2^20 are counted.
+pub fn hop_on(
+    galley: &Galley,
+    style: &Style,
+    at: Cursor,
+    hop: &Hop,
+    needs: &Needs,
+    passed: &mut Passed,
+) -> Cursor
     requires style { IsFor style.now passed.old }
+    requires needs { AreNeeds style.now (view passed.old) needs.now }
     requires hop { MayHop galley.now.blocks style.now.maxdepth (view passed.old) at (Some hop.now) }
     requires few { (passed.old.sums.count + length (items_ahead galley.now.blocks at) ≤ 2 ^ 20)
         × (passed.old.notes.count + length (items_ahead galley.now.blocks at) ≤ 2 ^ 20) }
@@ -93,7 +119,7 @@ pub fn hop_on(galley: &Galley, style: &Style, at: Cursor, hop: &Hop, passed: &mu
 {
     // The blocks keep their shape.
     let _shape = galley.blocks().as_slice();
-    hop_over(style, hop, passed);
+    hop_with(needs, hop, passed);
     hop.to()
 }
 

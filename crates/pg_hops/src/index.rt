@@ -1,12 +1,14 @@
 //! The hops and leaps of a whole galley.
-ghost use Rattle.std.specs.Prelude.{◌≡◌, ℤ, ℕ, List, Some, None, IfOk, IfSome, slice_get, take};
+ghost use Rattle.std.specs.Prelude.{◌≡◌, ℤ, ℕ, if◌then◌else◌, List, Some, None, IfOk, IfSome, slice_get, take};
 ghost use Rattle.std.specs.Option.{option_copied};
 ghost use Rattle.pg_list.specs.declared.blocks.Block.{Block as ABlock};
+ghost use Rattle.pg_hops.specs.Ahead.{before};
+ghost use Rattle.pg_hops.specs.Hop.{IsHop};
 ghost use Rattle.pg_hops.specs.Leap.{IsLeap};
-ghost use Rattle.pg_hops.specs.Index.{AreHops, AreHopsInside, AreRowHops, AreVariantHops, hop_at, hop_in as hop_in_of, leap_at, leap_in as leap_in_of, leap_here as leap_here_of, within};
+ghost use Rattle.pg_hops.specs.Index.{AreHops, AreHopsInside, AreRowHops, AreVariantHops, hop_at, hop_in as hop_in_of, hop_in_rare as hop_in_rare_of, leap_at, leap_in as leap_in_of, leap_in_rare as leap_in_rare_of, leap_here as leap_here_of, within};
 
 use crate::Cursor;
-use crate::finding::{hop_from, is_insert, leap_from};
+use crate::finding::{FARTHEST, hop_from, is_insert, leap_from};
 use crate::hop::Hop;
 use crate::leap::Leap;
 use pg_list::{Block, Galley, Item, Variant};
@@ -28,11 +30,25 @@ pub(crate) struct VariantHops {
     leap: Option<LeapAt>,
 }
 
-/// The hops from the places of a block: of a single item, or of each item of each variant.
+/// The hop and the leap from a single item.
+#[derive(Drop)]
+pub(crate) struct FarRow {
+    hop: Hop,
+    leap: Leap,
+}
+
+/// What few blocks keep: the hop and the leap from a single item, or the hops from each item of each variant.
+#[derive(Drop)]
+pub(crate) enum RareRow {
+    Far(Box<FarRow>),
+    Variants(Vec<VariantHops>),
+}
+
+/// What is kept of the places of a block. Most have the hop of a single item or none, which one test tells.
 #[derive(Drop)]
 pub(crate) enum Row {
     Single(Option<Hop>),
-    Variants(Vec<VariantHops>),
+    Rare(RareRow),
 }
 
 /// The hops and leaps of a galley, block by block. What is not kept is found item by item.
@@ -50,8 +66,13 @@ impl Model for BreakIndex {
     ghost view = { λ a. a.rows.items };
 }
 
-// How far behind a block the last item may be that tells where its leaps lead: two more than the items of the longest leap.
+// How far behind a block the last item may be that tells where its leaps lead: two more than the items of the longest
+// leap, each of which may be a block.
 const REACH: usize = 258;
+
+// How many items a leap from a single item passes before it ends at the next break. With few a walk comes to the next
+// leap soon, and the greatest room lets most leaps pass.
+const NEAR: u32 = 10;
 
 // No galley has more items.
 const MOST: u32 = 1 << 20;
@@ -126,7 +147,7 @@ fn leap_inside(
     };
     Some(LeapAt {
         index,
-        leap: leap_from(galley, style, from)?,
+        leap: leap_from(galley, style, from, FARTHEST)?,
     })
 }
 
@@ -172,27 +193,74 @@ fn choice_hops(
     Ok(all)
 }
 
+// Before a single item.
+fn single_at(block: u32) -> Cursor
+    ensures { result ≡ before block }
+{
+    Cursor {
+        block,
+        variant: 0,
+        index: 0,
+        is_inner: false,
+    }
+}
+
 // The hops from the places of a block.
 fn row_of(alloc: Global, galley: &Galley, style: &Style, block: u32) -> Result<Row, AllocError>
     ensures { IfOk result (AreRowHops galley.now.blocks style.now.maxdepth block) }
 {
     match galley.blocks().as_slice().get(block as usize) {
-        Some(Block::Choice(choice)) => Ok(Row::Variants(choice_hops(
-            alloc,
-            galley,
-            style,
-            block,
-            choice.variants(),
-        )?)),
-        _ => {
-            let from = Cursor {
-                block,
-                variant: 0,
-                index: 0,
-                is_inner: false,
-            };
-            Ok(Row::Single(hop_from(galley, style, from)))
+        Some(Block::Choice(choice)) => {
+            let variants = choice_hops(alloc, galley, style, block, choice.variants())?;
+            Ok(Row::Rare(RareRow::Variants(variants)))
         }
+        _ => Ok(Row::Single(hop_from(galley, style, single_at(block)))),
+    }
+}
+
+// The row of a single item with its hop, and with the leap from it where there is one and memory for it.
+fn far_row(alloc: Global, galley: &Galley, style: &Style, block: u32, hop: Hop) -> Row
+    requires { IsHop galley.now.blocks style.now.maxdepth (before block) hop }
+    ensures { AreRowHops galley.now.blocks style.now.maxdepth block result }
+{
+    let Some(leap) = leap_from(galley, style, single_at(block), NEAR) else {
+        return Row::Single(Some(hop));
+    };
+    match Box::new(alloc, FarRow { hop, leap }) {
+        Ok(far) => Row::Rare(RareRow::Far(far)),
+        Err(_) => Row::Single(Some(hop)),
+    }
+}
+
+// The row of a block, with the leap from it too, if it is a single item's and one is due there.
+fn with_leap(alloc: Global, galley: &Galley, style: &Style, block: u32, due: u32, row: Row) -> Row
+    requires { AreRowHops galley.now.blocks style.now.maxdepth block row }
+    ensures { AreRowHops galley.now.blocks style.now.maxdepth block result }
+{
+    if block < due {
+        return row;
+    }
+    match row {
+        Row::Single(Some(hop)) => far_row(alloc, galley, style, block, hop),
+        _ => row,
+    }
+}
+
+// The block from which on the next leap is due: where the last one leads.
+fn due_behind(row: &Row, due: u32) -> u32 {
+    match row {
+        Row::Rare(RareRow::Far(far)) => far.leap.way().to().block,
+        _ => due,
+    }
+}
+
+// The block from which on a first leap from a single item is due. Under a style without classes no walk is repeated
+// without notes, and these leaps would not pay.
+fn first_due(style: &Style) -> u32 {
+    if style.classes.as_slice().is_empty() {
+        MOST
+    } else {
+        0
     }
 }
 
@@ -207,9 +275,12 @@ fn extend(
         AreHops galley.now.blocks style.now.maxdepth rows.new.items }
 {
     let count = galley.blocks().len();
+    let mut due = first_due(style);
     'more: while rows.len() < count && rows.len() < MOST as usize {
         let row = row_of(alloc, galley, style, rows.len() as u32)?;
-        rows.push(row)?;
+        let kept = with_leap(alloc, galley, style, rows.len() as u32, due, row);
+        due = due_behind(&kept, due);
+        rows.push(kept)?;
     }
     Ok(())
 }
@@ -222,13 +293,22 @@ fn cut(rows: &mut Vec<Row>, from: u32)
     rows.truncate((from as usize).saturating_sub(REACH));
 }
 
-// The hop from a cursor at the block of a row.
-fn hop_in(row: &Row, at: Cursor) -> Option<&Hop>
-    ensures { option_copied result ≡ hop_in_of (Some row.now) at.is_inner at.variant at.index }
+// The hop from a cursor at a single item with a leap. Few steps come here: a call keeps the way of all others short.
+#[cold]
+#[inline(never)]
+fn far_hop(far: &FarRow, is_inner: bool) -> Option<&Hop>
+    ensures { option_copied result ≡ (if is_inner then None else Some far.now.hop) }
+{
+    if is_inner { None } else { Some(&far.hop) }
+}
+
+// The hop from a cursor at the block of a row of which there are few.
+fn hop_in_rare(row: &RareRow, at: Cursor) -> Option<&Hop>
+    ensures { option_copied result ≡ hop_in_rare_of row.now at.is_inner at.variant at.index }
 {
     match row {
-        Row::Single(hop) => { if at.is_inner { None } else { hop.as_ref() } }
-        Row::Variants(variants) => {
+        RareRow::Far(far) => far_hop(far, at.is_inner),
+        RareRow::Variants(variants) => {
             if at.is_inner {
                 variants
                     .get(at.variant as usize)?
@@ -239,6 +319,16 @@ fn hop_in(row: &Row, at: Cursor) -> Option<&Hop>
                 None
             }
         }
+    }
+}
+
+// The hop from a cursor at the block of a row.
+fn hop_in(row: &Row, at: Cursor) -> Option<&Hop>
+    ensures { option_copied result ≡ hop_in_of (Some row.now) at.is_inner at.variant at.index }
+{
+    match row {
+        Row::Single(hop) => { if at.is_inner { None } else { hop.as_ref() } }
+        Row::Rare(rare) => hop_in_rare(rare, at),
     }
 }
 
@@ -258,19 +348,29 @@ fn leap_here(leap: &Option<LeapAt>, index: u32) -> Option<&Leap>
     }
 }
 
-// The leap from a cursor at the block of a row.
-fn leap_in(row: &Row, at: Cursor) -> Option<&Leap>
-    ensures { option_copied result ≡ leap_in_of (Some row.now) at.is_inner at.variant at.index }
+// The leap from a cursor at the block of a row of which there are few.
+fn leap_in_rare(row: &RareRow, at: Cursor) -> Option<&Leap>
+    ensures { option_copied result ≡ leap_in_rare_of row.now at.is_inner at.variant at.index }
 {
     match row {
-        Row::Single(_) => None,
-        Row::Variants(variants) => {
+        RareRow::Far(far) => { if at.is_inner { None } else { Some(&far.leap) } }
+        RareRow::Variants(variants) => {
             if at.is_inner {
                 leap_here(&variants.get(at.variant as usize)?.leap, at.index)
             } else {
                 None
             }
         }
+    }
+}
+
+// The leap from a cursor at the block of a row.
+fn leap_in(row: &Row, at: Cursor) -> Option<&Leap>
+    ensures { option_copied result ≡ leap_in_of (Some row.now) at.is_inner at.variant at.index }
+{
+    match row {
+        Row::Single(_) => None,
+        Row::Rare(rare) => leap_in_rare(rare, at),
     }
 }
 

@@ -5,15 +5,17 @@
 //! Proved: a `Cursor` goes through the items of the stretches of law_walk (`specs/Ahead`), and tells of each whether
 //! its place is a break, of most from the item alone (`specs/Told`); `Passed::pass` goes past one item, and past the
 //! break before it, as `specs/Passed` of pg_column says. Where the notes passed take no room (`specs/Quiet`), a walk
-//! without notes goes the same way. `Added` sums what items behind a box or rule add, and shifts totals by it
+//! without notes goes the same way. `Needs` tells at once what a place asks of a room, for who looks at an end there and
+//! who goes past it (`specs/Needs`). `Added` sums what items behind a box or rule add, and shifts totals by it
 //! (`specs/Shift`).
 //!
 //! A `Hop` leads past items of which the first alone is a break, and tells what they add (`specs/Hop`); each hop that a
 //! `BreakIndex` keeps leads on in its galley (`specs/Index`), also behind an edit, for which it is mended from the
 //! edited block on; a step past a hop is a walk item by item (`specs/Goes`), so that `pass_on` answers what was passed
 //! along a stretch and the greatest block on the way, whatever the index knows. A `Leap` leads past several breaks at
-//! once, up to a front, an insert or a forced break, with the most that one of them asks of a room: where the greatest
-//! room lets it pass, a step past it is such a walk too (`specs/Leap`), also behind an edit.
+//! once, up to a front, an insert or a forced break, or to a break behind enough items, with the most that one of them
+//! asks of a room: where the greatest room lets it pass, a step past it is such a walk too (`specs/Leap`), also behind
+//! an edit. A variant has one, and among single items each begins where the last one leads.
 #![tactic(auto)]
 
 mod added;
@@ -24,6 +26,7 @@ mod hop;
 mod index;
 mod leap;
 mod leaping;
+mod needs;
 mod passed;
 mod passing;
 mod shift;
@@ -34,6 +37,7 @@ pub use cursor::Cursor;
 pub use going::{go, hop_ahead, hop_on};
 pub use hop::Hop;
 pub use index::BreakIndex;
+pub use needs::Needs;
 pub use passed::Passed;
 pub use passing::{Passing, pass_on};
 pub use shift::Shift;

@@ -3,12 +3,15 @@ ghost use Rattle.std.specs.Prelude.{◌≡◌, ◌<◌, ◌+◌, ◌^◌, true, 
 ghost use Rattle.pg_list.specs.Ranges.{IsItemInRange};
 ghost use Rattle.pg_list.specs.Flat.{FlatItem};
 ghost use Rattle.pg_rules.specs.Legal.{document};
+ghost use Rattle.pg_style.specs.Values.{StyleValue};
 ghost use Rattle.pg_column.specs.Passed.{are_within as are_within_of, crossed, fits as fits_of, is_end_here, least_room as least_room_of, nothing, pass_item, raised as raised_of, with_next};
 ghost use Rattle.pg_hops.specs.Ahead.{item_ahead, place_ahead};
+ghost use Rattle.pg_hops.specs.Needs.{AreNeeds, least_by};
 ghost use Rattle.pg_hops.specs.Quiet.{is_quiet as is_quiet_of};
 ghost use Rattle.pg_hops.specs.View.{IsFor, view};
 
 use crate::cursor::Cursor;
+use crate::needs::Needs;
 use pg_breaks::{break_cost, is_forced};
 use pg_list::{Galley, Item, Place};
 use pg_notes::NoteSums;
@@ -25,14 +28,21 @@ pub struct Passed {
     pub bound: Option<i64>,
 }
 
+// The higher of the bound and one more room to be kept.
+fn higher(bound: Option<i64>, least: i64) -> i64
+    ensures { raised_of bound least ≡ Some result }
+{
+    match bound {
+        Some(other) => { if other < least { least } else { other } }
+        None => least,
+    }
+}
+
 // The bound with one more room to be kept.
 fn raised(bound: Option<i64>, least: i64) -> Option<i64>
     ensures { result ≡ raised_of bound least }
 {
-    match bound {
-        Some(other) => Some(if other < least { least } else { other }),
-        None => Some(least),
-    }
+    Some(higher(bound, least))
 }
 
 impl Passed {
@@ -54,10 +64,27 @@ impl Passed {
         ensures value { result ≡ least_room_of style.now (view self.now) }
         ensures small { nat_abs result < 2 ^ 57 }
     {
-        let full = plus(self.sums.total(), self.notes.smallest(style));
+        self.least_with(self.notes.smallest(style))
+    }
+
+    // The same, where the notes passed take so much, their skips shrunk.
+    fn least_with(&self, notes: i64) -> i64
+        requires { nat_abs notes < 2 ^ 52 }
+        ensures value { result ≡ least_by (view self.now) notes }
+        ensures small { nat_abs result < 2 ^ 57 }
+    {
+        let full = plus(self.sums.total(), notes);
         let shrunk = minus(full, self.sums.shrink());
         let over = plus(full, 1);
         if over < shrunk { over } else { shrunk }
+    }
+
+    // The bound past a break here, where the notes passed take so much, their skips shrunk.
+    pub(crate) fn bound_with(&self, notes: i64) -> i64
+        requires { nat_abs notes < 2 ^ 52 }
+        ensures { raised_of self.now.bound (least_by (view self.now) notes) ≡ Some result }
+    {
+        higher(self.bound, self.least_with(notes))
     }
 
     /// Whether no class of notes is above its limit.
@@ -111,6 +138,16 @@ impl Passed {
     {
         let least = self.least_room(style);
         self.bound = raised(self.bound, least);
+    }
+
+    /// The same, where the needs of its place are at hand.
+    pub fn cross_with(&mut self, needs: &Needs)
+        ensures value { (style : StyleValue) → AreNeeds style (view self.old) needs.now →
+            view self.new ≡ crossed style (view self.old) }
+        ensures style { (style : StyleValue) → IsFor style self.old → IsFor style self.new }
+        ensures counts { (self.new.sums.count ≡ self.old.sums.count) × (self.new.notes.count ≡ self.old.notes.count) }
+    {
+        self.bound = Some(needs.bound);
     }
 
     // Past an item.

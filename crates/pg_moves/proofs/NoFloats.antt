@@ -5,14 +5,14 @@ use Rattle.std.specs.List.{filter, flat_map, range_with_len}
 use Rattle.std.proofs.lemmas.List.{append-nil}
 use Rattle.pg_plan.specs.declared.states.State.{State}
 use Rattle.pg_style.specs.declared.style.Area.{Area}
-use Rattle.pg_rules.specs.Floats.{called, entry, float_numbers, plus_counts, slots, takes_in_column, takes_wide, total_count}
+use Rattle.pg_rules.specs.Floats.{called, entry, float_numbers, slots, takes_in_column, takes_wide, total_count}
 use Rattle.pg_rules.specs.Follow.{turns}
 use Rattle.pg_rules.specs.Room.{Document}
 use Rattle.law_columns.proofs.ColumnCounts.{total_cons}
 use Rattle.pg_lemmas.proofs.Numbers.{not_less}
 use Rattle.pg_floats.specs.Spots.{takes_slot}
 use Rattle.pg_layouts.specs.Counts.{count_lists, grown, grown_by}
-use Rattle.pg_layouts.specs.Layouts.{area_lists, layout_of, limits, runs_of, wides_of, with_floats, zeros}
+use Rattle.pg_layouts.specs.Layouts.{area_lists, layout_of, runs_of, wides_of, with_floats, zeros}
 use Rattle.pg_layouts.specs.declared.layout.Layout.{Layout}
 use Rattle.pg_layouts.proofs.Areas.{zeros_total}
 use Rattle.law_moves.specs.Ages.{may_wait, waits_of}

@@ -1,14 +1,15 @@
 //! All columns that may follow a state.
-ghost use Rattle.std.specs.Prelude.{◌≡◌, ◌++◌, ◌||◌, is_some, length, min, nat_lt, IfOk, OnOk};
+ghost use Rattle.std.specs.Prelude.{◌≡◌, ◌++◌, ◌||◌, is_some, length, nat_lt, IfOk, OnOk};
 ghost use Rattle.pg_hops.specs.Index.{AreHops};
-ghost use Rattle.pg_rules.specs.Floats.{called, float_numbers, total_count};
+ghost use Rattle.pg_rules.specs.Floats.{float_numbers, total_count};
 ghost use Rattle.pg_rules.specs.IsState.{IsPlace, IsState};
 ghost use Rattle.law_space.specs.ReachAt.{reach_at};
 ghost use Rattle.law_space.specs.PageSpace.{page_meaning};
 ghost use Rattle.pg_table.specs.Space.{AreMoves, AreWanted};
 ghost use Rattle.pg_candidates.specs.Nears.{AreNearOnPages};
-ghost use Rattle.law_moves.specs.Listed.{beyond, listed_floats};
+ghost use Rattle.law_moves.specs.Listed.{listed_floats};
 ghost use Rattle.pg_sources.specs.Document.{doc_of};
+ghost use Rattle.pg_rooms.specs.KeptLaid.{AreLayouts};
 ghost use Rattle.pg_rooms.specs.PlaceEnds.{ArePlaceEnds};
 ghost use Rattle.pg_states.specs.Settling.{known_of};
 
@@ -17,22 +18,15 @@ use crate::texts::text_steps;
 use law_moves::listed_steps_are_moves;
 use law_space::reach_laws::reach_is_the_greatest;
 use pg_hops::BreakIndex;
-use pg_list::{Galley, Place};
-use pg_plan::{Counts, State};
-use pg_rooms::{Calls, PlaceEnds, has_floats, lay_floats};
+use pg_list::Place;
+use pg_plan::State;
+use pg_rooms::{Calls, Layouts, PlaceEnds, has_floats};
 use pg_small::{SmallMove, SmallState};
 use pg_sources::Sources;
 use pg_states::{Known, PageMarks, known};
 use pg_table::{EveryMove, Opened, StepList, Wants};
 use pg_walk::{PlaceWalk, walk_from};
 use std::alloc::AllocError;
-
-// The lesser of a reach and the number of blocks.
-fn last_block(galley: &Galley, reach: u32) -> u32
-    ensures { result ≡ min reach (length galley.now.blocks) }
-{
-    (reach as usize).min(galley.blocks().as_slice().len()) as u32
-}
 
 /// Where the columns of text from a place may end, and how far they may go.
 ///
@@ -51,19 +45,6 @@ pub fn walk_place(
     walk_from(sources.alloc, sources.galley, sources.style, index, from)
 }
 
-// How many floats of each class are called before all blocks that a column from a place does not reach.
-fn ceiling(sources: &Sources<'_>, from: Place, reach: u32) -> Result<Counts, AllocError>
-    requires { reach ≡ reach_at (doc_of sources.now) from }
-    ensures { IfOk result (λ counts. counts
-        ≡ called sources.now.galley.now.blocks sources.now.style.now (beyond (doc_of sources.now) from)) }
-{
-    sources.called(Place {
-        block: last_block(sources.galley, reach),
-        variant: 0,
-        index: 0,
-    })
-}
-
 // Whether a column without text may have a float, or a wide area above it.
 fn may_have_floats(sources: &Sources<'_>, state: &State, known: &Known) -> bool
     requires { length known.now.waits ≡ length (float_numbers sources.now.style.now) }
@@ -77,45 +58,50 @@ fn add_floats(
     sources: &Sources<'_>,
     state: &State,
     known: &Known,
+    layouts: &mut Layouts,
     steps: &mut StepList<SmallState, SmallMove>,
 ) -> Result<(), AllocError>
     requires own { IsState (doc_of sources.now) state.now }
     requires known { known.now ≡ known_of (doc_of sources.now) state.now }
-    ensures { OnOk result (steps.new ≡ steps.old ++ listed_floats (doc_of sources.now) state.now) }
+    requires layouts { AreLayouts (doc_of sources.now) layouts.old }
+    ensures steps { OnOk result (steps.new ≡ steps.old ++ listed_floats (doc_of sources.now) state.now) }
+    ensures layouts { OnOk result (AreLayouts (doc_of sources.now) layouts.new) }
 {
     if !may_have_floats(sources, state, known) {
         return Ok(());
     }
-    let layouts = lay_floats(sources, state, known.called.as_slice())?;
-    let laid = layouts.as_slice();
+    let at = layouts.find_stays(sources, state, &known.called)?;
+    let laid = layouts.stays(at);
     add_stays(sources, state, known, laid, steps)
 }
 
-/// The columns that may follow a state and are wanted, from what is kept of its place: each once with its best picks, and
-/// how far an edit can be felt there. What it works out is kept. Columns without text are all made, wanted or not.
+/// The columns that may follow a state and are wanted, from the layouts that are kept and from what is kept of its place: each
+/// once with its best picks, and how far an edit can be felt there. What it works out is kept. Columns without text are all made, wanted or not.
 ///
 /// Condition: it is a state of the galley. The one refusal is want of memory.
 pub fn open_by<W: Wants<State = SmallState, Marks = PageMarks>>(
     sources: &Sources<'_>,
     state: &State,
+    layouts: &mut Layouts,
     kept: &mut PlaceEnds,
     wants: &W,
 ) -> Result<Opened<SmallState, SmallMove>, AllocError>
     requires own { IsState (doc_of sources.now) state.now }
     requires reach { kept.old.walk.reach ≡ reach_at (doc_of sources.now) state.now.place }
+    requires layouts { AreLayouts (doc_of sources.now) layouts.old }
     ensures moves { IfOk result (λ it. ArePlaceEnds (doc_of sources.now) state.now.place kept.old →
         AreWanted (page_meaning (doc_of sources.now)) state.now (W.spares wants.now) it.steps) }
     ensures reach { IfOk result (λ it. it.reach ≡ reach_at (doc_of sources.now) state.now.place) }
     ensures kept { OnOk result (ArePlaceEnds (doc_of sources.now) state.now.place kept.old →
         ArePlaceEnds (doc_of sources.now) state.now.place kept.new) }
     ensures walk { OnOk result (kept.new.walk ≡ kept.old.walk) }
+    ensures layouts { OnOk result (AreLayouts (doc_of sources.now) layouts.new) }
 {
     listed_steps_are_moves(sources.galley, sources.style);
     let reach = kept.walk.reach;
     let waiting = known(sources, state)?;
-    let most = ceiling(sources, state.place, reach)?;
-    let mut steps = text_steps(sources, state, &waiting, &most, kept, wants)?;
-    add_floats(sources, state, &waiting, &mut steps)?;
+    let mut steps = text_steps(sources, state, &waiting, layouts, kept, wants)?;
+    add_floats(sources, state, &waiting, layouts, &mut steps)?;
     Ok(Opened { steps, reach })
 }
 
@@ -134,6 +120,7 @@ pub fn open(
     open_by(
         sources,
         state,
+        &mut Layouts::none(sources.alloc),
         &mut kept,
         &EveryMove::<SmallState, PageMarks>::new(),
     )

@@ -1,11 +1,15 @@
 //! The steps of columns of text, layout by layout.
-ghost use Rattle.std.specs.Prelude.{◌≡◌, Contains, IfOk, List, OnOk, Some};
+ghost use Rattle.std.specs.Prelude.{◌≡◌, length, min, Contains, IfOk, List, OnOk, Some};
 ghost use Rattle.std.specs.List.{AllByRecursion, flat_map};
 ghost use Rattle.pg_column.specs.Numbers.{IsRoom};
+ghost use Rattle.law_moves.specs.Listed.{beyond};
+ghost use Rattle.law_space.specs.ReachAt.{reach_at};
+ghost use Rattle.pg_rules.specs.Floats.{called};
 ghost use Rattle.pg_rules.specs.IsState.{IsState};
 ghost use Rattle.law_walk.specs.Candidates.{Candidate};
 ghost use Rattle.pg_sources.specs.Document.{doc_of};
-ghost use Rattle.pg_rooms.specs.Laid.{HasSoMany, laid_of};
+ghost use Rattle.pg_rooms.specs.KeptLaid.{AreLayouts};
+ghost use Rattle.pg_rooms.specs.Laid.{laid_of};
 ghost use Rattle.pg_rooms.specs.PlaceEnds.{AreFrontEnds, ArePlaceEnds, AreRoomEnds};
 ghost use Rattle.pg_states.specs.Settling.{known_of};
 ghost use Rattle.pg_moves.specs.Stepping.{AreTextSteps, all_steps_in, steps_at, steps_behind};
@@ -16,8 +20,9 @@ use crate::groups::add_groups;
 use law_walk::laws::candidates_give_ends;
 use pg_candidates::{NearList, has_text};
 use pg_column::TextRoom;
+use pg_list::{Galley, Place};
 use pg_plan::{Counts, State};
-use pg_rooms::{Behind, Laid, PlaceEnds, RoomEnds, ends_in, groups_in, lay_texts};
+use pg_rooms::{Behind, Laid, Layouts, PlaceEnds, RoomEnds, ends_in, groups_in};
 use pg_small::{SmallMove, SmallState};
 use pg_sources::Sources;
 use pg_states::{Known, PageMarks};
@@ -134,27 +139,52 @@ pub fn add_all<W: Wants<State = SmallState, Marks = PageMarks>>(
     Ok(())
 }
 
-/// The wanted steps of the columns of text, with counts up to a ceiling, from what is kept of the state's place.
+// The lesser of a reach and the number of blocks.
+fn last_block(galley: &Galley, reach: u32) -> u32
+    ensures { result ≡ min reach (length galley.now.blocks) }
+{
+    (reach as usize).min(galley.blocks().as_slice().len()) as u32
+}
+
+// How many floats of each class are called before all blocks that a column from a place does not reach.
+fn ceiling(sources: &Sources<'_>, from: Place, reach: u32) -> Result<Counts, AllocError>
+    requires { reach ≡ reach_at (doc_of sources.now) from }
+    ensures { IfOk result (λ counts. counts
+        ≡ called sources.now.galley.now.blocks sources.now.style.now (beyond (doc_of sources.now) from)) }
+{
+    sources.called(Place {
+        block: last_block(sources.galley, reach),
+        variant: 0,
+        index: 0,
+    })
+}
+
+/// The wanted steps of the columns of text, from the layouts that are kept and from what is kept of the state's place: with
+/// floats that are called before all blocks that a column does not reach.
 pub fn text_steps<W: Wants<State = SmallState, Marks = PageMarks>>(
     sources: &Sources<'_>,
     state: &State,
     known: &Known,
-    ceiling: &Counts,
+    layouts: &mut Layouts,
     kept: &mut PlaceEnds,
     wants: &W,
 ) -> Result<StepList<SmallState, SmallMove>, AllocError>
     requires own { IsState (doc_of sources.now) state.now }
     requires known { known.now ≡ known_of (doc_of sources.now) state.now }
-    requires ceiling { HasSoMany (doc_of sources.now) ceiling.now }
+    requires reach { kept.old.walk.reach ≡ reach_at (doc_of sources.now) state.now.place }
+    requires layouts { AreLayouts (doc_of sources.now) layouts.old }
     ensures steps { IfOk result (λ steps. ArePlaceEnds (doc_of sources.now) state.now.place kept.old →
-        AreTextSteps (doc_of sources.now) state.now ceiling.now (W.spares wants.now) steps) }
+        AreTextSteps (doc_of sources.now) state.now (called sources.now.galley.now.blocks sources.now.style.now
+        (beyond (doc_of sources.now) state.now.place)) (W.spares wants.now) steps) }
     ensures kept { OnOk result (ArePlaceEnds (doc_of sources.now) state.now.place kept.old →
         ArePlaceEnds (doc_of sources.now) state.now.place kept.new) }
     ensures walk { OnOk result (kept.new.walk ≡ kept.old.walk) }
+    ensures layouts { OnOk result (AreLayouts (doc_of sources.now) layouts.new) }
 {
     candidates_give_ends(sources.galley, sources.style);
-    let layouts = lay_texts(sources, state, ceiling.as_slice())?;
-    let laid = layouts.as_slice();
+    let most = ceiling(sources, state.place, kept.walk.reach)?;
+    let at = layouts.find_texts(sources, state, &most)?;
+    let laid = layouts.texts(at);
     kept.ask_all(sources, state.place, laid)?;
     let mut steps = StepList::new(sources.alloc);
     add_all(sources, state, known, laid, kept, wants, &mut steps)?;

@@ -1,6 +1,6 @@
 -- The laid columns without text.
 use Rattle.std.proofs.Common.{◌≡◌, refl, subst, List, ◌∷◌, [], map, inl, inr, ℕ}
-use Rattle.std.specs.Prelude.{Contains, Result, Ok, Err, IfOk}
+use Rattle.std.specs.Prelude.{Contains}
 use Rattle.std.specs.List.{AllByRecursion}
 use Rattle.pg_plan.specs.declared.states.State.{State}
 use Rattle.pg_column.specs.Numbers.{IsRoom}
@@ -20,7 +20,7 @@ all_in P (y ∷ ys) x a (inl e) = subst P e a.0
 all_in P (y ∷ ys) x a (inr b) = all_in P ys x a.1 b
 
 -- each of the laid columns without text
-float_each : (doc : Document) (u : State) (ceiling : List ℕ) (laid : List Laid) →
+pub float_each : (doc : Document) (u : State) (ceiling : List ℕ) (laid : List Laid) →
     laid ≡ map (laid_of doc u) (float_layouts doc u ceiling) →
     AllByRecursion (λ (it : Laid). IsRoom it.room) laid → (it : Laid) → Contains laid it →
     IsFloatLaid doc u it
@@ -36,10 +36,3 @@ float_each doc u ceiling laid e small it c =
       long = is.top.long;
       bottom = is.bottom;
     }) (all_in (λ (x : Laid). IsRoom x.room) laid it small (contains_among laid it c))
-
-pub on_float_each : {V E : Type 0} (items : V → List Laid) (r : Result V E) (doc : Document) (u : State)
-    (ceiling : List ℕ) → IfOk r (λ laid. items laid ≡ map (laid_of doc u) (float_layouts doc u ceiling)) →
-    IfOk r (λ laid. AllByRecursion (λ (it : Laid). IsRoom it.room) (items laid)) →
-    IfOk r (λ laid. (it : Laid) → Contains (items laid) it → IsFloatLaid doc u it)
-on_float_each items (Err e) doc u ceiling h k = tt
-on_float_each items (Ok laid) doc u ceiling h k = float_each doc u ceiling (items laid) h k

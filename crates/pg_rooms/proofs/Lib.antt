@@ -9,3 +9,4 @@ pub mod Running
 pub mod Called
 pub mod Grouped
 pub mod Kept
+pub mod Serving

@@ -1,5 +1,5 @@
 -- No layout leaves a text more room than the tallest run has, nor gaps that give more than those of full areas.
-use Rattle.std.proofs.Common.{◌≡◌, refl, sym, ap, subst, ℕ, ◌<◌, List, [], ◌∷◌, map, length, Bool, true, false, Option, Some, None, inl, inr, ℤ, pos, arith}
+use Rattle.std.proofs.Common.{◌≡◌, refl, sym, ap, subst, ℕ, List, [], ◌∷◌, map, Bool, true, false, Option, Some, None, inl, inr, ℤ, pos, arith}
 use Rattle.std.specs.Prelude.{◌^◌, ◌==◌, ◌&&◌, ◌+ℤ◌, ◌-ℤ◌, ◌≤ℤ◌, int_le, int_lt, nat_lt, is_some, if◌then◌else◌, unwrap_or, Result, Ok, Err, IfOk}
 use Rattle.std.specs.List.{AllByRecursion}
 use Rattle.std.specs.Option.{option_map_or}

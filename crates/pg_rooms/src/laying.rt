@@ -1,11 +1,11 @@
 //! The layouts of a state, each with what it makes of its page.
-ghost use Rattle.std.specs.Prelude.{◌≡◌, map, Contains, IfOk};
+ghost use Rattle.std.specs.Prelude.{◌≡◌, map, IfOk};
 ghost use Rattle.std.specs.List.{AllByRecursion};
 ghost use Rattle.pg_rules.specs.IsState.{IsState};
 ghost use Rattle.pg_layouts.specs.Layouts.{float_layouts as the_float_layouts, text_layouts as the_text_layouts};
 ghost use Rattle.pg_column.specs.Numbers.{IsRoom};
 ghost use Rattle.pg_sources.specs.Document.{doc_of};
-ghost use Rattle.pg_rooms.specs.Laid.{HasSoMany, IsFloatLaid, laid_of};
+ghost use Rattle.pg_rooms.specs.Laid.{HasSoMany, laid_of};
 ghost use Rattle.pg_rooms.specs.PlaceEnds.{IsPageRoom};
 ghost use Rattle.pg_rooms.specs.declared.laid.Laid.{Laid as ALaid};
 
@@ -17,7 +17,7 @@ use pg_sources::Sources;
 use std::alloc::AllocError;
 
 /// The layouts of the columns of text behind a state, with counts up to a ceiling.
-pub fn lay_texts(
+pub(crate) fn lay_texts(
     sources: &Sources<'_>,
     state: &State,
     ceiling: &[u16],
@@ -43,7 +43,7 @@ pub fn lay_texts(
 }
 
 /// The layouts of the columns without text behind a state, with counts up to a ceiling.
-pub fn lay_floats(
+pub(crate) fn lay_floats(
     sources: &Sources<'_>,
     state: &State,
     ceiling: &[u16],
@@ -52,8 +52,7 @@ pub fn lay_floats(
     requires ceiling { HasSoMany (doc_of sources.now) ceiling.now }
     ensures laid { IfOk result (λ laid. laid.items
         ≡ map (laid_of (doc_of sources.now) state.now) (the_float_layouts (doc_of sources.now) state.now ceiling.now)) }
-    ensures each { IfOk result (λ laid.
-        (it : ALaid) → Contains laid.items it → IsFloatLaid (doc_of sources.now) state.now it) }
+    ensures small { IfOk result (λ laid. AllByRecursion (λ (it : ALaid). IsRoom it.room) laid.items) }
 {
     let first = first_run(state)?;
     let layouts = float_layouts(

@@ -1,6 +1,6 @@
 -- Where a search for a line feed comes to.
-use Rattle.std.proofs.Common.{◌≡◌, refl, ◌<◌, inl, inr, arith, ℕ, List, length, true, false, Bool, Some, None, Option}
-use Rattle.std.specs.Prelude.{◌==◌, not, slice_index}
+use Rattle.std.proofs.Common.{◌≡◌, ◌<◌, inl, inr, arith, ℕ, List, length, Some, None, Option}
+use Rattle.std.specs.Prelude.{◌==◌, slice_index}
 use Rattle.std.specs.List.{prefix_len}
 use Rattle.std.specs.Option.{unwrap_or}
 use Rattle.std.proofs.lemmas.Bool.{cases_lt, not-false}

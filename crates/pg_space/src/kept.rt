@@ -8,6 +8,8 @@ ghost use Rattle.pg_list.specs.GalleyValue.{GalleyValue};
 ghost use Rattle.pg_sources.specs.Document.{doc_of};
 ghost use Rattle.law_space.specs.ReachAt.{reach_at};
 ghost use Rattle.pg_rooms.specs.Calls.{AreCalls};
+ghost use Rattle.pg_rooms.specs.KeptLaid.{AreLayouts};
+ghost use Rattle.pg_rooms.specs.OneProof.{AreLayouts_prop};
 ghost use Rattle.pg_rooms.specs.PlaceEnds.{ArePlaceEnds};
 ghost use Rattle.law_walk.specs.Reached.{quiet, tallest};
 ghost use Rattle.pg_walk.specs.Blocks.{IsBegun};
@@ -31,7 +33,7 @@ use pg_hops::{BreakIndex, State as FrontState};
 use pg_list::{Galley, Place};
 use pg_moves::open_by;
 use pg_plan::{PageKey, State};
-use pg_rooms::{Behind, Calls, FrontEnds, PlaceEnds};
+use pg_rooms::{Behind, Calls, FrontEnds, Layouts, PlaceEnds};
 use pg_small::{SmallMove, SmallState};
 use pg_states::{PageMarks, no_worse};
 use pg_style::Style;
@@ -59,29 +61,36 @@ impl Document for Brand {
     ghost style = { plain (pos 65536) };
 }
 
-/// What is kept of a place of the document, and behind the front of the next choice for columns from other places.
+/// What is kept of a place of the document, of layouts, and behind the front of the next choice for columns from other places.
 #[derive(Drop)]
 struct Kept<D: Document> {
     from: Place,
-    ends: PlaceEnds,
+    /// Behind a pointer, since what is kept is handed on for each state.
+    ends: Box<PlaceEnds>,
+    layouts: Layouts,
     fronts: Fronts<D>,
     of: PhantomData<D>,
-    ghost right: { ∥ ArePlaceEnds (document D.galley D.style) from ends ∥₁ },
-    ghost reach: { ends.walk.reach ≡ reach_at (document D.galley D.style) from },
+    ghost right: { ∥ ArePlaceEnds (document D.galley D.style) from ends.value ∥₁ },
+    ghost laid: { AreLayouts (document D.galley D.style) layouts } by { AreLayouts_prop (document D.galley D.style) layouts },
+    ghost reach: { ends.value.walk.reach ≡ reach_at (document D.galley D.style) from },
 }
 
-/// What serves for each other place: what is called before ends, and what is kept behind the front of the next choice.
+/// What serves for each other place: what is called before ends, layouts, and what is kept behind the front of the next
+/// choice.
 #[derive(Drop)]
 struct Shared<D: Document> {
     calls: Calls,
+    layouts: Layouts,
     fronts: Fronts<D>,
     ghost right: { ∥ AreCalls (document D.galley D.style) calls.items.items ∥₁ },
+    ghost laid: { AreLayouts (document D.galley D.style) layouts } by { AreLayouts_prop (document D.galley D.style) layouts },
 }
 
 // Nothing that is kept.
 fn nothing_shared<D: Document>(alloc: Global) -> Shared<D> {
     Shared {
         calls: Calls::none(alloc),
+        layouts: Layouts::none(alloc),
         fronts: Fronts::none(alloc),
     }
 }
@@ -89,8 +98,9 @@ fn nothing_shared<D: Document>(alloc: Global) -> Shared<D> {
 // What is kept of a place, as far as it serves for each other one.
 fn shared_of<D: Document>(kept: Kept<D>) -> Result<Shared<D>, AllocError> {
     let ends = kept.ends;
+    let layouts = kept.layouts;
     let mut fronts = kept.fronts;
-    let PlaceEnds { calls, behind, .. } = ends;
+    let PlaceEnds { calls, behind, .. } = Box::into_inner(ends);
     if let Some(behind) = behind {
         let front = KeptFront {
             ends: behind.ends,
@@ -98,7 +108,11 @@ fn shared_of<D: Document>(kept: Kept<D>) -> Result<Shared<D>, AllocError> {
         };
         fronts.ends.push(front)?;
     }
-    Ok(Shared { calls, fronts })
+    Ok(Shared {
+        calls,
+        layouts,
+        fronts,
+    })
 }
 
 // What is kept behind a front, for columns that come there in a state that was lowered.
@@ -124,7 +138,8 @@ struct OpenedBy<D: Document> {
 }
 
 /// The pages of a galley under a style. States of one place that are opened one after another share one walk, and the
-/// ends in each room that one of them asks for; states of all places share what is called before ends. To a table it
+/// ends in each room that one of them asks for; states of all places share what is called before ends,
+/// and layouts. To a table it
 /// offers its columns of text before it makes them.
 #[derive(Drop)]
 pub struct KeptPages<'a, D: Document> {
@@ -234,10 +249,12 @@ impl<'a, D: Document> KeptPages<'a, D> {
         let lowered = lowered(&front.start);
         let kept = self.behind(lowered.base, &mut fronts)?;
         let behind = behind_by(kept.ends, &lowered);
-        let ends = PlaceEnds::of_first(sources, first, reach, Some(behind), shared.calls)?;
+        let made = PlaceEnds::of_first(sources, first, reach, Some(behind), shared.calls)?;
+        let ends = Box::new(sources.alloc, made)?;
         Ok(Kept {
             from,
             ends,
+            layouts: shared.layouts,
             fronts,
             of: PhantomData,
         })
@@ -258,10 +275,12 @@ impl<'a, D: Document> KeptPages<'a, D> {
         let sources = &self.pages.sources;
         reach_is_the_greatest(sources.galley, sources.style);
         let reach = first.reach;
-        let ends = PlaceEnds::of_first(sources, first, reach, None, shared.calls)?;
+        let made = PlaceEnds::of_first(sources, first, reach, None, shared.calls)?;
+        let ends = Box::new(sources.alloc, made)?;
         Ok(Kept {
             from,
             ends,
+            layouts: shared.layouts,
             fronts: shared.fronts,
             of: PhantomData,
         })
@@ -276,11 +295,11 @@ impl<'a, D: Document> KeptPages<'a, D> {
         let galley = sources.galley;
         let style = sources.style;
         let first = walk_first(sources.alloc, galley, style, self.index, from)?;
-        let front = first.front;
-        match front {
-            Some(front) => self.keep_before(from, first, front, shared),
-            None => self.keep_alone(from, first, shared),
-        }
+        let front = match &first.front {
+            Some(front) => **front,
+            None => return self.keep_alone(from, first, shared),
+        };
+        self.keep_before(from, first, front, shared)
     }
 
     // What is kept of a place, taken out of the cell, or a walk where it is not this place, with what serves of that one.
@@ -313,12 +332,14 @@ impl<'a, D: Document> KeptPages<'a, D> {
     {
         let from = kept.from;
         let mut ends = kept.ends;
-        let opened = open_by(&self.pages.sources, state, &mut ends, wants)?;
+        let mut layouts = kept.layouts;
+        let opened = open_by(&self.pages.sources, state, &mut layouts, &mut *ends, wants)?;
         Ok(OpenedBy {
             opened,
             kept: Kept {
                 from,
                 ends,
+                layouts,
                 fronts: kept.fronts,
                 of: PhantomData,
             },

@@ -52,15 +52,13 @@ plain_along doc top last p (x ∷ xs) =
 
 -- what was taken of them in a room are the best
 pub first_best : (g : GalleyValue) (s : StyleValue) (z top : ℤ) → z ≡ top → (from : Place) (one new : OneRoom) →
-    one.galley.now ≡ g → one.style.now ≡ s → one.ends.items ≡ [] → TookIn one new (first_ends (document g s) z from) →
+    one.galley.now ≡ g → one.ends.items ≡ [] → TookIn s one new (first_ends (document g s) z from) →
     AreBest (text_ends (document g s) new.room (first_ends (document g s) top from)) (ends_of [] new.ends.items)
-first_best g s z top t from one new eg es none took =
+first_best g s z top t from one new eg none took =
     subst (λ (y : ℤ). AreBest (text_ends (document g s) new.room (first_ends (document g s) y from))
     (ends_of [] new.ends.items)) t
     (subst (λ (x : GalleyValue). AreBest (text_ends (document x s) new.room ends) (ends_of [] new.ends.items))
-    (took.galley ∙ eg)
-    (subst (λ (x : StyleValue). AreBest (text_ends (document new.galley.now x) new.room ends) (ends_of [] new.ends.items))
-    (took.style ∙ es) (took.best plain [] begun)))
+    (took.galley ∙ eg) (took.best plain [] begun))
   where
     ends : List Candidate
     ends = first_ends (document g s) z from
@@ -68,7 +66,7 @@ first_best g s z top t from one new eg es none took =
     plain : AllByRecursion IsPlain ends
     plain = plain_along (document g s) z _ _ (first_items g.blocks from)
 
-    begun : HasBest one []
+    begun : HasBest s one []
     begun = subst (λ (xs : List RoomEnd). AreBest [] (ends_of [] xs)) (sym none) none_best
 
 -- where no choice stands behind the first stretch it is all there is

@@ -112,7 +112,8 @@ pub fn walk_from(
 pub struct FirstWalk {
     pub near: NearList,
     pub straight: Option<StraightEnds>,
-    pub front: Option<Front>,
+    /// Behind a pointer: in most galleys columns come to none.
+    pub front: Option<Box<Front>>,
     pub reach: u32,
 }
 
@@ -153,7 +154,7 @@ fn walk_straight(
     ensures reach { IfOk result (λ o. IfSome o (λ it. it.front ≡ None →
         IsReach (document galley.now style.now) from it.reach)) }
     ensures front { IfOk result (λ o. IfSome o (λ it.
-        IfSome it.front (ComesTo (document galley.now style.now) from it))) }
+        IfSome it.front (λ front. ComesTo (document galley.now style.now) from it front.value))) }
 {
     let _ = galley.blocks().as_slice();
     walk_is_a_space(galley, style);
@@ -179,7 +180,7 @@ fn walk_straight(
     Ok(Some(FirstWalk {
         near,
         straight,
-        front: Some(front),
+        front: Some(Box::new(alloc, front)?),
         reach,
     }))
 }
@@ -196,7 +197,8 @@ fn walk_for_rooms(
     requires place { IsPlace galley.now.blocks from }
     ensures whole { IfOk result (λ it. it.front ≡ None → TellsAll (document galley.now style.now) from it) }
     ensures reach { IfOk result (λ it. it.front ≡ None → IsReach (document galley.now style.now) from it.reach) }
-    ensures front { IfOk result (λ it. IfSome it.front (ComesTo (document galley.now style.now) from it)) }
+    ensures front { IfOk result (λ it.
+        IfSome it.front (λ front. ComesTo (document galley.now style.now) from it front.value)) }
 {
     let mut found = CandidateList::with_room(alloc)?;
     let top = tallest(style);
@@ -218,7 +220,7 @@ fn walk_for_rooms(
     Ok(FirstWalk {
         near,
         straight: None,
-        front: Some(front),
+        front: Some(Box::new(alloc, front)?),
         reach,
     })
 }
@@ -237,7 +239,8 @@ pub fn walk_first(
     requires place { IsPlace galley.now.blocks from }
     ensures whole { IfOk result (λ it. it.front ≡ None → TellsAll (document galley.now style.now) from it) }
     ensures reach { IfOk result (λ it. it.front ≡ None → IsReach (document galley.now style.now) from it.reach) }
-    ensures front { IfOk result (λ it. IfSome it.front (ComesTo (document galley.now style.now) from it)) }
+    ensures front { IfOk result (λ it.
+        IfSome it.front (λ front. ComesTo (document galley.now style.now) from it front.value)) }
 {
     if !has_one_room(style) {
         return walk_for_rooms(alloc, galley, style, index, from);

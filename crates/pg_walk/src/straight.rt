@@ -70,7 +70,7 @@ pub(crate) fn straight_walk(
     ensures ends { IfOk result (λ it. AreStraight (document galley.now style.now) from it.straight) }
     ensures walked { IfOk result (λ it. HasWalked (document galley.now style.now) (tallest_of style.now) from it.walked) }
 {
-    let mut one = OneRoom::new(alloc, galley, style, room)?;
+    let mut one = OneRoom::new(alloc, galley, room)?;
     let top = tallest(style);
     let walked = first_stretch(alloc, galley, style, index, from, top, &mut one)?;
     let room = one.room;

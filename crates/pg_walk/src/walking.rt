@@ -40,7 +40,7 @@ pub(crate) fn first_stretch<T: TakesEnds>(
 ) -> Result<Walked, AllocError>
     requires hops { AreHops galley.now.blocks style.now.maxdepth index.now }
     requires place { IsPlace galley.now.blocks from }
-    ensures ends { OnOk result (T.Took found.old found.new (first_ends (document galley.now style.now) top from)) }
+    ensures ends { OnOk result (T.Took style.now found.old found.new (first_ends (document galley.now style.now) top from)) }
     ensures walked { IfOk result (HasWalked (document galley.now style.now) top from) }
 {
     has_classes(style);

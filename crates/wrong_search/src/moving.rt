@@ -2,13 +2,14 @@
 ghost use Rattle.std.specs.Prelude.{◌≡◌, IfOk, OnOk};
 ghost use Rattle.law_space.specs.PageSpace.{page_meaning};
 ghost use Rattle.law_space.specs.ReachAt.{reach_at};
+ghost use Rattle.pg_rooms.specs.KeptLaid.{AreLayouts};
 ghost use Rattle.pg_rooms.specs.PlaceEnds.{ArePlaceEnds};
 ghost use Rattle.pg_rules.specs.IsState.{IsState};
 ghost use Rattle.pg_sources.specs.Document.{doc_of};
 ghost use Rattle.pg_table.specs.Space.{AreWanted};
 
 use pg_plan::State;
-use pg_rooms::PlaceEnds;
+use pg_rooms::{Layouts, PlaceEnds};
 use pg_small::{SmallMove, SmallState};
 use pg_sources::Sources;
 use pg_states::PageMarks;
@@ -19,17 +20,20 @@ use std::alloc::AllocError;
 pub fn open_by<W: Wants<State = SmallState, Marks = PageMarks>>(
     sources: &Sources<'_>,
     state: &State,
+    layouts: &mut Layouts,
     kept: &mut PlaceEnds,
     wants: &W,
 ) -> Result<Opened<SmallState, SmallMove>, AllocError>
     requires own { IsState (doc_of sources.now) state.now }
     requires reach { kept.old.walk.reach ≡ reach_at (doc_of sources.now) state.now.place }
+    requires layouts { AreLayouts (doc_of sources.now) layouts.old }
     ensures moves { IfOk result (λ it. ArePlaceEnds (doc_of sources.now) state.now.place kept.old →
         AreWanted (page_meaning (doc_of sources.now)) state.now (W.spares wants.now) it.steps) }
     ensures reach { IfOk result (λ it. it.reach ≡ reach_at (doc_of sources.now) state.now.place) }
     ensures kept { OnOk result (ArePlaceEnds (doc_of sources.now) state.now.place kept.old →
         ArePlaceEnds (doc_of sources.now) state.now.place kept.new) }
     ensures walk { OnOk result (kept.new.walk ≡ kept.old.walk) }
+    ensures layouts { OnOk result (AreLayouts (doc_of sources.now) layouts.new) }
 {
-    pg_moves::open_by(sources, state, kept, wants)
+    pg_moves::open_by(sources, state, layouts, kept, wants)
 }

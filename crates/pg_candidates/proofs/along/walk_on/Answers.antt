@@ -28,12 +28,12 @@ returns-in_default-go-clause-ends g c =
     let doc = document c.args.galley.now c.args.style.now in
     let top = to_z w64 (of_z w64 c.args.top) in
     let demerits = to_z w64 (of_z w64 c.args.demerits) in
-    subst (λ (picks : List ℕ). g.T.TakesEnds.Took c.args.found.now c.end_at-in-ahead.new.found
+    subst (λ (picks : List ℕ). g.T.TakesEnds.Took c.args.style.now c.args.found.now c.end_at.new.found
     (ends_along doc c.args.top picks c.args.demerits (place (front_ahead c.args.galley.now.blocks c.args.start) 0 0)
     (view c.args.before) (items_ahead c.args.galley.now.blocks c.args.start))) c.in_ok-shared.ensures
-    (simp to_z-of_z at (all_taken g.T.TakesEnds.Took g.met.T.TakesEnds.both_taken c.args.found.now c.ahead.found
-    c.end_at-in-ahead.new.found _ _ _ c.ahead.invariant.ends
-    (c.in_ok-end_at-2.ensures c.args.galley.now c.ends_at-is_end.ensures)
+    (simp to_z-of_z at (all_taken (g.T.TakesEnds.Took c.args.style.now) (g.met.T.TakesEnds.both_taken c.args.style.now) c.args.found.now c.ahead.found
+    c.end_at.new.found _ _ _ c.ahead.invariant.ends
+    (c.in_ok-end_at.ensures c.args.galley.now c.ends_at-is_end.ensures)
     (stop_ends doc top c.ahead.at c.place-here-in-ahead.result c.place-here-in-ahead.ensures (view c.ahead.passed)
     c.in_ok-shared.shared.value demerits [] _ refl c.in_default-go.ensures.stops)))
 
@@ -52,12 +52,12 @@ returns-then-not-fits-clause-ends g c =
     let doc = document c.args.galley.now c.args.style.now in
     let top = to_z w64 (of_z w64 c.args.top) in
     let demerits = to_z w64 (of_z w64 c.args.demerits) in
-    subst (λ (picks : List ℕ). g.T.TakesEnds.Took c.args.found.now c.end_at.new.found
+    subst (λ (picks : List ℕ). g.T.TakesEnds.Took c.args.style.now c.args.found.now c.hand_on.new.found
     (ends_along doc c.args.top picks c.args.demerits (place (front_ahead c.args.galley.now.blocks c.args.start) 0 0)
     (view c.args.before) (items_ahead c.args.galley.now.blocks c.args.start))) c.in_ok-shared.ensures
-    (simp to_z-of_z at (all_taken g.T.TakesEnds.Took g.met.T.TakesEnds.both_taken c.args.found.now c.ahead.found
-    c.end_at.new.found _ _ _ c.ahead.invariant.ends
-    (c.in_ok-end_at.ensures c.args.galley.now
+    (simp to_z-of_z at (all_taken (g.T.TakesEnds.Took c.args.style.now) (g.met.T.TakesEnds.both_taken c.args.style.now) c.args.found.now c.ahead.found
+    c.hand_on.new.found _ _ _ c.ahead.invariant.ends
+    (c.in_ok-hand_on.ensures c.args.galley.now
     (hop_end c.args.galley.now.blocks c.args.style.now.maxdepth (view c.ahead.passed) c.ahead.at c.place-here.result
     c.in-Some.hop.now c.place-here.ensures
     (subst (λ o. MayHop c.args.galley.now.blocks c.args.style.now.maxdepth (view c.ahead.passed) c.ahead.at
@@ -74,12 +74,12 @@ returns-then-not-fits-2-clause-ends g c =
     let doc = document c.args.galley.now c.args.style.now in
     let top = to_z w64 (of_z w64 c.args.top) in
     let demerits = to_z w64 (of_z w64 c.args.demerits) in
-    subst (λ (picks : List ℕ). g.T.TakesEnds.Took c.args.found.now c.end_at-in-ahead.new.found
+    subst (λ (picks : List ℕ). g.T.TakesEnds.Took c.args.style.now c.args.found.now c.end_at.new.found
     (ends_along doc c.args.top picks c.args.demerits (place (front_ahead c.args.galley.now.blocks c.args.start) 0 0)
     (view c.args.before) (items_ahead c.args.galley.now.blocks c.args.start))) c.in_ok-shared.ensures
-    (simp to_z-of_z at (all_taken g.T.TakesEnds.Took g.met.T.TakesEnds.both_taken c.args.found.now c.ahead.found
-    c.end_at-in-ahead.new.found _ _ _ c.ahead.invariant.ends
-    (c.in_ok-end_at-2.ensures c.args.galley.now c.ends_at-is_end.ensures)
+    (simp to_z-of_z at (all_taken (g.T.TakesEnds.Took c.args.style.now) (g.met.T.TakesEnds.both_taken c.args.style.now) c.args.found.now c.ahead.found
+    c.end_at.new.found _ _ _ c.ahead.invariant.ends
+    (c.in_ok-end_at.ensures c.args.galley.now c.ends_at-is_end.ensures)
     (over_ends doc top c.ahead.at c.place-here-in-ahead.result c.place-here-in-ahead.ensures (view c.ahead.passed)
     c.in_ok-shared.shared.value demerits [] _ refl c.in-Some-go.next (view c.go.new.passed) c.in-Some-go.ensures.goes
     (sym c.fits-in-ahead.ensures ∙ c.if-not-fits-2.true))))
@@ -118,7 +118,7 @@ ahead-init g c = record {
   sums = refl;
   notes = refl;
   past = refl;
-  ends = ([], (g.met.T.TakesEnds.none_taken c.args.found.now, refl));
+  ends = ([], (g.met.T.TakesEnds.none_taken c.args.style.now c.args.found.now, refl));
   reach = grind (arith);
   quiet = refl;
 }
@@ -142,9 +142,9 @@ ahead-preserved-in-Some g c =
       sums = counts.0.passed ∙ c.ahead.invariant.sums;
       notes = counts.1.passed ∙ c.ahead.invariant.notes;
       past = step_past doc top c.ahead.at to old new went bound ∙ c.ahead.invariant.past;
-      ends = taking_on g.T.TakesEnds.Took g.met.T.TakesEnds.both_taken c.args.found.now c.ahead.found
-          c.end_at.new.found _ _ _ c.ahead.invariant.ends
-          (c.in_ok-end_at.ensures c.args.galley.now
+      ends = taking_on (g.T.TakesEnds.Took c.args.style.now) (g.met.T.TakesEnds.both_taken c.args.style.now) c.args.found.now c.ahead.found
+          c.hand_on.new.found _ _ _ c.ahead.invariant.ends
+          (c.in_ok-hand_on.ensures c.args.galley.now
           (hop_end c.args.galley.now.blocks c.args.style.now.maxdepth (view c.ahead.passed) c.ahead.at c.place-here.result
           c.in-Some.hop.now c.place-here.ensures
           (subst (λ o. MayHop c.args.galley.now.blocks c.args.style.now.maxdepth (view c.ahead.passed) c.ahead.at
@@ -177,9 +177,9 @@ ahead-preserved g c =
       sums = counts.0.passed ∙ c.ahead.invariant.sums;
       notes = counts.1.passed ∙ c.ahead.invariant.notes;
       past = step_past doc top c.ahead.at to old new went bound ∙ c.ahead.invariant.past;
-      ends = taking_on g.T.TakesEnds.Took g.met.T.TakesEnds.both_taken c.args.found.now c.ahead.found
-          c.end_at-in-ahead.new.found _ _ _ c.ahead.invariant.ends
-          (c.in_ok-end_at-2.ensures c.args.galley.now c.ends_at-is_end.ensures) _
+      ends = taking_on (g.T.TakesEnds.Took c.args.style.now) (g.met.T.TakesEnds.both_taken c.args.style.now) c.args.found.now c.ahead.found
+          c.end_at.new.found _ _ _ c.ahead.invariant.ends
+          (c.in_ok-end_at.ensures c.args.galley.now c.ends_at-is_end.ensures) _
           (step_ends doc top c.ahead.at c.place-here-in-ahead.result c.place-here-in-ahead.ensures old c.in_ok-shared.shared.value demerits
           [] _ refl to new went bound);
       reach = step_reach c.ahead.at c.place-here-in-ahead.result c.place-here-in-ahead.ensures c.ahead.greatest
@@ -195,12 +195,12 @@ returns-clause-ends g c =
     let doc = document c.args.galley.now c.args.style.now in
     let top = to_z w64 (of_z w64 c.args.top) in
     let demerits = to_z w64 (of_z w64 c.args.demerits) in
-    subst (λ (picks : List ℕ). g.T.TakesEnds.Took c.args.found.now c.end_at-2.new.found
+    subst (λ (picks : List ℕ). g.T.TakesEnds.Took c.args.style.now c.args.found.now c.end_at-2.new.found
     (ends_along doc c.args.top picks c.args.demerits (place (front_ahead c.args.galley.now.blocks c.args.start) 0 0)
     (view c.args.before) (items_ahead c.args.galley.now.blocks c.args.start))) c.in_ok-shared.ensures
-    (simp to_z-of_z at (all_taken g.T.TakesEnds.Took g.met.T.TakesEnds.both_taken c.args.found.now c.ahead.found
+    (simp to_z-of_z at (all_taken (g.T.TakesEnds.Took c.args.style.now) (g.met.T.TakesEnds.both_taken c.args.style.now) c.args.found.now c.ahead.found
     c.end_at-2.new.found _ _ _ c.ahead.invariant.ends
-    (c.in_ok-end_at-3.ensures c.args.galley.now c.is_end-is_end.ensures)
+    (c.in_ok-end_at-2.ensures c.args.galley.now c.is_end-is_end.ensures)
     (end_ends doc top c.ahead.at c.ahead.invariant.settled c.in_default-item.ensures.item (view c.ahead.passed)
     c.in_ok-shared.shared.value demerits c.place-front.result c.place-front.ensures [] _ refl)))
 

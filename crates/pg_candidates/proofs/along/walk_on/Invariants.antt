@@ -23,7 +23,7 @@ invariant-ahead g l = record {
       ≡ l.fn.before.notes.count + length (items_ahead l.galley.blocks l.fn.start);
   past : past_stretch (document l.galley l.style) l.top (view l.passed) (items_ahead l.galley.blocks l.at)
       ≡ past_stretch (document l.galley l.style) l.top (view l.fn.before) (items_ahead l.galley.blocks l.fn.start);
-  ends : Taking g.T.TakesEnds.Took l.initial.found l.found
+  ends : Taking (g.T.TakesEnds.Took l.style) l.initial.found l.found
       (ends_along (document l.galley l.style) l.top l.shared.value l.demerits
       (place (front_ahead l.galley.blocks l.at) 0 0) (view l.passed) (items_ahead l.galley.blocks l.at))
       (ends_along (document l.galley l.style) l.top l.shared.value l.demerits

@@ -1,12 +1,9 @@
-use Rattle.std.proofs.Common.{List, subst}
-use Rattle.std.specs.List.Sorted.{IsPartitionedBy}
-use Rattle.pg_candidates.specs.Spots.{is_before}
-use Rattle.pg_candidates.specs.declared.room_end.RoomEnd.{RoomEnd}
-use Rattle.pg_candidates.proofs.Putting.{Point}
+use Rattle.std.proofs.Common.{map}
+use Rattle.pg_candidates.specs.View.{candidate_of}
+use Rattle.pg_candidates.proofs.Putting.{put_last}
 use Rattle.pg_candidates.proofs.best.keep_best.Goals as goal
 
-pub put_in-requires-clause-point : goal.put_in-requires-clause-point
-put_in-requires-clause-point c =
-    let own = c.args.end in
-    subst (λ (fs : List RoomEnd). IsPartitionedBy (λ f. is_before f own) fs → Point own fs c.count_before-at.result)
-    c.as_slice.ensures.value c.count_before-at.ensures.point
+pub returns-then-is_behind_all : goal.returns-then-is_behind_all
+returns-then-is_behind_all c = λ order.
+    put_last (map candidate_of c.args.candidates.now) c.args.end c.args.ends.now.items c.as_slice.result.now _ order
+    c.as_slice.ensures.value c.in_ok-push.ensures.items (c.is_behind_all.ensures c.if-is_behind_all.true)

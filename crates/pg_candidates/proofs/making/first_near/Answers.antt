@@ -9,7 +9,7 @@ room_for-requires c =
     c.args.candidate.now.passed.sums.totals given)) c.give-give.ensures.value c.goal_for-goal.ensures
 
 pub returns-clause-near : goal.returns-clause-near
-returns-clause-near c = c.near_first-near.ensures.near c.args.galley.now c.kind_at.ensures
+returns-clause-near c = c.near_first-near.ensures.near c.args.galley.now c.kind_of.ensures
 
 pub returns-clause-until : goal.returns-clause-until
-returns-clause-until c = c.near_first-near.ensures.until c.args.galley.now c.kind_at.ensures c.room_for.ensures
+returns-clause-until c = c.near_first-near.ensures.until c.args.galley.now c.kind_of.ensures c.room_for.ensures

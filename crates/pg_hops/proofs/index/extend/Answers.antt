@@ -10,8 +10,8 @@ more-preserved c =
     record {
       hops = λ are. subst (λ (rows : List Row). AreHops c.args.galley.now.blocks c.args.style.now.maxdepth rows)
           (sym c.in_ok-push.ensures.items)
-          (one_row c.args.galley.now.blocks c.args.style.now.maxdepth c.more.rows.items c.in_ok-row.row
+          (one_row c.args.galley.now.blocks c.args.style.now.maxdepth c.more.rows.items c.with_leap-kept.result
           (c.more.invariant.hops are)
-          (subst (λ (n : ℕ). AreRowHops c.args.galley.now.blocks c.args.style.now.maxdepth n c.in_ok-row.row)
-          (c.len-in-more-2.ensures ∙ long) c.in_ok-row.ensures));
+          (subst (λ (n : ℕ). AreRowHops c.args.galley.now.blocks c.args.style.now.maxdepth n c.with_leap-kept.result)
+          (c.len-in-more-3.ensures ∙ long) c.with_leap-kept.ensures));
     }

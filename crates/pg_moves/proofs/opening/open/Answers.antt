@@ -14,3 +14,6 @@ returns-clause-moves c = all_made (doc_of c.args.sources.now) c.args.state.now c
 pub walk_place-requires-clause-hops : goal.walk_place-requires-clause-hops
 walk_place-requires-clause-hops c =
     c.empty-index.ensures c.args.sources.now.galley.now.blocks c.args.sources.now.style.now.maxdepth
+
+pub open_by-requires-clause-layouts : goal.open_by-requires-clause-layouts
+open_by-requires-clause-layouts c = c.none-2.ensures (doc_of c.args.sources.now)

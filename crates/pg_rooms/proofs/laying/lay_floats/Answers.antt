@@ -9,7 +9,6 @@ use Rattle.pg_sources.specs.Document.{doc_of}
 use Rattle.pg_rooms.specs.Laid.{laid_of}
 use Rattle.pg_rooms.specs.Runs.{first_run}
 use Rattle.pg_rooms.proofs.Dealt.{placed_short, float_laid}
-use Rattle.pg_rooms.proofs.FloatLaid.{on_float_each}
 use Rattle.pg_rooms.proofs.Running.{laid_first, on_floats}
 use Rattle.pg_rooms.proofs.laying.lay_floats.Goals as goal
 
@@ -35,7 +34,3 @@ returns-clause-laid c =
     ∙ ap (λ (it : State). float_layouts doc it c.args.ceiling.now) c.in_ok-first.ensures) in
     on_floats (λ all. all.items) c.on_runs.result doc u c.args.ceiling.now c.in_ok-laid.laid.items
     (c.in_ok-laid.ensures.laid ∙ ap (map (laid_of doc u)) is) c.on_runs.ensures.value
-
-pub returns-clause-each : goal.returns-clause-each
-returns-clause-each c = on_float_each (λ laid. laid.items) c.on_runs.result (doc_of c.args.sources.now) c.args.state.now
-    c.args.ceiling.now (returns-clause-laid c) c.on_runs.ensures.small

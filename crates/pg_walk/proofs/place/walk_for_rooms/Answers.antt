@@ -58,5 +58,6 @@ returns-clause-front c =
         );
         straight = tt;
       };
-      ahead = subst (λ (o : Option Front). IfSome o (IsAhead doc c.args.from)) c.in-Some.is c.front_behind-front.ensures;
+      ahead = subst (IsAhead doc c.args.from) (sym c.in_ok-new.ensures.ok)
+          (subst (λ (o : Option Front). IfSome o (IsAhead doc c.args.from)) c.in-Some.is c.front_behind-front.ensures);
     }

@@ -13,7 +13,7 @@ pub returns-clause-ends : goal.returns-clause-ends
 returns-clause-ends c =
     let top = to_z-of_z w64 c.tallest-top.result (record { sfits = search rules }) ∙ c.tallest-top.ensures in
     first_best c.args.galley.now c.args.style.now _ (tallest c.args.style.now) top c.args.from c.in_ok-one.one
-    c.first_stretch.new.found c.in_ok-one.ensures.galley c.in_ok-one.ensures.style c.in_ok-one.ensures.ends
+    c.first_stretch.new.found c.in_ok-one.ensures.galley c.in_ok-one.ensures.ends
     c.in_ok-walked.ensures.ends
 
 pub returns-clause-walked : goal.returns-clause-walked

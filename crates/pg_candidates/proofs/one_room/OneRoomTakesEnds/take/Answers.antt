@@ -1,4 +1,4 @@
-use Rattle.std.proofs.Common.{◌≡◌, ◌∙◌, refl, sym, subst, arith, List, [], ◌∷◌, ◌++◌, ◌<ℤ◌, pos, false}
+use Rattle.std.proofs.Common.{◌≡◌, ◌∙◌, refl, sym, subst, arith, [], ◌∷◌, ◌++◌, ◌<ℤ◌, false}
 use Rattle.std.specs.Prelude.{int_lt}
 use Rattle.std.proofs.lemmas.Int.{ints}
 use Rattle.std.proofs.lemmas.Result.{on_ok_weaker}
@@ -11,38 +11,36 @@ use Rattle.pg_candidates.specs.RoomEnds.{ends_of}
 use Rattle.pg_candidates.specs.View.{plain_to}
 use Rattle.pg_candidates.proofs.Plain.{plain_is, plain_near, plain_value}
 use Rattle.pg_candidates.proofs.Nears.{best_kept, best_refused}
-use Rattle.pg_candidates.proofs.TooLow.{best_too_low}
+use Rattle.pg_candidates.proofs.TooLow.{best_too_low, needs_least}
 use Rattle.pg_candidates.proofs.one_room.OneRoomTakesEnds.take.Goals as goal
 
 pub returns-then-is_too_low : goal.returns-then-is_too_low
 returns-then-is_too_low c = record {
   galley = refl;
-  style = refl;
   room = refl;
   best = λ plain cs best.
-      let doc = document c.args.self.now.galley.now c.args.self.now.style.now in
+      let doc = document c.args.self.now.galley.now c.args.style.now in
       let room = c.args.self.now.room in
       let ends = ends_of [] c.args.self.now.ends.items in
-      let low : most_room room <ℤ c.least_of.result =
+      let low : most_room room <ℤ c.args.needs.now.bound =
       grind (arith, ints, c.is_too_low.ensures, c.if-is_too_low.true) in
       subst (λ (x : Candidate). AreBest (text_ends doc room (cs ++ x ∷ [])) ends) (sym (plain_is _ plain.0))
-      (best_too_low doc room cs (plain_to c.args.to (view c.args.passed.now)) c.least_of.result ends low
-      (c.least_of.ensures c.args.self.now.galley.now c.args.to [] (pos 0)) best);
+      (best_too_low doc room cs (plain_to c.args.to (view c.args.passed.now)) c.args.needs.now.bound ends low
+      (needs_least doc (plain_to c.args.to (view c.args.passed.now)) c.args.needs.now c.requires) best);
 }
 
 pub returns-then-not-is_tolerable : goal.returns-then-not-is_tolerable
 returns-then-not-is_tolerable c = record {
   galley = refl;
-  style = refl;
   room = refl;
   best = λ plain cs best.
-      let doc = document c.args.self.now.galley.now c.args.self.now.style.now in
+      let doc = document c.args.self.now.galley.now c.args.style.now in
       let room = c.args.self.now.room in
       let it = plain_to c.args.to (view c.args.passed.now) in
-      let near = plain_value doc it c.kind_at-kind.result c.least_of.result in
-      let is = plain_near doc room.give.stretch it c.kind_at-kind.result c.least_of.result c.kind_at-kind.ensures
-      (c.least_of.ensures c.args.self.now.galley.now c.args.to [] (pos 0)) in
-      let high : int_lt (most_room room) c.least_of.result ≡ false =
+      let near = plain_value doc it c.kind_at-kind.result c.args.needs.now.bound in
+      let is = plain_near doc room.give.stretch it c.kind_at-kind.result c.args.needs.now.bound c.kind_at-kind.ensures
+      (needs_least doc (plain_to c.args.to (view c.args.passed.now)) c.args.needs.now c.requires) in
+      let high : int_lt (most_room room) c.args.needs.now.bound ≡ false =
       grind (arith, ints, c.is_too_low.ensures, c.if-is_too_low.false) in
       subst (λ (x : Candidate). AreBest (text_ends doc room (cs ++ x ∷ [])) (ends_of [] c.args.self.now.ends.items))
       (sym (plain_is _ plain.0))
@@ -54,16 +52,15 @@ returns-then-not-is_tolerable c = record {
 pub returns : goal.returns
 returns c = on_ok_weaker c.keep_best.result (λ added. record {
   galley = refl;
-  style = refl;
   room = refl;
   best = λ plain cs best.
-      let doc = document c.args.self.now.galley.now c.args.self.now.style.now in
+      let doc = document c.args.self.now.galley.now c.args.style.now in
       let room = c.args.self.now.room in
       let it = plain_to c.args.to (view c.args.passed.now) in
-      let near = plain_value doc it c.kind_at-kind.result c.least_of.result in
-      let is = plain_near doc room.give.stretch it c.kind_at-kind.result c.least_of.result c.kind_at-kind.ensures
-      (c.least_of.ensures c.args.self.now.galley.now c.args.to [] (pos 0)) in
-      let high : int_lt (most_room room) c.least_of.result ≡ false =
+      let near = plain_value doc it c.kind_at-kind.result c.args.needs.now.bound in
+      let is = plain_near doc room.give.stretch it c.kind_at-kind.result c.args.needs.now.bound c.kind_at-kind.ensures
+      (needs_least doc (plain_to c.args.to (view c.args.passed.now)) c.args.needs.now c.requires) in
+      let high : int_lt (most_room room) c.args.needs.now.bound ≡ false =
       grind (arith, ints, c.is_too_low.ensures, c.if-is_too_low.false) in
       subst (λ (x : Candidate). AreBest (text_ends doc room (cs ++ x ∷ [])) (ends_of [] c.keep_best.new.ends.items))
       (sym (plain_is _ plain.0))

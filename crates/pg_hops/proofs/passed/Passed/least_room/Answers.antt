@@ -1,21 +1,11 @@
-use Rattle.std.proofs.Common.{◌∙◌, arith, rules, w64, to_z, of_z}
-use Rattle.std.proofs.lemmas.Int.{ints, to_z-of_z}
-use Rattle.pg_column.specs.Passed.{least_notes}
+use Rattle.std.proofs.Common.{◌∙◌, ap, rules, w64}
+use Rattle.std.proofs.lemmas.Int.{to_z-of_z}
+use Rattle.pg_hops.specs.Needs.{least_by}
 use Rattle.pg_hops.specs.View.{view}
-use Rattle.pg_hops.proofs.LeapBound.{least_not_over}
 use Rattle.pg_hops.proofs.passed.Passed.least_room.Goals as goal
 
-pub returns-else-over-shrunk-clause-value : goal.returns-else-over-shrunk-clause-value
-returns-else-over-shrunk-clause-value c =
-    let p = view c.args.self.now in
-    let total = to_z-of_z w64 c.total.result (record { sfits = search rules }) in
-    let notes = to_z-of_z w64 c.smallest.result (record { sfits = search rules }) in
-    let shrink = to_z-of_z w64 c.shrink.result (record { sfits = search rules }) in
-    let full = to_z-of_z w64 c.plus-full.result (record { sfits = search rules }) in
-    least_not_over p.totals.total (least_notes c.args.style.now p) p.totals.shrink (to_z w64 (of_z w64 c.plus-full.result)) _
-    (to_z w64 (of_z w64 c.minus-shrunk.result))
-    (omega (arith, ints, total, notes, full, c.plus-full.ensures.value, c.total.ensures.value, c.smallest.ensures.value))
-    (to_z-of_z w64 c.plus-over.result (record { sfits = search rules }) ∙ c.plus-over.ensures.value)
-    (to_z-of_z w64 c.minus-shrunk.result (record { sfits = search rules })
-    ∙ omega (arith, ints, shrink, c.minus-shrunk.ensures.value, c.shrink.ensures.value))
-    c.if-over-shrunk.false
+pub returns-clause-value : goal.returns-clause-value
+returns-clause-value c = to_z-of_z w64 c.least_with.result (record { sfits = search rules })
+    ∙ (c.least_with.ensures.value
+    ∙ ap (least_by (view c.args.self.now))
+    (to_z-of_z w64 c.smallest.result (record { sfits = search rules }) ∙ c.smallest.ensures.value))

@@ -1,6 +1,8 @@
-use Rattle.std.proofs.Common.{◌≡◌, ◌∙◌}
+use Rattle.std.proofs.Common.{◌≡◌, ◌∙◌, ap, subst, sym}
 use Rattle.pg_list.specs.GalleyValue.{GalleyValue}
 use Rattle.law_space.specs.ReachAt.{reach_at}
+use Rattle.pg_rooms.specs.PlaceEnds.{ArePlaceEnds}
+use Rattle.pg_rooms.specs.declared.place_ends.PlaceEnds.{PlaceEnds}
 use Rattle.pg_rules.specs.Legal.{document}
 use Rattle.pg_style.specs.Values.{StyleValue}
 use Rattle.pg_space.proofs.Merely.{alone}
@@ -12,10 +14,12 @@ reach_is_the_greatest-requires g c = c.args.self.now.pages.sources.in_range.bloc
 
 pub invariant_of-result : goal.invariant_of-result
 invariant_of-result g c = record {
-  right = alone _ _ _ _ c.args.self.now.galley c.args.self.now.style c.args.from c.requires.place
-      c.in_ok-ends.ends c.args.first c.args.shared.calls c.requires.tells c.args.shared.right
-      c.in_ok-ends.ensures.right;
-  reach = c.in_ok-ends.ensures.reach ∙ of_equal
+  right = subst (λ (it : PlaceEnds). ∥ ArePlaceEnds (document g.D.Document.galley g.D.Document.style) c.args.from it ∥₁)
+      (sym c.in_ok-ends.ensures.ok) (alone _ _ _ _ c.args.self.now.galley c.args.self.now.style c.args.from c.requires.place
+      c.in_ok-made.made c.args.first c.args.shared.calls c.requires.tells c.args.shared.right
+      c.in_ok-made.ensures.right);
+  laid = c.args.shared.laid;
+  reach = ap (λ (it : PlaceEnds). it.walk.reach) c.in_ok-ends.ensures.ok ∙ c.in_ok-made.ensures.reach ∙ of_equal
       (λ (galley : GalleyValue) (style : StyleValue).
       c.args.first.reach ≡ reach_at (document galley style) c.args.from) _ _ _ _
       c.args.self.now.galley c.args.self.now.style

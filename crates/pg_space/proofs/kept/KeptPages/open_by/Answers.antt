@@ -1,20 +1,40 @@
-use Rattle.std.proofs.Common.{◌∙◌, ap}
+use Rattle.std.proofs.Common.{◌∙◌, ap, subst, sym}
 use Rattle.std.proofs.Math.Logic.{∥∥₁_map}
+use Rattle.pg_list.specs.GalleyValue.{GalleyValue}
+use Rattle.pg_rooms.specs.KeptLaid.{AreLayouts}
+use Rattle.pg_rooms.specs.PlaceEnds.{ArePlaceEnds}
+use Rattle.pg_rooms.specs.declared.place_ends.PlaceEnds.{PlaceEnds}
+use Rattle.pg_rules.specs.Legal.{document}
 use Rattle.pg_sources.specs.Document.{doc_of}
+use Rattle.pg_style.specs.Values.{StyleValue}
 use Rattle.pg_walk.specs.declared.place.PlaceWalk.{PlaceWalk}
 use Rattle.pg_space.proofs.Had.{wanted_had}
 use Rattle.pg_space.proofs.Merely.{carried, carried_on}
+use Rattle.pg_space.proofs.Telling.{of_equal}
 use Rattle.pg_space.proofs.kept.KeptPages.open_by.Goals as goal
 
 pub invariant_of-result : goal.invariant_of-result
 invariant_of-result g c = record {
-  right = ∥∥₁_map c.args.kept.right
+  right = ∥∥₁_map (subst (λ (it : PlaceEnds).
+      ∥ ArePlaceEnds (document g.D.Document.galley g.D.Document.style) c.args.kept.from it ∥₁)
+      (sym c.deref_mut.ensures.value) c.args.kept.right)
       (carried_on _ _ _ _ _ _ _ _ c.args.self.now.galley c.args.self.now.style c.requires.from
       c.in_ok-opened.ensures.kept);
-  reach = ap (λ (walk : PlaceWalk). walk.reach) c.in_ok-opened.ensures.walk ∙ c.args.kept.reach;
+  laid = of_equal (λ (galley : GalleyValue) (style : StyleValue).
+      AreLayouts (document galley style) c.open_by.new.layouts) _ _ _ _
+      c.args.self.now.galley c.args.self.now.style c.in_ok-opened.ensures.layouts;
+  reach = ap (λ (walk : PlaceWalk). walk.reach) c.in_ok-opened.ensures.walk
+      ∙ (ap (λ (it : PlaceEnds). it.walk.reach) c.deref_mut.ensures.value ∙ c.args.kept.reach);
 }
+
+pub open_by-requires-clause-layouts : goal.open_by-requires-clause-layouts
+open_by-requires-clause-layouts g c = of_equal (λ (galley : GalleyValue) (style : StyleValue).
+    AreLayouts (document galley style) c.args.kept.layouts) _ _ _ _
+    (sym c.args.self.now.galley) (sym c.args.self.now.style) c.args.kept.laid
 
 pub returns-clause-moves : goal.returns-clause-moves
 returns-clause-moves g c = wanted_had (doc_of c.args.self.now.pages.sources) c.args.state.now
-    (g.W.Wants.spares c.args.wants.now) c.in_ok-opened.opened.steps (∥∥₁_map c.args.kept.right (λ right. c.in_ok-opened.ensures.moves
+    (g.W.Wants.spares c.args.wants.now) c.in_ok-opened.opened.steps (∥∥₁_map (subst (λ (it : PlaceEnds).
+    ∥ ArePlaceEnds (document g.D.Document.galley g.D.Document.style) c.args.kept.from it ∥₁)
+    (sym c.deref_mut.ensures.value) c.args.kept.right) (λ right. c.in_ok-opened.ensures.moves
     (carried _ _ _ _ _ _ _ c.args.self.now.galley c.args.self.now.style c.requires.from right)))

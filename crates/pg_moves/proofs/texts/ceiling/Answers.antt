@@ -3,7 +3,7 @@ use Rattle.std.specs.Prelude.{min, IfOk}
 use Rattle.pg_list.specs.Places.{place}
 use Rattle.pg_list.specs.declared.galley.Place.{Place}
 use Rattle.pg_rules.specs.Floats.{called}
-use Rattle.pg_moves.proofs.opening.ceiling.Goals as goal
+use Rattle.pg_moves.proofs.texts.ceiling.Goals as goal
 
 pub returns : goal.returns
 returns c = subst (λ (at : Place). IfOk c.called.result
