@@ -52,7 +52,7 @@ end
 pg:close()
 os.remove(galley)
 os.remove(style)
-if not blank then io.stderr:write("booklet: pg folded nothing\n") os.exit(1) end
+if not blank then io.stderr:write("booklet: pg folded nothing: is it in the path, or named by PG?\n") os.exit(1) end
 
 f = assert(io.open(name .. "-booklet.tex", "w"))
 f:write("\\documentclass[a4paper,landscape]{article}\n\\usepackage{pdfpages}\n\\begin{document}\n")

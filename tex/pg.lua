@@ -213,8 +213,13 @@ local function last_words(line)
 end
 -- the first item that differs, in words; nothing where all are the same
 function pg.difference(galley, file)
-  local lines = io.open(file, "rb")
-  if not lines then return "there is no " .. file end
+  local name = file:gsub('"', "") -- TeX puts quotes around a name with a blank
+  local lines = io.open(name, "rb")
+  for k, word in ipairs(arg) do -- LuaTeX looks there for what TeX opens, and not for what Lua opens
+    local folder = word:match("^%-%-?output%-directory=(.*)$") or word:match("^%-%-?output%-directory$") and arg[k + 1]
+    lines = lines or folder and io.open(folder .. "/" .. name, "rb")
+  end
+  if not lines then return "there is no " .. name end
   local page, wanted, line = 1, nil, nil
   local function next_line()
     wanted = lines:read("l")

@@ -51,13 +51,33 @@ do
   name = name:gsub("%.tex$", ""):gsub("%.log$", "")
 end
 
+local function quoted(word)
+  if os.type == "windows" then return '"' .. word .. '"' end
+  return "'" .. word:gsub("'", "'\\''") .. "'"
+end
+-- a word of a command that is told
+local function in_shell(word) return word:match("^[%w_./+-]+$") and word or quoted(word) end
+
 -- what is stale is never used: where pgtex fails, there are no pages
 local temporary = {}
+local draft_log, kept_log = nil, name .. ".pgtex-draft.log" -- of the draft whose lines are told: kept where pgtex fails
+-- a file, or a folder with its files
+local function remove(path)
+  if lfs.isdir(path) then
+    for file in lfs.dir(path) do os.remove(path .. "/" .. file) end
+    lfs.rmdir(path)
+  else os.remove(path) end
+end
+local function clean()
+  for _, path in ipairs(temporary) do remove(path) end
+end
 local function stop(...)
   complain(...)
   os.remove(name .. ".pgx")
   os.remove(name .. ".pgi")
-  for _, file in ipairs(temporary) do os.remove(file) end
+  os.remove(kept_log)
+  if draft_log then os.rename(draft_log, kept_log) end
+  clean()
   os.exit(1)
 end
 local function temporary_name()
@@ -153,7 +173,7 @@ local function read_memory(log, line, at)
   elseif used then log.memory, log.used = integer(all), integer(used) end
 end
 local function with_more_memory(log)
-  return string.format("%s -cnf-line=extra_mem_bot=%d %s", log.command, log.memory - 1000000, name)
+  return string.format("%s -cnf-line=extra_mem_bot=%d %s", log.command, log.memory - 1000000, in_shell(name))
 end
 -- the last run holds a little more than the first
 local function tell_memory(log)
@@ -202,6 +222,9 @@ local function read_log(file)
       is_inside = true
       log.items, log.root, log.ended = {}, nil, false
     elseif line == "pg: galley ends" then is_inside = false log.ended = true
+    elseif line:sub(1, 2) == "**" and not log.typed then
+      while is_full(lines[i]) and lines[i + 1] do i = i + 1 line = line .. lines[i] end
+      log.typed = line:sub(3)
     elseif is_told then read_told(log, line)
     elseif is_inside then read_listed(log, line, at)
     else read_memory(log, line, at) end
@@ -219,10 +242,6 @@ end
 ---------------------------------------------------------------- pg
 local program = os.getenv("PG") or ""
 if program == "" then program = "pg" end
-local function quoted(word)
-  if os.type == "windows" then return '"' .. word .. '"' end
-  return "'" .. word:gsub("'", "'\\''") .. "'"
-end
 -- runs a program over files: its status, the first line that it said, and whether pg-try gave it up
 local function run(command, words, output)
   local errors = temporary_name()
@@ -286,13 +305,31 @@ local function told_of(said, style_file, galley)
   return { cause = value_of(object, "cause"), act = value_of(object, "act"), takes = value_of(object, "takes"),
     line = object:match('"line":(%d+)') }
 end
--- the line of a file on which a key stands, if it stands on no other
+-- what the keys take that have a least and a greatest number
+local RANGE = {
+  version = "1 to 3", columns = "1 or 2", tolerance = "0 to 10000", line = "0 to 10000", max_looseness = "0 to 100",
+  fitness = "0 to 100000000", count = "0 to 4", number = "0 to 254", distance = "1 to 9 numbers from 0 to 100000000",
+  ["runs.demerits"] = "0 to 100000000", ["float_column.demerits"] = "1 to 100000000",
+  runs = "1 to 5 tables", classes = "up to 4 tables, and up to 8 from version 2 on",
+  height = "more than 0.0 and less than 16384.0", ragged = "more than 0.0 and less than 16384.0",
+}
+local function range_of(key)
+  local path = key:gsub("%[%d+%]", "")
+  local range = RANGE[path] or RANGE[path:match("[%w_]+$")]
+  return range and ": it takes " .. range or ": pg_tell tells the range"
+end
+-- the line of a style on which a key as runs[0].extra stands, or its table where that stands on one line, or the table's head
 local function line_of(file, key)
-  local word, found = key:match("[%w_-]+$"), {}
+  local owner, place, word = key:match("^([%w_-]+)%[?(%d*)%]?%.([%w_-]+)$")
+  local header, count, head = nil, {}, nil
   for at, line in ipairs(lines_of(read_file(file) or "")) do
-    if word and line:match("^%s*([%w_-]+)%s*=") == word then found[#found + 1] = at end
+    local begun, set = line:match("^%s*%[+%s*([%w_-]+)%s*%]"), line:match("^%s*([%w_.-]+)%s*=")
+    if begun then header, count[begun] = begun, (count[begun] or -1) + 1 end
+    local is_there = header == owner and (not owner or place == "" or integer(place) == count[owner])
+    if set and (is_there and set == (word or key) or not header and (set == key or set == owner)) then return at end
+    if begun and is_there then head = at end
   end
-  return #found == 1 and found[1] or nil
+  return head
 end
 -- what pg said, in words; read: the items that it read, from line 2 on
 local function in_words(said, style, log, read, told)
@@ -315,7 +352,9 @@ local function in_words(said, style, log, read, told)
     return sentences(place, told.cause, told.takes and ". It takes: " .. told.takes or "", act)
   elseif number then
     local line = line_of(style, key)
-    return string.format("%s%s: %s %s", style, line and ":" .. line or "", key, STYLE_FAULT[integer(number)] or "is at fault")
+    local cause = STYLE_FAULT[integer(number)] or "is at fault"
+    if key == "-" then return style .. " " .. cause .. ", or not UTF-8: pg_tell tells the line" end
+    return string.format("%s%s: %s %s%s", style, line and ":" .. line or "", key, cause, number == "5" and range_of(key) or "")
   end
   local class = said:match("class (%d+) is not in the style")
   if class then
@@ -331,9 +370,16 @@ local function in_words(said, style, log, read, told)
 end
 
 ---------------------------------------------------------------- the style
-local function read_style(file)
+-- TeX puts quotes around a name with a blank; what it writes stands beside its log, and it looks there first
+local function read_style(file, log)
+  file = file:gsub('"', "")
+  local folder = log.file:match("^.*[/\\]")
+  if folder and lfs.isfile(folder .. file) then file = folder .. file end
   local text = read_file(file)
-  if not text then stop("there is no style %s: run LaTeX first", file) end
+  if not text then
+    if file:match("[^/\\]*$") == name:match("[^/\\]*$") .. ".toml" then stop("there is no style %s: run LaTeX first", file) end
+    stop("there is no style %s, which the option style of the package names", file)
+  end
   local style = { file = file, text = text, floats = {}, notes = {}, is_float = {}, runs = {} }
   local place, table_name = style, ""
   for line in text:gmatch("[^\n]+") do
@@ -710,8 +756,11 @@ local function tell_illegal(part, which, blocks, style, style_file, log)
   if #reasons > 0 then stop("no legal pagination%s", which) end
   local block, pages = least_illegal_front(part, blocks, style_file, log)
   local item = block and (block.item or block.versions[1][1])
-  stop("no legal pagination%s: %d pages can be made, and nothing behind %s:%d%s", which, pages, log.file, item and item.at or 0,
+  complain("no legal pagination%s: %d pages can be made, and nothing behind %s:%d%s", which, pages, log.file, item and item.at or 0,
     item and " [" .. item.line .. "]" or "")
+  local galley = name .. (which:match(" %d+$") or ""):gsub(" ", "-") .. ".pgg"
+  stop("which numbers of the style would help: %spg_tell %s %s", keep and "" or "pgtex --keep " .. in_shell(name) .. "; ",
+    in_shell(style.file), in_shell(galley))
 end
 -- What pg writes of a part by a text of pg.sty, or nothing where no pagination is legal, or where it refuses, which is told. No cost of such a
 -- style is below 0. So what costs less than the waits that are left out is best by the whole text as well, and what costs
@@ -1081,22 +1130,36 @@ local function joined_pages(parts, log)
   end
   return string.format("pages %d cost %d width %s\n", number, cost, width_of(log)) .. table.concat(out, "\n") .. "\n"
 end
-local function keep_texts(parts, blocks, log)
+-- what pg reads is kept before it is asked: where no pages are legal, pg_tell may be asked why
+local function keep_galleys(parts, blocks, log)
   local all = {}
   for k, part in ipairs(parts) do
     for _, b in ipairs(part.shown) do all[#all + 1] = b end
     write_file(name .. "-" .. k .. ".pgg", part.lines)
-    write_file(name .. "-" .. k .. ".pages", part.text)
+    os.remove(name .. "-" .. k .. ".pages")
   end
   local more = #parts + 1
-  while os.remove(name .. "-" .. more .. ".pages") do os.remove(name .. "-" .. more .. ".pgg") more = more + 1 end
+  while os.remove(name .. "-" .. more .. ".pgg") do os.remove(name .. "-" .. more .. ".pages") more = more + 1 end
   write_file(name .. ".pgg", (galley_text(all, blocks, log.root)))
+  os.remove(name .. ".pages")
+end
+local function keep_pages(parts, log)
+  for k, part in ipairs(parts) do write_file(name .. "-" .. k .. ".pages", part.text) end
   write_file(name .. ".pages", joined_pages(parts, log))
 end
 
 ---------------------------------------------------------------- paragraphs in several lengths
 -- LaTeX is run once more for each looseness, as a draft in a folder of its own: what stands beside the document stays
 -- as it is.
+-- What TeX was given to read: the document, or the line of commands that was typed.
+local function source_of(log)
+  local typed = (log.typed or ""):gsub("^&%S+%s*", "")
+  if typed:sub(1, 1) == "\\" then return typed end
+  typed = typed:gsub('"', "")
+  local is_own = typed:gsub("%.tex$", ""):match("[^/\\]*$") == name:match("[^/\\]*$") -- and not by -jobname
+  if typed == "" or is_own and lfs.isfile(name .. ".tex") then typed = name end
+  return "\\input{" .. typed .. "}"
+end
 local function draft_run(log, looseness)
   local folder = temporary_name()
   lfs.mkdir(folder)
@@ -1108,12 +1171,17 @@ local function draft_run(log, looseness)
   local without_pdf = log.machine == "xe" and "-no-pdf" or "-draftmode"
   local base = name:match("[^/\\]*$")
   local command = string.format("%s %s -interaction=batchmode -output-directory=%s -jobname=%s %s", program_of_engine, without_pdf,
-    quoted(folder), quoted(base), quoted(string.format("\\def\\pgloose{%d}\\input{%s}", looseness, name)))
+    quoted(folder), quoted(base), quoted(string.format("\\def\\pgloose{%d}%s", looseness, source_of(log))))
   os.execute(command .. (os.type == "windows" and " > NUL" or " > /dev/null"))
-  local draft = lfs.isfile(folder .. "/" .. base .. ".log") and read_log(folder .. "/" .. base .. ".log")
-  for file in lfs.dir(folder) do os.remove(folder .. "/" .. file) end
-  lfs.rmdir(folder)
-  if not draft then stop("the draft run `%s' wrote no log", command) end
+  local file = folder .. "/" .. base .. ".log"
+  local text = read_file(file)
+  if not text then stop("the draft run `%s' wrote no log", command) end
+  if not text:find("\npg: galley ends", 1, true) and not text:find("\n! TeX capacity exceeded", 1, true) then
+    stop("the draft run `%s' did not come to its end: %s", command, text:match("\n(! [^\n]*)") or "it has no galley")
+  end
+  local draft = read_log(file)
+  draft.typed = log.typed
+  if looseness == 0 then draft_log, draft.file = file, kept_log else remove(folder) end
   return draft
 end
 
@@ -1242,7 +1310,7 @@ end
 
 ---------------------------------------------------------------- the whole
 local log = read_log(name .. ".log")
-local style = read_style(log.style or name .. ".toml")
+local style = read_style(log.style or name .. ".toml", log)
 -- a run with pages shows the lengths that were picked: the natural ones come of a draft
 if log.picks == "1" then
   local draft = draft_run(log, 0)
@@ -1269,13 +1337,16 @@ galley = table.concat(galley)
 local sum = md5.sumhexa(VERSION .. FORMAT .. (log.bottom or "") .. style.text .. galley)
 local old = read_file(name .. ".pgx")
 if old and old:match("\\pg@pages{%d+}{(%x+)}") == sum and not keep then
+  clean()
   say("%s.pgx is of this galley", name)
   tell_memory(log)
   os.exit(0)
 end
+if keep then keep_galleys(parts, blocks, log) end
 paginate(parts, blocks, style, log)
 local how_many = write_commands(parts, blocks, style, log, sum)
-if keep then keep_texts(parts, blocks, log) end
-for _, file in ipairs(temporary) do os.remove(file) end
+if keep then keep_pages(parts, log) end
+clean()
+os.remove(kept_log)
 say("%s.pgx has %d pages; run LaTeX again", name, how_many)
 tell_memory(log)
