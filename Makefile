@@ -23,7 +23,7 @@ test:
 
 # a drawing of an example, unproved
 draw:
-	cd crates/pg_draw_main && rt try -- $(DRAWN) > "$(CURDIR)/ten-lines.html"
+	cd crates/pg_draw_main && rt try -- $(DRAWN) > "$(CURDIR)/ten-lines.html" && echo "open ten-lines.html in a browser"
 
 # the programs and their manual pages; `make -C tex install` puts the LaTeX package, pgtex and its page in place
 install:
