@@ -44,3 +44,10 @@ module _ {X : Type 0} (xs items : List X) (o : Option X) (i : ℕ) (view : xs ++
       let m : length (xs ++ []) ≡ length items = ap length is in
       let z : length xs ≡ 0 = ap length e in
       omega arith
+
+  -- it is the only one
+  pub alone : (p : Option X) → o ≡ p → xs ≡ [] → (d : X) → xs ++ [] ≡ swap_remove items i d
+  alone None none z d = absurd (not_none none (subst (λ q. IfNone q (xs ≡ [])) (sym none) z))
+  alone (Some x) some z d =
+      let l : length xs ≡ 0 = ap length z in
+      ap (λ ys. ys ++ []) z ∙ (sym z ∙ let_go x some (omega arith) d)

@@ -1,6 +1,6 @@
 -- What is remembered of states stays right.
 use Rattle.std.proofs.Common.{◌≡◌, ℕ, ◌+◌, ◌⊎◌, ◌<◌, inl, inr, Bool, true, false, List, [], ◌∷◌, ◌++◌, refl, sym, subst, ap, arith}
-use Rattle.std.specs.Prelude.{ℤ, ◌<ℤ◌, Contains, nat_lt}
+use Rattle.std.specs.Prelude.{ℤ, ◌+ℤ◌, ◌<ℤ◌, Contains, nat_lt}
 use Rattle.std.proofs.lemmas.Int.{ints}
 use Rattle.std.proofs.lemmas.List.Elements.{Contains-append_left, Contains-push}
 use Rattle.std.specs.declared.cmp.Ordering.{Ordering}
@@ -10,6 +10,7 @@ use Rattle.pg_table.specs.Space.{Meaning, Lawful, Better, Undercuts}
 use Rattle.pg_table.specs.Label.{IsLabel, BetterLabel, reached}
 use Rattle.pg_table.specs.Searching.{Pruned, Taken}
 use Rattle.pg_table.specs.Needless.{AreMarks, IsNeedless, IsOutdone, Known, MarksMore, is_spared}
+use Rattle.pg_table.specs.declared.step.Step.{Step}
 use Rattle.pg_table.specs.declared.table.Entry.{Entry}
 use Rattle.pg_table.proofs.Labels.{label_own}
 use Rattle.pg_table.proofs.Opening.{with_reach}
@@ -128,3 +129,13 @@ module _ {S M K : Type 0} (eq : K → K → Bool) (sp : Meaning S M K) (law : La
       either v c own (inl was) = known v c own (m.known v c own was)
       either v c own (inr here) = still y v c own (inr refl)
           (alike y.state v here.0) here.1
+
+  -- the same, where the label is made of a step
+  pub marks_step : (NoWorse : S → S → Type 0) → ((a b : S) → NoWorse a b → sp.no_worse a b ≡ true) →
+      (old new : S → ℤ → Bool) → AreMarks sp es P old → (last step : Step S M) → last ≡ step → (k : ℤ) →
+      y.state ≡ step.to → y.cost ≡ k +ℤ step.cost → MarksMore NoWorse old last.to (k +ℤ last.cost) new →
+      AreMarks sp es Q new
+  marks_step NoWorse alike old new m last step same k state cost more = marks_more NoWorse alike old new m
+      (subst (λ z. MarksMore NoWorse old z y.cost new) (sym state)
+      (subst (λ z. MarksMore NoWorse old step.to z new) (sym cost)
+      (subst (λ z. MarksMore NoWorse old z.to (k +ℤ z.cost) new) same more)))

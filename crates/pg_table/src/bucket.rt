@@ -75,6 +75,9 @@ impl<T, M> Bucket<T, M> {
         ensures items { self.old.items ≡ self.new.items ++ option_to_list result }
         ensures none { IfNone result (self.old.items ≡ []) }
     {
+        if self.others.is_empty() {
+            return self.last.take();
+        }
         let next = self.others.pop();
         mem::replace(&mut self.last, next)
     }
@@ -82,9 +85,14 @@ impl<T, M> Bucket<T, M> {
 
 impl<T: Drop, M: Drop> Bucket<T, M> {
     /// Puts a label at the end.
+    #[inline(always)]
     pub(crate) fn push(&mut self, label: Entry<T, M>) -> Result<(), AllocError>
         ensures { OnOk result (self.new.items ≡ self.old.items ++ label ∷ []) }
     {
+        if self.last.is_none() {
+            self.last = Some(label);
+            return Ok(());
+        }
         if let Some(other) = mem::replace(&mut self.last, Some(label)) {
             self.others.push(other)?;
         }
@@ -96,6 +104,10 @@ impl<T: Drop, M: Drop> Bucket<T, M> {
         requires { index < length self.old.items }
         ensures { (d : Entry T M) → self.new.items ≡ swap_remove self.old.items index d }
     {
+        if self.others.is_empty() {
+            self.last = None;
+            return;
+        }
         if let Some(last) = self.last.take() {
             if index < self.others.len() {
                 self.others[index] = last;
