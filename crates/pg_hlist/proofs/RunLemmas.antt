@@ -1,11 +1,9 @@
 -- Lines that are read one by one.
-use Rattle.std.proofs.Common.{◌≡◌, ℕ, List, [], ◌∷◌, refl, length}
+use Rattle.std.proofs.Common.{◌≡◌, ℕ, List, [], ◌∷◌, refl}
 use Rattle.std.specs.Prelude.{Result, Ok, Err, None}
 use Rattle.pg_showbox.specs.declared.kinds.ListKind.{ListKind}
 use Rattle.pg_showbox.specs.declared.kinds.ListKind.TheVariants.{NoListing, BadLine, UnknownNode, BadNumber, OutOfRange, Truncated, InfiniteShrink, RunningSize, NegativeSize, ChoiceShape, ChoiceInserts, Limit, Memory}
-use Rattle.pg_scan.specs.Lines.{Line, raw_lines, joined}
-use Rattle.pg_scan.proofs.LineLemmas.{no_line}
-use Rattle.pg_lemmas.proofs.Lists.{no_items}
+use Rattle.pg_scan.specs.Lines.{Line, joined}
 use Rattle.pg_showbox.specs.Reading.{OrMemory}
 use Rattle.pg_hlist.specs.declared.draft.Draft.{Draft}
 use Rattle.pg_hlist.specs.Reading.{Steps, line_read, run}

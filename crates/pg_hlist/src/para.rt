@@ -1,5 +1,5 @@
 //! Paragraphs as lists of items.
-ghost use Rattle.std.specs.Prelude.{◌≡◌, ◌≤◌, ◌<◌, ◌++◌, ◌∷◌, [], length, take, ◌-◌, OnOk, OnErr, IfOk};
+ghost use Rattle.std.specs.Prelude.{◌≡◌, ◌≤◌, ◌<◌, ◌++◌, ◌∷◌, [], length, OnOk, OnErr};
 ghost use Rattle.pg_hlist.specs.Items.{IsInRange, IsPara, extended, para_limit, with_line as longer_item};
 
 use crate::item::HItem;
@@ -7,43 +7,16 @@ use std::alloc::{AllocError, Global};
 use std::marker::Model;
 
 impl HItem {
-    /// The item with one more line behind its body.
-    pub fn with_line(self, line: &[u8]) -> Result<HItem, AllocError>
-        ensures { IfOk result (λ item. item ≡ longer_item line.now self) }
+    /// Puts one more line behind the body.
+    pub fn add_line(&mut self, line: &[u8]) -> Result<(), AllocError>
+        ensures ok { OnOk result (self.new ≡ longer_item line.now self.old) }
+        ensures err { OnErr result (self.new ≡ self.old) }
     {
         match self {
-            HItem::BoxItem {
-                width,
-                height,
-                depth,
-                body,
-            } => Ok(HItem::BoxItem {
-                width,
-                height,
-                depth,
-                body: body.with_line(line)?,
-            }),
-            HItem::Glue {
-                width,
-                stretch,
-                order,
-                shrink,
-                body,
-            } => Ok(HItem::Glue {
-                width,
-                stretch,
-                order,
-                shrink,
-                body: body.with_line(line)?,
-            }),
-            HItem::Kern { width, body } => Ok(HItem::Kern {
-                width,
-                body: body.with_line(line)?,
-            }),
-            HItem::Penalty { value, body } => Ok(HItem::Penalty {
-                value,
-                body: body.with_line(line)?,
-            }),
+            HItem::BoxItem { body, .. } => body.add_line(line),
+            HItem::Glue { body, .. } => body.add_line(line),
+            HItem::Kern { body, .. } => body.add_line(line),
+            HItem::Penalty { body, .. } => body.add_line(line),
         }
     }
 }
@@ -103,17 +76,16 @@ impl Para {
         Ok(())
     }
 
-    /// Puts one more line behind the body of the last item. After a refusal that item is gone.
+    /// Puts one more line behind the body of the last item.
     #[tactic(auto, using(crate::proofs::Growing::para_lemmas))]
     pub fn extend_last(&mut self, line: &[u8]) -> Result<(), AllocError>
         ensures ok { OnOk result (self.new ≡ extended line.now self.old) }
-        ensures err { OnErr result (self.new ≡ take (length self.old - 1) self.old) }
+        ensures err { OnErr result (self.new ≡ self.old) }
     {
-        if let Some(item) = self.items.pop() {
-            let longer = item.with_line(line)?;
-            self.items.push(longer)?;
-        }
-        Ok(())
+        let Some(item) = self.items.last_mut() else {
+            return Ok(());
+        };
+        item.add_line(line)
     }
 }
 

@@ -1,5 +1,5 @@
 //! The items of a paragraph that is set in a way.
-ghost use Rattle.std.specs.Prelude.{◌≡◌, ◌≤◌, ◌++◌, take, drop, IfOk, OnOk};
+ghost use Rattle.std.specs.Prelude.{◌≡◌, ◌≤◌, ◌++◌, ◌∷◌, [], ◌==◌, if◌then◌else◌, nat_lt, take, drop, IfOk, OnOk};
 ghost use Rattle.pg_list.specs.Ranges.{IsItemInRange};
 ghost use Rattle.pg_hlist.specs.Items.{IsPara};
 ghost use Rattle.law_lines.specs.Boxes.{line_box as line_box_of};
@@ -95,6 +95,22 @@ fn box_of(alloc: Global, rule: &LineRule, line: &[HItem]) -> Result<Item, AllocE
     line_box(alloc, rule, line)
 }
 
+// Adds the penalty behind a line, where so many lines follow it.
+fn push_penalty(
+    out: &mut Items,
+    alloc: Global,
+    is_first: bool,
+    left: usize,
+) -> Result<(), AllocError>
+    ensures { OnOk result (out.new ≡ out.old
+        ++ (if nat_lt 0 left then between_item (gap is_first (left == 1)) ∷ [] else [])) }
+{
+    if left > 0 {
+        out.push(penalty_of(alloc, gap_penalty(is_first, left == 1))?)?;
+    }
+    Ok(())
+}
+
 // Adds the box of a line, and where so many lines follow it, the penalty behind it.
 fn push_line(
     out: &mut Items,
@@ -109,9 +125,7 @@ fn push_line(
     ensures { OnOk result (out.new ≡ out.old ++ set_line rule.now line.now is_first left) }
 {
     out.push(box_of(alloc, rule, line)?)?;
-    if left > 0 {
-        out.push(penalty_of(alloc, gap_penalty(is_first, left == 1))?)?;
-    }
+    push_penalty(out, alloc, is_first, left)?;
     Ok(())
 }
 
