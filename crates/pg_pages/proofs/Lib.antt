@@ -1,7 +1,9 @@
 pub mod WorkedTexts
 pub mod Grown
 pub mod Numbers
+pub mod FirstLine
 pub mod Printed
+pub mod Sums
 pub mod GapLists
 pub mod Between
 pub mod Widths

@@ -1,6 +1,6 @@
 -- How the printer goes along items is what the definitions say.
 use Rattle.std.proofs.Common.{◌≡◌, ◌∙◌, refl, sym, ap, ℕ, zero, suc, ◌+◌, ◌≤◌, ◌-◌, arith, subst, get_or, append_assoc, List, [], ◌∷◌, ◌++◌, take, drop, map, length, Bool, true, false, Option, Some, None}
-use Rattle.std.specs.Prelude.{◌&&◌, ◌||◌, not, if◌then◌else◌}
+use Rattle.std.specs.Prelude.{◌&&◌, not, if◌then◌else◌}
 use Rattle.std.specs.List.{flat_map, prefix_len, range_with_len}
 use Rattle.std.specs.Borrow.{Bor}
 use Rattle.pg_glue.specs.declared.Sense.{Sense}
@@ -13,7 +13,7 @@ use Rattle.std.proofs.lemmas.List.Elements.{filter_map-append}
 use Rattle.pg_pages.specs.Bodies.{plain_text}
 use Rattle.pg_pages.specs.SetGlue.{elastic}
 use Rattle.pg_pages.specs.PageText.{inserted, inserted_body}
-use Rattle.pg_pages.specs.Printed.{box_on, front_of, kept_from}
+use Rattle.pg_pages.specs.Printed.{box_on, front_of}
 use Rattle.std.specs.Prelude.{ℤ, pos}
 use Rattle.std.proofs.lemmas.List.{map-append, take_all}
 use Rattle.pg_lemmas.proofs.Lists.{range_more}
@@ -21,22 +21,42 @@ use Rattle.pg_column.specs.Between.{behind}
 
 -- ---- items that are kept
 
-pub kept_all : (items : List Item) → kept_from true items ≡ items
-kept_all [] = refl
-kept_all (item ∷ items) = ap (λ (those : List Item). item ∷ those) (kept_all items)
+box_on_top : (d b : Bool) (item : Item) (items : List Item) → b ≡ true →
+    item ∷ items ≡ (if b then item ∷ items else (if d then trimmed items else item ∷ trimmed items))
+box_on_top d true item items e = refl
+box_on_top d false item items e = absurd cc
 
-kept_step : (b d : Bool) (item : Item) (items : List Item) → kept_from true items ≡ items →
-    kept_from false items ≡ trimmed items →
-    (if b || not d then item ∷ [] else []) ++ kept_from b items
+solid_kept : (d b : Bool) (item : Item) (items : List Item) → b ≡ false →
+    (if d then [] else item ∷ []) ++ trimmed items
     ≡ (if b then item ∷ items else (if d then trimmed items else item ∷ trimmed items))
-kept_step true d item items all same = ap (λ (those : List Item). item ∷ those) all
-kept_step false true item items all same = same
-kept_step false false item items all same = ap (λ (those : List Item). item ∷ those) same
+solid_kept d true item items e = absurd cc
+solid_kept true false item items e = refl
+solid_kept false false item items e = refl
 
-pub kept_trimmed : (items : List Item) → kept_from false items ≡ trimmed items
-kept_trimmed [] = refl
-kept_trimmed (item ∷ items) =
-    kept_step (is_box item) (is_discardable item) item items (kept_all items) (kept_trimmed items)
+-- from a box on all are kept
+pub trimmed_box : (rest : List (Bor Item)) (x d : Bor Item) → 1 ≤ length rest → x ≡ get_or rest 0 d →
+    is_box x.now ≡ true → behind rest ≡ trimmed (behind rest)
+trimmed_box [] x d some is box = absurd (omega (arith, some))
+trimmed_box (y ∷ rest) x d some is box = box_on_top (is_discardable y.now) (is_box y.now) y.now (behind rest)
+    (subst (λ (z : Bor Item). is_box z.now ≡ true) is box)
+
+-- before it an item is kept that is not discardable
+pub trimmed_front : (rest : List (Bor Item)) (x d : Bor Item) (old new whole : List Item) → 1 ≤ length rest →
+    x ≡ get_or rest 0 d → is_box x.now ≡ false →
+    new ≡ old ++ (if is_discardable x.now then [] else x.now ∷ []) → old ++ trimmed (behind rest) ≡ whole →
+    new ++ trimmed (behind (take (length rest - 1) (drop 1 rest))) ≡ whole
+trimmed_front [] x d old new whole some is other more was = absurd (omega (arith, some))
+trimmed_front (y ∷ rest) x d old new whole some is other more was =
+    let all : take (length (y ∷ rest) - 1) rest ≡ rest = take_all (length (y ∷ rest) - 1) rest (omega arith) in
+    let none : is_box y.now ≡ false = subst (λ (z : Bor Item). is_box z.now ≡ false) is other in
+    let same : new ≡ old ++ (if is_discardable y.now then [] else y.now ∷ []) =
+    subst (λ (z : Bor Item). new ≡ old ++ (if is_discardable z.now then [] else z.now ∷ [])) is more in
+    ap (λ (those : List (Bor Item)). new ++ trimmed (behind those)) all
+    ∙ ap (λ (those : List Item). those ++ trimmed (behind rest)) same
+    ∙ append_assoc old (if is_discardable y.now then [] else y.now ∷ []) (trimmed (behind rest))
+    ∙ ap (λ (those : List Item). old ++ those) (solid_kept (is_discardable y.now) (is_box y.now) y.now (behind rest)
+    none)
+    ∙ was
 
 -- ---- what is behind references
 

@@ -1,7 +1,7 @@
 -- A column of text that may be printed: its numbers, its items and its text.
-use Rattle.std.proofs.Common.{◌≡◌, refl, sym, ap, ◌∙◌, subst, ℕ, suc, ◌+◌, ◌*◌, ◌≤◌, ◌<◌, ◌^◌, arith, List, [], ◌∷◌, ◌++◌, map, take, length, Bool, true, false, Option, Some, None}
-use Rattle.std.specs.Prelude.{◌==◌, ◌&&◌, ◌||◌, not, if◌then◌else◌, int_lt, int_le, is_none, nat_abs, ℤ, pos, ◌+ℤ◌, ◌-ℤ◌, ◌≤ℤ◌, ◌<ℤ◌, Result, Ok, Err, codes, decimal}
-use Rattle.std.specs.List.{AllByRecursion, flat_map, range_with_len}
+use Rattle.std.proofs.Common.{◌≡◌, refl, sym, ap, ◌∙◌, subst, ℕ, zero, suc, ◌+◌, ◌*◌, ◌≤◌, ◌<◌, ◌^◌, arith, List, [], ◌∷◌, ◌++◌, map, take, length, Bool, true, false, Option, Some, None}
+use Rattle.std.specs.Prelude.{◌==◌, ◌&&◌, ◌||◌, not, if◌then◌else◌, int_lt, int_le, is_none, is_some, nat_abs, ℤ, pos, ◌+ℤ◌, ◌-ℤ◌, ◌≤ℤ◌, ◌<ℤ◌, codes, decimal}
+use Rattle.std.specs.List.{AllByRecursion, flat_map, list_any, range_with_len}
 use Rattle.std.specs.Option.{option_map_or}
 use Rattle.std.proofs.lemmas.Bool.{eqb-true}
 use Rattle.std.proofs.lemmas.Int.{ints}
@@ -24,9 +24,7 @@ use Rattle.pg_rules.specs.ColumnRules.{column_variants, does_fit, segment, talle
 use Rattle.pg_rules.specs.Floats.{entry, float_numbers, gap_shrink, plus_counts, sizes_of}
 use Rattle.pg_rules.specs.Follow.{KeepsColumnRules}
 use Rattle.pg_rules.specs.Room.{ColumnContext, Document, areas_give, before_bottom, class_give, class_notes, flat_items_of, is_text, items_of, give, notes, room, size_of, skips_give}
-use Rattle.law_columns.proofs.Faults.{none_or, none_unless}
 use Rattle.law_columns.proofs.Areas.{IsSize, sizes_range}
-use Rattle.pg_column.specs.Judged.{Judges, text_fault}
 use Rattle.law_columns.proofs.Gives.{shrink_part}
 use Rattle.pg_list.specs.Badness.{is_over}
 use Rattle.pg_column.specs.Numbers.{AreNumbers, IsRoom, text_room}
@@ -34,7 +32,7 @@ use Rattle.pg_style.specs.declared.style.Gap.{Gap}
 use Rattle.pg_column.specs.declared.cost.TextCost.{TextCost}
 use Rattle.pg_column.proofs.Passing.{InRange, at_ranges}
 use Rattle.pg_column.proofs.Spans.{ahead_few}
-use Rattle.pg_lemmas.proofs.Bools.{both_of, if_false}
+use Rattle.pg_lemmas.proofs.Bools.{both_of, if_false, if_true}
 use Rattle.pg_lemmas.proofs.Lists.{all_take}
 use Rattle.pg_pages.specs.Gaps.{gaps_above, note_gaps, shows_gaps}
 use Rattle.pg_pages.specs.PageText.{area, bottom_area, column_body, column_line, float_column, float_bodies, floats_text, hanging_text, inserted, set_line, set_notes, skipped_notes, standing_floats, text_area, text_column, top_area}
@@ -150,14 +148,6 @@ read_same style column numbers spent bodies bodies' p before before' q below bel
 
 module _ (it : ColumnContext) (all : AllByRecursion IsBlock it.document.blocks) (style : IsStyle it.document.style)
     (rules : KeepsColumnRules it) where
-  pub fault_none : text_fault it ≡ None
-  fault_none =
-      none_or _ _ (none_unless _ _ rules.well_formed)
-      (none_or _ _ (none_unless _ _ rules.tolerable)
-      (none_or _ _ (none_unless _ _ rules.passes)
-      (none_or _ _ (none_unless _ _ rules.room)
-      (none_or _ _ (none_unless _ _ rules.note_limits) (none_unless _ _ rules.looseness)))))
-
   abbrev Fitting : ℕ → Bool
   Fitting n = (fronts (flat_items_of it) n == length it.column.picks)
       && (length (column_variants it) == length it.column.picks)
@@ -176,21 +166,47 @@ module _ (it : ColumnContext) (all : AllByRecursion IsBlock it.document.blocks) 
     named = eqb-true _ _ (both_of (fronts (flat_items_of it) n == length it.column.picks) _
         (sym (ap (λ (o : Option ℕ). option_map_or Fitting o false) size) ∙ rules.fits)).1
 
+    -- the items of its text
+    pub text_items : items_to (is_same_place it.column.to (end_of it.document.blocks)) it.column.to (flat_items_of it)
+        ≡ take n (items_of it)
+    text_items = items_are it.document.blocks it.column.to (flat_items_of it) n size
+
+    pub text_range : AllByRecursion IsItemInRange (take n (items_of it))
+    text_range = all_take IsItemInRange n (items_of it)
+        (items_range (flat_items_of it) (at_ranges it.document.blocks it.column.from it.column.picks all))
+
+    pub text_few : item_count it.document.blocks ≤ 2 ^ 20 → length (take n (items_of it)) ≤ 2 ^ 20
+    text_few few =
+        let b = length-take n (items_of it) in
+        let c = map_length (flat_items_of it) in
+        let d = ahead_few it.document.blocks it.column.from it.column.picks in
+        omega (arith, b, c, d, few)
+
     pub segment_is : trimmed (items_to (is_same_place it.column.to (end_of it.document.blocks)) it.column.to
         (flat_items_of it)) ≡ segment it n
-    segment_is = ap trimmed (items_are it.document.blocks it.column.to (flat_items_of it) n size)
+    segment_is = ap trimmed text_items
+
+    -- a text ends behind a box, at a break
+    pub text_ends : is_text it ≡ true → (1 ≤ n) × (is_some (break_penalty (items_of it) n) ≡ true)
+    text_ends text =
+        let two = both_of (list_any is_box (take n (items_of it))) (is_some (break_penalty (items_of it) n))
+        (sym (ap (λ (o : Option ℕ). option_map_or (λ (n : ℕ). list_any is_box (take n (items_of it))
+        && is_some (break_penalty (items_of it) n)) o false) size)
+        ∙ (sym (if_true (is_text it) _ _ text) ∙ rules.well_formed)) in
+        (some n two.0, two.1)
+      where
+        some : (k : ℕ) → list_any is_box (take k (items_of it)) ≡ true → 1 ≤ k
+        some zero e = absurd cc
+        some (suc k) e = omega arith
 
     pub segment_range : AllByRecursion IsItemInRange (segment it n)
-    segment_range = trimmed_range (take n (items_of it)) (all_take IsItemInRange n (items_of it)
-        (items_range (flat_items_of it) (at_ranges it.document.blocks it.column.from it.column.picks all)))
+    segment_range = trimmed_range (take n (items_of it)) text_range
 
     pub segment_few : item_count it.document.blocks ≤ 2 ^ 20 → length (segment it n) ≤ 2 ^ 20
     segment_few few =
         let a = trimmed_few (take n (items_of it)) in
-        let b = length-take n (items_of it) in
-        let c = map_length (flat_items_of it) in
-        let d = ahead_few it.document.blocks it.column.from it.column.picks in
-        omega (arith, a, b, c, d, few)
+        let b = text_few few in
+        omega (arith, a, b)
 
     pub text_fits : is_text it ≡ true → text_is_over it n ≡ false
     text_fits text = by (is_text it) (size_of it) text size rules.tolerable
@@ -328,19 +344,6 @@ bodies_long doc f bodies are = sym (lent_map f bodies) ∙ ap length are
 pub summed : (doc : Document) (a b : List ℕ) (n : ℕ) → n ≡ length (float_numbers doc.style) →
     map (λ (slot : ℕ). entry a slot + entry b slot) (range_with_len 0 n) ≡ plus_counts doc.style a b
 summed doc a b n e = ap (λ (k : ℕ). map (λ (slot : ℕ). entry a slot + entry b slot) (range_with_len 0 k)) e
-
--- ---- no fault
-
-pub judged : (it : ColumnContext) (r : Result TextCost ℕ) → text_fault it ≡ None → Judges it r → (rule : ℕ) →
-    r ≡ Err rule → ⊥
-judged it (Ok numbers) none is rule e = cc
-judged it (Err other) none is rule e = let k : None ≡ Some other = sym none ∙ is in absurd cc
-
-pub numbered : (it : ColumnContext) (r : Result TextCost ℕ) (numbers : TextCost) → Judges it r → r ≡ Ok numbers →
-    (n : ℕ) → size_of it ≡ Some n → AreNumbers it n numbers
-numbered it (Ok other) numbers is e n size =
-    let same : other ≡ numbers = cc in subst (AreNumbers it n) same (is.1 n size)
-numbered it (Err rule) numbers is e n size = absurd cc
 
 -- ---- with text or without
 

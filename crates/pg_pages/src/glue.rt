@@ -98,11 +98,11 @@ fn widths_in(
     ensures { IfOk result (λ widths. widths.items ≡ set_widths_of
         (glue_between sense glues.now.above.now (behind glues.now.items.now) glues.now.below.now) excess sense) }
 {
-    let mut list = Vec::new(alloc);
+    let mut list = Vec::with_capacity(alloc, glues.items.len())?;
     push_gaps(sense, glues.above, &mut list)?;
     push_items(sense, glues.items, &mut list)?;
     push_gaps(sense, glues.below, &mut list)?;
-    let mut widths = Vec::new(alloc);
+    let mut widths = Vec::with_capacity(alloc, list.len())?;
     set_widths(list.as_slice(), excess, sense, &mut widths)?;
     Ok(widths)
 }
@@ -155,7 +155,7 @@ fn own_widths(alloc: Global, glues: &Glues<'_, '_>) -> Result<Vec<i128>, AllocEr
     ensures { IfOk result (λ widths. widths.items ≡ own_sizes_of glues.now.above.now
         ++ flat_map own_width (behind glues.now.items.now) ++ own_sizes_of glues.now.below.now) }
 {
-    let mut widths = Vec::new(alloc);
+    let mut widths = Vec::with_capacity(alloc, glues.items.len())?;
     push_sizes(glues.above, &mut widths)?;
     push_widths(glues.items, &mut widths)?;
     push_sizes(glues.below, &mut widths)?;

@@ -9,9 +9,11 @@
 mod areas;
 mod bodies;
 mod column;
+mod column_numbers;
 mod gaps;
 mod glue;
 mod lines;
+mod matter;
 mod number_line;
 mod parts;
 mod seats;

@@ -13,10 +13,11 @@ ghost use Rattle.pg_pages.specs.Printed.{FitTogether, lent, wide_by, wide_set};
 ghost use Rattle.pg_pages.specs.Sheets.{AreFilled, MayFrom, MaySheet, MaySheets, columns_from, is_any, placed_behind, placed_from, sheet_behind, sheet_text, sheets_text};
 
 use crate::areas::{dealt_bodies, float_bodies};
-use crate::column::{print_column, print_hanging};
+use crate::column::{Dealt, print_column, print_hanging};
 use crate::gaps::hung_gaps;
 use crate::glue::own_sizes;
 use crate::lines::{print_head, print_side_line};
+use crate::matter::Matter;
 use crate::seats::{Seat, added, wide_area};
 use pg_column::blocks_of;
 use pg_floats::FloatList;
@@ -58,29 +59,28 @@ fn placed_after(
 
 // The columns of a page, one behind the other; the seat is then behind them.
 fn print_seats(
-    galley: &Galley,
-    style: &Style,
-    floats: &FloatList,
-    bodies: &[Vec<&[u8]>],
+    matter: &Matter<'_, '_>,
     seat: &mut Seat,
     columns: &[Column],
     out: &mut Vec<u8>,
 ) -> Result<(), AllocError>
-    requires floats { AreFloats galley.now.blocks style.now floats.now }
-    requires bodies { lent bodies.now ≡ bodies_in (document galley.now style.now) }
-    requires may { MayFrom (document galley.now style.now) seat.old.run seat.old.wide seat.old.before columns.now }
+    requires floats { AreFloats matter.now.galley.now.blocks matter.now.style.now matter.now.floats.now }
+    requires bodies { lent matter.now.bodies.now ≡ bodies_in (document matter.now.galley.now matter.now.style.now) }
+    requires may { MayFrom (document matter.now.galley.now matter.now.style.now) seat.old.run seat.old.wide
+        seat.old.before columns.now }
     ensures ok { OnOk result (out.new.items ≡ out.old.items
-        ++ columns_from (document galley.now style.now) seat.old.run seat.old.wide 1 seat.old.before columns.now) }
-    ensures placed { OnOk result (seat.new.before ≡ placed_from style.now seat.old.before columns.now) }
+        ++ columns_from (document matter.now.galley.now matter.now.style.now) seat.old.run seat.old.wide 1
+        seat.old.before columns.now) }
+    ensures placed { OnOk result (seat.new.before ≡ placed_from matter.now.style.now seat.old.before columns.now) }
     ensures grows { Grows out.old.items out.new.items }
 {
     let alloc = *out.allocator();
-    let slots = bodies.len();
+    let slots = matter.bodies.len();
     let mut number: u128 = 1;
     let mut rest = columns;
     'each: while let [column, after @ ..] = rest {
-        print_column(galley, style, floats, bodies, seat, number, column, out)?;
-        seat.before = placed_after(alloc, style, slots, seat.before.as_slice(), column)?;
+        print_column(matter, seat, number, column, out)?;
+        seat.before = placed_after(alloc, matter.style, slots, seat.before.as_slice(), column)?;
         number += 1;
         rest = after;
     }
@@ -129,16 +129,12 @@ fn print_wide_set(
         ≡ out.old.items ++ wide_set style.now (lent bodies.now) placed.now counts.now widths.now) }
     ensures grows { Grows out.old.items out.new.items }
 {
-    print_hanging(
-        b"wide",
-        style,
-        &style.wide,
+    let dealt = Dealt {
         bodies,
-        placed,
+        before: placed,
         counts,
-        widths,
-        out,
-    )
+    };
+    print_hanging(b"wide", style, &style.wide, &dealt, widths, out)
 }
 
 // The wide area of a page, its gaps as they are.
@@ -182,84 +178,76 @@ fn print_page_head(
 
 // Where the first column of a page stands.
 fn first_seat(
-    galley: &Galley,
-    style: &Style,
-    floats: &FloatList,
-    slots: usize,
+    matter: &Matter<'_, '_>,
+    alloc: Global,
     placed: &Counts,
     page: &Page,
-    alloc: Global,
 ) -> Result<Seat, AllocError>
-    requires floats { AreFloats galley.now.blocks style.now floats.now }
-    requires slots { slots ≡ length (float_numbers style.now) }
-    requires wide { is_area_allowed style.now takes_wide style.now.wide.count page.now.wide ≡ true }
+    requires floats { AreFloats matter.now.galley.now.blocks matter.now.style.now matter.now.floats.now }
+    requires bodies { lent matter.now.bodies.now ≡ bodies_in (document matter.now.galley.now matter.now.style.now) }
+    requires wide { is_area_allowed matter.now.style.now takes_wide matter.now.style.now.wide.count page.now.wide
+        ≡ true }
     requires fit { FitTogether placed.now page.now.wide }
     ensures run { IfOk result (λ seat. seat.run ≡ page.now.run) }
     ensures wide { IfOk result (λ seat. seat.wide
-        ≡ made_wide_of (document galley.now style.now) placed.now page.now.wide) }
-    ensures before { IfOk result (λ seat. seat.before ≡ plus_counts style.now placed.now page.now.wide) }
+        ≡ made_wide_of (document matter.now.galley.now matter.now.style.now) placed.now page.now.wide) }
+    ensures before { IfOk result (λ seat. seat.before ≡ plus_counts matter.now.style.now placed.now page.now.wide) }
 {
-    // the clauses alone speak of the galley
-    let _ = galley;
+    let slots = matter.bodies.len();
     let before = added(alloc, slots, placed.as_slice(), page.wide.as_slice())?;
     Ok(Seat {
         run: page.run,
-        wide: made_wide(floats, style, placed, &page.wide),
+        wide: made_wide(matter.floats, matter.style, placed, &page.wide),
         before,
     })
 }
 
 // A page of this number, behind so many placed floats; answers those placed behind it.
 fn print_sheet(
-    galley: &Galley,
-    style: &Style,
-    floats: &FloatList,
-    bodies: &[Vec<&[u8]>],
+    matter: &Matter<'_, '_>,
     number: u128,
     placed: &Counts,
     page: &Page,
     out: &mut Vec<u8>,
 ) -> Result<Counts, AllocError>
-    requires floats { AreFloats galley.now.blocks style.now floats.now }
-    requires bodies { lent bodies.now ≡ bodies_in (document galley.now style.now) }
-    requires may { MaySheet (document galley.now style.now) placed.now page.now }
+    requires floats { AreFloats matter.now.galley.now.blocks matter.now.style.now matter.now.floats.now }
+    requires bodies { lent matter.now.bodies.now ≡ bodies_in (document matter.now.galley.now matter.now.style.now) }
+    requires may { MaySheet (document matter.now.galley.now matter.now.style.now) placed.now page.now }
     ensures ok { OnOk result (out.new.items ≡ out.old.items
-        ++ sheet_text (document galley.now style.now) number placed.now page.now) }
-    ensures placed { IfOk result (λ behind. behind ≡ sheet_behind style.now placed.now page.now) }
+        ++ sheet_text (document matter.now.galley.now matter.now.style.now) number placed.now page.now) }
+    ensures placed { IfOk result (λ behind. behind ≡ sheet_behind matter.now.style.now placed.now page.now) }
     ensures grows { Grows out.old.items out.new.items }
 {
     let alloc = *out.allocator();
-    let slots = bodies.len();
-    print_page_head(style, bodies, number, placed, page, out)?;
-    let mut seat = first_seat(galley, style, floats, slots, placed, page, alloc)?;
+    print_page_head(matter.style, matter.bodies, number, placed, page, out)?;
+    let mut seat = first_seat(matter, alloc, placed, page)?;
     let columns = page.columns.as_slice();
-    print_seats(galley, style, floats, bodies, &mut seat, columns, out)?;
+    print_seats(matter, &mut seat, columns, out)?;
     let Seat { before, .. } = seat;
     Ok(before)
 }
 
 // Pages one behind the other, from the first on.
 fn print_sheets(
-    galley: &Galley,
-    style: &Style,
-    floats: &FloatList,
-    bodies: &[Vec<&[u8]>],
+    matter: &Matter<'_, '_>,
     pages: &[Page],
     out: &mut Vec<u8>,
 ) -> Result<(), AllocError>
-    requires floats { AreFloats galley.now.blocks style.now floats.now }
-    requires bodies { lent bodies.now ≡ bodies_in (document galley.now style.now) }
-    requires may { MaySheets (document galley.now style.now) (placed_of style.now []) pages.now }
+    requires floats { AreFloats matter.now.galley.now.blocks matter.now.style.now matter.now.floats.now }
+    requires bodies { lent matter.now.bodies.now ≡ bodies_in (document matter.now.galley.now matter.now.style.now) }
+    requires may { MaySheets (document matter.now.galley.now matter.now.style.now) (placed_of matter.now.style.now [])
+        pages.now }
     ensures ok { OnOk result (out.new.items ≡ out.old.items
-        ++ sheets_text (document galley.now style.now) 1 (placed_of style.now []) pages.now) }
+        ++ sheets_text (document matter.now.galley.now matter.now.style.now) 1 (placed_of matter.now.style.now [])
+        pages.now) }
     ensures grows { Grows out.old.items out.new.items }
 {
     let alloc = *out.allocator();
-    let mut placed = added(alloc, bodies.len(), &[], &[])?;
+    let mut placed = added(alloc, matter.bodies.len(), &[], &[])?;
     let mut number: u128 = 1;
     let mut rest = pages;
     'each: while let [page, after @ ..] = rest {
-        placed = print_sheet(galley, style, floats, bodies, number, &placed, page, out)?;
+        placed = print_sheet(matter, number, &placed, page, out)?;
         number += 1;
         rest = after;
     }
@@ -286,7 +274,13 @@ fn print_whole(
     let pages = plan.pages.as_slice();
     let bodies = float_bodies(alloc, blocks_of(galley), style.classes.as_slice())?;
     print_head(pages.len() as u128, cost, i64::from(galley.width()), out)?;
-    print_sheets(galley, style, floats, bodies.as_slice(), pages, out)
+    let matter = Matter {
+        galley,
+        style,
+        floats,
+        bodies: bodies.as_slice(),
+    };
+    print_sheets(&matter, pages, out)
 }
 
 /// Appends the text of a legal pagination with its cost, in demerits; lengths are written in points.

@@ -9,20 +9,22 @@ use Rattle.pg_pages.proofs.column.print_float_column.Goals as goal
 
 pub print_top_area-requires : goal.print_top_area-requires
 print_top_area-requires c =
-    tops_printable c.args.style.now (lent c.args.bodies.now) c.args.placed.now.before.now c.args.placed.now.below.now
+    tops_printable c.args.style.now (lent c.args.placed.now.bodies.now) c.args.placed.now.before.now
+    c.args.placed.now.below.now
     c.args.column.now c.stays_in_range.ensures c.as_slice-3.result.now (c.as_slice-3.ensures.value ∙ c.in_ok-top.ensures
     ∙ ap own_sizes (c.as_slice.ensures.value ∙ c.in_ok-above.ensures))
 
 pub print_bottom_area-requires : goal.print_bottom_area-requires
 print_bottom_area-requires c =
-    bottoms_printable c.args.style.now (lent c.args.bodies.now) c.args.placed.now.before.now c.args.placed.now.below.now
+    bottoms_printable c.args.style.now (lent c.args.placed.now.bodies.now) c.args.placed.now.before.now
+    c.args.placed.now.below.now
     c.args.column.now c.stays_in_range.ensures c.as_slice-4.result.now (c.as_slice-4.ensures.value
     ∙ c.in_ok-bottom.ensures ∙ ap own_sizes (c.as_slice-2.ensures.value ∙ c.in_ok-below.ensures))
 
 pub returns-clause-ok : goal.returns-clause-ok
 returns-clause-ok c =
     on_ok c.print_bottom_area.result _ _
-    (λ printed. bare_from c.args.style.now (lent c.args.bodies.now) c.args.placed.now.before.now
+    (λ printed. bare_from c.args.style.now (lent c.args.placed.now.bodies.now) c.args.placed.now.before.now
     c.args.placed.now.below.now c.args.column.now c.args.out.now.items c.print_number_line.new.out.items
     c.print_top_area.new.out.items c.print_bottom_area.new.out.items c.as_slice-3.result.now c.as_slice-4.result.now
     (c.as_slice-3.ensures.value ∙ c.in_ok-top.ensures

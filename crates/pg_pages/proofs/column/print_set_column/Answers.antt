@@ -7,10 +7,11 @@ use Rattle.pg_pages.proofs.column.print_set_column.Goals as goal
 pub returns-clause-ok : goal.returns-clause-ok
 returns-clause-ok c =
     on_ok c.print_note_area.result _ _
-    (λ printed. set_from c.args.style.now (lent c.args.bodies.now) c.args.placed.now.before.now
-    c.args.placed.now.below.now c.args.column.now (behind c.args.items.now) c.args.numbers.now c.args.widths.now
+    (λ printed. set_from c.args.style.now (lent c.args.placed.now.bodies.now) c.args.placed.now.before.now
+    c.args.placed.now.below.now c.args.column.now (behind c.args.text.now.items.now) c.args.text.now.numbers.now
+    c.args.set.now.widths.now
     c.widths_from-inner.result.now c.widths_from-noted.result.now c.widths_from-below.result.now
-    c.args.spans.now.above c.args.spans.now.inside c.args.spans.now.noted c.widths_from-inner.ensures.value
+    c.args.set.now.above c.args.set.now.inside c.args.set.now.noted c.widths_from-inner.ensures.value
     c.widths_from-noted.ensures.value c.widths_from-below.ensures.value c.args.out.now.items
     c.print_numbers.new.out.items c.print_top_area.new.out.items c.print_text_area.new.out.items
     c.print_bottom_area.new.out.items c.print_note_area.new.out.items c.in_ok-print_numbers.ensures.ok

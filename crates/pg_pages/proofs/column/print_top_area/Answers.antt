@@ -8,7 +8,7 @@ use Rattle.pg_pages.proofs.column.print_top_area.Goals as goal
 pub returns-clause-ok : goal.returns-clause-ok
 returns-clause-ok c =
     on_same c.print_hanging.result c.args.out.now.items c.print_hanging.new.out.items _ _
-    (top_from c.args.style.now (lent c.args.bodies.now) c.args.column.now _ c.args.placed.now.before.now
+    (top_from c.args.style.now (lent c.args.placed.now.bodies.now) c.args.column.now _ c.args.placed.now.before.now
     c.as_slice.result.now c.args.widths.now (ap (λ (style : StyleValue). style.top) c.style.view_is) c.as_slice.ensures)
     c.print_hanging.ensures.ok
 

@@ -11,8 +11,10 @@ pub returns : goal.returns
 returns c =
     let all : vec_len c.in_ok-dealt.dealt ≡ length c.in_ok-dealt.dealt.items = c.in_ok-dealt.dealt.ok.0 in
     let long = c.len.ensures ∙ all ∙ sym (behind_long c.in_ok-dealt.dealt.items) ∙ ap length c.in_ok-dealt.ensures
-    ∙ ap (λ (counts : List ℕ). length (dealt_from 0 (lent c.args.bodies.now) c.args.placed.now.before.now counts))
+    ∙ ap (λ (counts : List ℕ). length (dealt_from 0 (lent c.args.placed.now.bodies.now) c.args.placed.now.before.now
+    counts))
     c.as_slice.ensures in
-    IfOk-weaker c.hung_gaps.result _ _ (λ gaps are. are ∙ hung_from c.args.style.now (lent c.args.bodies.now) _ _
+    IfOk-weaker c.hung_gaps.result _ _ (λ gaps are. are
+    ∙ hung_from c.args.style.now (lent c.args.placed.now.bodies.now) _ _
     c.len.result _
     (ap (λ (style : StyleValue). style.top) c.style.view_is) long) c.hung_gaps.ensures

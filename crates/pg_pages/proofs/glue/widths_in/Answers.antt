@@ -8,7 +8,7 @@ pub set_widths-requires-clause-few : goal.set_widths-requires-clause-few
 set_widths-requires-clause-few c =
     let glues = c.args.glues.now in
     let whole = c.as_slice.ensures.value ∙ between_from c.args.sense glues.above.now (behind glues.items.now)
-    glues.below.now _ _ _ _ c.new-list.ensures.items c.in_ok-push_gaps.ensures c.in_ok-push_items.ensures
+    glues.below.now _ _ _ _ c.in_ok-list.ensures.items c.in_ok-push_gaps.ensures c.in_ok-push_items.ensures
     c.in_ok-push_gaps-2.ensures in
     let same = ap length whole in
     let few = between_few c.args.sense glues.above.now (behind glues.items.now) glues.below.now in

@@ -8,10 +8,13 @@ abbrev pub invariant-each : goal.invariant-each
 invariant-each l = record {
   run : l.seat.run ≡ l.fn.seat.run;
   wide : l.seat.wide ≡ l.fn.seat.wide;
-  text : l.out.items ++ columns_from (document l.galley l.style) l.fn.seat.run l.fn.seat.wide l.number l.seat.before l.rest
-      ≡ l.fn.out.items ++ columns_from (document l.galley l.style) l.fn.seat.run l.fn.seat.wide 1 l.fn.seat.before l.columns;
-  placed : placed_from l.style l.seat.before l.rest ≡ placed_from l.style l.fn.seat.before l.columns;
-  may : MayFrom (document l.galley l.style) l.fn.seat.run l.fn.seat.wide l.seat.before l.rest;
+  text : l.out.items ++ columns_from (document l.matter.galley.now l.matter.style.now) l.fn.seat.run l.fn.seat.wide
+      l.number l.seat.before l.rest
+      ≡ l.fn.out.items ++ columns_from (document l.matter.galley.now l.matter.style.now) l.fn.seat.run l.fn.seat.wide
+      1 l.fn.seat.before l.columns;
+  placed : placed_from l.matter.style.now l.seat.before l.rest
+      ≡ placed_from l.matter.style.now l.fn.seat.before l.columns;
+  may : MayFrom (document l.matter.galley.now l.matter.style.now) l.fn.seat.run l.fn.seat.wide l.seat.before l.rest;
   number : l.number + length l.rest ≡ 1 + length l.columns;
   grows : Grows l.fn.out.items l.out.items;
 }

@@ -7,9 +7,10 @@ use Rattle.pg_pages.proofs.sheets.print_sheets.Given as goal
 
 abbrev pub invariant-each : goal.invariant-each
 invariant-each l = record {
-  text : l.out.items ++ sheets_text (document l.galley l.style) l.number l.placed l.rest
-      ≡ l.fn.out.items ++ sheets_text (document l.galley l.style) 1 (placed_of l.style []) l.pages;
-  may : MaySheets (document l.galley l.style) l.placed l.rest;
+  text : l.out.items ++ sheets_text (document l.matter.galley.now l.matter.style.now) l.number l.placed l.rest
+      ≡ l.fn.out.items ++ sheets_text (document l.matter.galley.now l.matter.style.now) 1
+      (placed_of l.matter.style.now []) l.pages;
+  may : MaySheets (document l.matter.galley.now l.matter.style.now) l.placed l.rest;
   number : l.number + length l.rest ≡ 1 + length l.pages;
   grows : Grows l.fn.out.items l.out.items;
 }
