@@ -23,4 +23,4 @@ pub use laws::least_are_least;
 pub use number::{Number, value_of};
 pub use pairs::Pair;
 pub use tries::SEARCHES;
-pub use trying::{Tried, try_number, try_value};
+pub use trying::{Trial, Tried, try_number, try_value};

@@ -5,7 +5,7 @@ ghost use Rattle.pg_changes.specs.Numbers.{IsNamed, with_number as with_number_o
 
 use crate::change::{Change, with_number};
 use crate::number::{LENGTH, Number, far_of, number_at, value_of};
-use crate::trying::helps;
+use crate::trying::{Trial, helps};
 use pg_list::Galley;
 use pg_style::Style;
 use pg_table::Steps;
@@ -59,26 +59,22 @@ fn tried(number: Number, value: u32) -> Change
 
 // Two changes, if something is legal under the second in a style with the first.
 fn pair_in<L: Ledger>(
-    alloc: Global,
-    galley: &Galley,
-    style: &Style,
+    trial: &Trial,
     made: &Style,
     one: Change,
     other: Number,
     steps: &mut Steps<L>,
 ) -> Result<Option<Pair>, AllocError>
-    requires made { made.now ≡ with_number_of style.now one.number one.value }
-    requires one { IsNamed style.now one.number }
-    requires other { IsNamed style.now other }
-    ensures { IfOk result (λ told. IfSome told (HelpTogether galley.now style.now)) }
+    requires made { made.now ≡ with_number_of trial.now.style.now one.number one.value }
+    requires one { IsNamed trial.now.style.now one.number }
+    requires other { IsNamed trial.now.style.now other }
+    ensures { IfOk result (λ told. IfSome told (HelpTogether trial.now.galley.now trial.now.style.now)) }
 {
-    // the clause alone speaks of it
-    let _ = style;
     let far = far_of(made, other);
     if far > LENGTH {
         return Ok(None);
     }
-    match helps(alloc, galley, made, other, far, steps)? {
+    match helps(trial.alloc, trial.galley, made, other, far, steps)? {
         Some(is) => {
             if is {
                 Ok(Some(Pair {
@@ -95,25 +91,23 @@ fn pair_in<L: Ledger>(
 
 // Two changes of which the first is given, and the second is of a number behind a place.
 fn pair_behind<L: Ledger>(
-    alloc: Global,
-    galley: &Galley,
-    style: &Style,
+    trial: &Trial,
     made: &Style,
     one: Change,
     place: u8,
     left: u32,
     steps: &mut Steps<L>,
 ) -> Result<Paired, AllocError>
-    requires made { made.now ≡ with_number_of style.now one.number one.value }
-    requires one { IsNamed style.now one.number }
-    ensures { IfOk result (λ paired. IfSome paired.pair (HelpTogether galley.now style.now)) }
+    requires made { made.now ≡ with_number_of trial.now.style.now one.number one.value }
+    requires one { IsNamed trial.now.style.now one.number }
+    ensures { IfOk result (λ paired. IfSome paired.pair (HelpTogether trial.now.galley.now trial.now.style.now)) }
 {
     let mut left = left;
     'places: for next in 0..COUNT {
         if next > place && left > 0 {
-            if let Some(other) = number_of(style, next) {
+            if let Some(other) = number_of(trial.style, next) {
                 left -= 1;
-                let pair = pair_in(alloc, galley, style, made, one, other, steps)?;
+                let pair = pair_in(trial, made, one, other, steps)?;
                 if pair.is_some() {
                     return Ok(Paired { pair, left });
                 }
@@ -125,36 +119,25 @@ fn pair_behind<L: Ledger>(
 
 // Two changes of which the first is of the number at a place.
 fn pair_at<L: Ledger>(
-    alloc: Global,
-    galley: &Galley,
-    style: &Style,
+    trial: &Trial,
     place: u8,
     left: u32,
     steps: &mut Steps<L>,
 ) -> Result<Paired, AllocError>
-    ensures { IfOk result (λ paired. IfSome paired.pair (HelpTogether galley.now style.now)) }
+    ensures { IfOk result (λ paired. IfSome paired.pair (HelpTogether trial.now.galley.now trial.now.style.now)) }
 {
     let none = Paired { pair: None, left };
-    let Some(number) = number_of(style, place) else {
+    let Some(number) = number_of(trial.style, place) else {
         return Ok(none);
     };
-    let far = far_of(style, number);
-    if far > LENGTH || far == value_of(style, number) {
+    let far = far_of(trial.style, number);
+    if far > LENGTH || far == value_of(trial.style, number) {
         return Ok(none);
     }
-    let Some(made) = with_number(alloc, style, number, far) else {
+    let Some(made) = with_number(trial.alloc, trial.style, number, far) else {
         return Ok(none);
     };
-    pair_behind(
-        alloc,
-        galley,
-        style,
-        &made,
-        tried(number, far),
-        place,
-        left,
-        steps,
-    )
+    pair_behind(trial, &made, tried(number, far), place, left, steps)
 }
 
 /// Two changes that help together, each as far as it goes, if searches are left for them.
@@ -167,9 +150,14 @@ pub fn pair_of<L: Ledger>(
 ) -> Result<Option<Pair>, AllocError>
     ensures { IfOk result (λ told. IfSome told (HelpTogether galley.now style.now)) }
 {
+    let trial = Trial {
+        alloc,
+        galley,
+        style,
+    };
     let mut left = left;
     'places: for place in 0..COUNT {
-        let paired = pair_at(alloc, galley, style, place, left, steps)?;
+        let paired = pair_at(&trial, place, left, steps)?;
         if paired.pair.is_some() {
             return Ok(paired.pair);
         }

@@ -14,6 +14,14 @@ use pg_table::Steps;
 use std::alloc::{AllocError, Global};
 use std::sync::ledger::Ledger;
 
+/// A galley, and a style of which one number is changed.
+#[derive(Clone, Copy)]
+pub struct Trial<'a> {
+    pub alloc: Global,
+    pub galley: &'a Galley,
+    pub style: &'a Style,
+}
+
 /// What a search for a change of one number gave, and how many searches are left.
 #[derive(Clone, Copy)]
 pub struct Tried {
@@ -60,21 +68,19 @@ pub fn helps<L: Ledger>(
 // Of two values of a number, of which the one helps and the other does not, halves what lies between as long as searches
 // are left.
 fn halve<L: Ledger>(
-    alloc: Global,
-    galley: &Galley,
-    style: &Style,
+    trial: &Trial,
     number: Number,
     bad: u32,
     good: u32,
     left: u32,
     steps: &mut Steps<L>,
 ) -> Result<Tried, AllocError>
-    requires named { IsNamed style.now number }
+    requires named { IsNamed trial.now.style.now number }
     requires bad_few { bad ≤ 1073741823 }
     requires good_few { good ≤ 1073741823 }
-    requires none { NoneLegal galley.now (with_number_of style.now number bad) }
-    requires some { TellsValue galley.now style.now number good true }
-    ensures { IfOk result (λ tried. IfSome tried.change (Helps galley.now style.now)) }
+    requires none { NoneLegal trial.now.galley.now (with_number_of trial.now.style.now number bad) }
+    requires some { TellsValue trial.now.galley.now trial.now.style.now number good true }
+    ensures { IfOk result (λ tried. IfSome tried.change (Helps trial.now.galley.now trial.now.style.now)) }
 {
     let mut bad = bad;
     let mut good = good;
@@ -82,7 +88,14 @@ fn halve<L: Ledger>(
     'halves: while bad != step_back(number, good) && left > 0 {
         let middle = (bad + good) / 2;
         left -= 1;
-        match helps(alloc, galley, style, number, middle, steps)? {
+        match helps(
+            trial.alloc,
+            trial.galley,
+            trial.style,
+            number,
+            middle,
+            steps,
+        )? {
             Some(is) => {
                 if is {
                     good = middle;
@@ -105,25 +118,23 @@ fn halve<L: Ledger>(
 
 // The change of a number between the value that a style has and another.
 fn try_between<L: Ledger>(
-    alloc: Global,
-    galley: &Galley,
-    style: &Style,
+    trial: &Trial,
     number: Number,
     own: u32,
     far: u32,
     left: u32,
     steps: &mut Steps<L>,
 ) -> Result<Tried, AllocError>
-    requires named { IsNamed style.now number }
+    requires named { IsNamed trial.now.style.now number }
     requires own_few { own ≤ 1073741823 }
     requires far_few { far ≤ 1073741823 }
-    requires none { NoneLegal galley.now (with_number_of style.now number own) }
-    ensures { IfOk result (λ tried. IfSome tried.change (Helps galley.now style.now)) }
+    requires none { NoneLegal trial.now.galley.now (with_number_of trial.now.style.now number own) }
+    ensures { IfOk result (λ tried. IfSome tried.change (Helps trial.now.galley.now trial.now.style.now)) }
 {
-    match helps(alloc, galley, style, number, far, steps)? {
+    match helps(trial.alloc, trial.galley, trial.style, number, far, steps)? {
         Some(is) => {
             if is {
-                halve(alloc, galley, style, number, own, far, left, steps)
+                halve(trial, number, own, far, left, steps)
             } else {
                 Ok(Tried { change: None, left })
             }
@@ -153,29 +164,32 @@ pub fn try_number<L: Ledger>(
     if own == far || left == 0 || own > LENGTH || far > LENGTH {
         return Ok(Tried { change: None, left });
     }
-    try_between(alloc, galley, style, number, own, far, left - 1, steps)
+    let trial = Trial {
+        alloc,
+        galley,
+        style,
+    };
+    try_between(&trial, number, own, far, left - 1, steps)
 }
 
 /// A change of a number to a value, if something is legal under it.
 ///
 /// Condition: a limit names the class at its index.
 pub fn try_value<L: Ledger>(
-    alloc: Global,
-    galley: &Galley,
-    style: &Style,
+    trial: &Trial,
     number: Number,
     value: u32,
     left: u32,
     steps: &mut Steps<L>,
 ) -> Result<Tried, AllocError>
-    requires { IsNamed style.now number }
-    ensures { IfOk result (λ tried. IfSome tried.change (Helps galley.now style.now)) }
+    requires { IsNamed trial.now.style.now number }
+    ensures { IfOk result (λ tried. IfSome tried.change (Helps trial.now.galley.now trial.now.style.now)) }
 {
     if left == 0 || value > LENGTH {
         return Ok(Tried { change: None, left });
     }
     let left = left - 1;
-    match helps(alloc, galley, style, number, value, steps)? {
+    match helps(trial.alloc, trial.galley, trial.style, number, value, steps)? {
         Some(is) => {
             if is {
                 Ok(Tried {

@@ -19,7 +19,7 @@ use Rattle.pg_column.specs.Fits.{does_fit_from}
 use Rattle.pg_floats.specs.FloatsValue.{ClassFloatsValue}
 use Rattle.law_columns.proofs.Faults.{kept, none_or, none_unless}
 use Rattle.pg_lemmas.proofs.Bools.{if_false, if_true, not_both}
-use Rattle.pg_judge.specs.Added.{added_by}
+use Rattle.pg_judge.specs.Added.{added_by, calls_test, counts_test, deals_test, waits_price}
 use Rattle.pg_floats.specs.Counts.{capped, capped_sum}
 use Rattle.pg_floats.specs.Given.{IsListOf, IsWideHeight}
 use Rattle.pg_judge.specs.Moves.{fitness_cost, page_ends}
@@ -69,26 +69,6 @@ priced_by doc {turns} {ends} {p} {a} {q} {b} {n} {k} d e f g =
     ∙ (ap (λ (xs : List ℕ). prices_below (slot_price doc ends q xs) n) f
     ∙ ap (prices_below (slot_price doc ends q b)) g))
 
--- what is asked of the floats of a column
-module _ (galley : GalleyValue) (style : StyleValue) (m : PageMove) (it : Progress) (counted : Counted) (seat : Seat) where
-  abbrev pub counts_test : Bool
-  counts_test = ((length m.column.top == it.slots) && (length m.column.bottom == it.slots)
-      && seat.is_top_allowed && seat.is_bottom_allowed)
-      && ((length m.wide == length (float_numbers style)) && (if it.column == 1
-      then is_area_allowed style takes_wide style.wide.count m.wide else total_count m.wide == 0))
-
-  abbrev pub deals_test : Bool
-  deals_test = has_all (floats galley.blocks style) it.placed m.wide
-      && (has_all (floats galley.blocks style) counted.before m.column.top
-      && has_all (floats galley.blocks style) counted.below m.column.bottom)
-
-  abbrev pub calls_test : Bool
-  calls_test = list_all (is_slot_called (document galley style) m.column.to it.placed counted.after)
-      (range_with_len 0 it.slots)
-
-  abbrev pub price_by : List Place → Option ℕ
-  price_by turns = prices_below (slot_price (document galley style) turns it.placed counted.after) it.slots
-
 module _ (galley : GalleyValue) (style : StyleValue) (list : List ClassFloatsValue)
     (given : IsListOf galley.blocks style list) where
   abbrev pub doc : Document
@@ -123,7 +103,7 @@ module _ (galley : GalleyValue) (style : StyleValue) (list : List ClassFloatsVal
           ≡ has_wide_counts doc (next_column style ms) m
       wide_are = rw going.column refl
 
-      deals_are : deals_test galley style m it counted seat ≡ deals_floats doc (placed_of style ms) m (context doc m ms)
+      deals_are : deals_test doc it m counted ≡ deals_floats doc (placed_of style ms) m (context doc m ms)
       deals_are = and_all (dealt_by (floats galley.blocks style) the_few (placed_of style ms) it.placed m.wide going.placed)
           (dealt_by (floats galley.blocks style) the_few (with_wide style (placed_of style ms) m) counted.before
           m.column.top are.before)
@@ -131,12 +111,12 @@ module _ (galley : GalleyValue) (style : StyleValue) (list : List ClassFloatsVal
           (plus_counts style (with_wide style (placed_of style ms) m) m.column.top) counted.below m.column.bottom
           are.below)
 
-      pub added_move : AreAdded doc given.floats.shape the_few m ms (added_by (counts_test galley style m it counted seat)
-          (deals_test galley style m it counted seat) (calls_test galley style m it counted seat)
-          (price_by galley style m it counted seat (reverse it.turns.items)))
-      added_move = added_is doc given.floats.shape the_few m ms (counts_test galley style m it counted seat)
-          (deals_test galley style m it counted seat) (calls_test galley style m it counted seat)
-          (price_by galley style m it counted seat (reverse it.turns.items))
+      pub added_move : AreAdded doc given.floats.shape the_few m ms (added_by (counts_test style it m seat)
+          (deals_test doc it m counted) (calls_test doc it m counted)
+          (waits_price doc it counted))
+      added_move = added_is doc given.floats.shape the_few m ms (counts_test style it m seat)
+          (deals_test doc it m counted) (calls_test doc it m counted)
+          (waits_price doc it counted)
           (and_both areas_are wide_are)
           deals_are
           (λ d. called_by doc m.column.to going.placed are.after keeps.slots

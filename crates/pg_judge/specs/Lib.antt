@@ -1,4 +1,6 @@
 pub mod Added
+pub mod Barriers
+pub mod Bases
 pub mod Judged
 pub mod Moves
 pub mod Picks

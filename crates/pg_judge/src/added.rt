@@ -1,21 +1,23 @@
 //! The rules on the floats that a column adds: counts of areas, every float once, callout before float, distance.
 ghost use Rattle.std.specs.Prelude.{◌≡◌, ◌≤◌, ◌<◌, ◌^◌, ◌==◌, ◌&&◌, if◌then◌else◌, List, ℕ, Ok, length, reverse, IfOk};
-ghost use Rattle.std.specs.List.{list_all, range_with_len};
 ghost use Rattle.pg_list.specs.declared.blocks.Block.{Block as ABlock};
 ghost use Rattle.pg_rules.specs.Floats.{float_numbers, floats, has_all, is_area_allowed, takes_wide, total_count};
 ghost use Rattle.pg_rules.specs.History.{made_wide};
 ghost use Rattle.pg_rules.specs.Legal.{document};
 ghost use Rattle.pg_rules.specs.Room.{checked_height};
 ghost use Rattle.pg_floats.specs.AreFloats.{AreFloats};
-ghost use Rattle.pg_judge.specs.Added.{added_by};
+ghost use Rattle.pg_judge.specs.Added.{added_by, calls_test, counts_test, deals_test, waits_price};
+ghost use Rattle.pg_judge.specs.Bases.{IsBasis, doc_of, move_of};
+ghost use Rattle.pg_judge.specs.Progress.{IsKept};
 ghost use Rattle.pg_floats.specs.Counts.{capped, capped_sum};
 ghost use Rattle.pg_floats.specs.Given.{IsListOf, IsWideHeight};
-ghost use Rattle.pg_judge.specs.Waits.{is_slot_called, prices_below, slot_price};
 
+use crate::basis::{Basis, NextColumn};
 use crate::floats::{are_called, float_demerits};
+use crate::progress::Progress;
 use crate::seat::Seat;
 use pg_floats::{FloatList, Spot, checked_area, count_floats, is_allowed, plus, total};
-use pg_list::{Galley, Place};
+use pg_list::Galley;
 use pg_plan::{Column, Counts};
 use pg_style::Style;
 use std::alloc::{AllocError, Global};
@@ -159,49 +161,43 @@ fn has_dealt(
 /// What the floats pay that a column adds, or the least rule on them that it breaks: 7 counts of areas, 8 every float
 /// once, 9 callout before float, 10 distance of a float.
 pub fn judge_added(
-    galley: &Galley,
-    style: &Style,
-    list: &FloatList,
-    slots: usize,
-    number: u8,
-    turns: &[Place],
-    placed: &Counts,
-    wide: &Counts,
-    column: &Column,
+    basis: &Basis,
+    progress: &Progress,
+    step: &NextColumn,
     counted: &Counted,
     seat: &Seat,
 ) -> Result<u64, u8>
-    requires list { IsListOf galley.now.blocks style.now list.now }
-    requires slots { slots ≡ length (float_numbers style.now) }
-    requires few { slots ≤ 8 }
-    ensures value { result ≡ added_by
-        ((((length column.now.top == slots) && (length column.now.bottom == slots)
-        && seat.now.is_top_allowed && seat.now.is_bottom_allowed))
-        && ((length wide.now == length (float_numbers style.now))
-        && (if number == 1 then is_area_allowed style.now takes_wide style.now.wide.count wide.now
-        else total_count wide.now == 0)))
-        (has_all (floats galley.now.blocks style.now) placed.now wide.now
-        && (has_all (floats galley.now.blocks style.now) counted.now.before column.now.top
-        && has_all (floats galley.now.blocks style.now) counted.now.below column.now.bottom))
-        (list_all (is_slot_called (document galley.now style.now) column.now.to placed.now counted.now.after)
-        (range_with_len 0 slots))
-        (prices_below (slot_price (document galley.now style.now) (reverse turns.now) placed.now counted.now.after)
-        slots) }
+    requires list { IsBasis basis.now }
+    requires kept { IsKept basis.now.style.now progress.now }
+    ensures { result ≡ added_by
+        (counts_test basis.now.style.now progress.now (move_of step.now) seat.now)
+        (deals_test (doc_of basis.now) progress.now (move_of step.now) counted.now)
+        (calls_test (doc_of basis.now) progress.now (move_of step.now) counted.now)
+        (waits_price (doc_of basis.now) progress.now counted.now) }
 {
+    let slots = progress.slots;
+    let column = step.column;
     let has_own = have_counts(slots, column, seat);
-    let has_wide = has_wide_counts(style, slots, wide.as_slice(), number);
+    let has_wide = has_wide_counts(basis.style, slots, step.wide.as_slice(), progress.column);
     if !(has_own & has_wide) {
         return Err(7);
     }
-    if !has_dealt(style, list, placed, wide, column, counted) {
+    if !has_dealt(
+        basis.style,
+        basis.list,
+        &progress.placed,
+        step.wide,
+        column,
+        counted,
+    ) {
         return Err(8);
     }
-    let before = placed.as_slice();
+    let before = progress.placed.as_slice();
     let after = counted.after.as_slice();
-    if !are_called(galley, style, list, slots, column.to, before, after) {
+    if !are_called(basis, slots, column.to, before, after) {
         return Err(9);
     }
-    match float_demerits(galley, style, list, slots, turns, before, after) {
+    match float_demerits(basis, slots, progress.turns.as_slice(), before, after) {
         Some(price) => Ok(price),
         None => Err(10),
     }

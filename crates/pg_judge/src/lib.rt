@@ -8,6 +8,7 @@
 
 mod added;
 mod barriers;
+mod basis;
 mod ending;
 mod floats;
 mod judged;
@@ -21,6 +22,7 @@ mod walk;
 mod whole;
 
 pub use added::Counted;
+pub use basis::{Basis, NextColumn};
 pub use floats::pages_waited;
 pub use moves::{MoveCost, fitness_price, run_price};
 pub use picks::pick_demerits;

@@ -13,12 +13,14 @@ ghost use Rattle.pg_rules.specs.Legal.{document, is_chained as is_chained_of};
 ghost use Rattle.pg_rules.specs.History.{placed_of, wide_of};
 ghost use Rattle.pg_column.specs.Fits.{does_fit_from};
 ghost use Rattle.pg_floats.specs.Given.{IsListOf, IsWideHeight};
+ghost use Rattle.pg_judge.specs.Bases.{IsBasis, doc_of, move_of};
 ghost use Rattle.pg_judge.specs.Moves.{JudgesMove, fitness_cost};
 ghost use Rattle.pg_judge.specs.Progress.{AreCounted, IsAdvanced, IsGoing, IsKept, IsProgress, broken_pair, is_lost as is_lost_of, the_move};
 ghost use Rattle.pg_judge.specs.Verdict.{lesser};
 
 use crate::added::{Counted, judge_added, wide_height};
 use crate::barriers::keeps_barriers;
+use crate::basis::{Basis, NextColumn};
 use crate::moves::{
     MoveCost, cost_with, decide, fitness_price, is_run_kept, judge_own, run_price, with_barriers,
 };
@@ -164,60 +166,29 @@ impl Progress {
     /// The least rule that the next column breaks, or what it costs.
     pub fn judge_move(
         &self,
-        galley: &Galley,
-        style: &Style,
-        list: &FloatList,
-        column: &Column,
-        run: u8,
-        wide: &Counts,
+        basis: &Basis,
+        step: &NextColumn,
         height: Option<i64>,
         counted: &Counted,
     ) -> Result<MoveCost, u8>
-        requires list { IsListOf galley.now.blocks style.now list.now }
-        requires kept { IsKept style.now self.now }
+        requires list { IsBasis basis.now }
+        requires kept { IsKept basis.now.style.now self.now }
         requires height { IsWideHeight height }
-        requires fits { does_fit_from galley.now.blocks column.now.from column.now.picks column.now.to ≡ true }
-        ensures { (ms : List APageMove) → IsGoing (document galley.now style.now) ms self.now →
-            height ≡ wide_of (document galley.now style.now) (the_move column.now run wide.now ∷ ms) →
-            AreCounted style.now (placed_of style.now ms) (the_move column.now run wide.now) counted.now →
-            is_chained_of (document galley.now style.now) (the_move column.now run wide.now) ms ≡ true →
-            JudgesMove (document galley.now style.now) (the_move column.now run wide.now) ms result }
+        requires fits { does_fit_from basis.now.galley.now.blocks step.now.column.now.from step.now.column.now.picks
+            step.now.column.now.to ≡ true }
+        ensures { (ms : List APageMove) → IsGoing (doc_of basis.now) ms self.now →
+            height ≡ wide_of (doc_of basis.now) (move_of step.now ∷ ms) →
+            AreCounted basis.now.style.now (placed_of basis.now.style.now ms) (move_of step.now) counted.now →
+            is_chained_of (doc_of basis.now) (move_of step.now) ms ≡ true →
+            JudgesMove (doc_of basis.now) (move_of step.now) ms result }
     {
-        let seat = seat_of(
-            galley,
-            style,
-            list,
-            self.slots,
-            column,
-            run,
-            height,
-            &counted.before,
-            &counted.below,
-        );
-        let own = judge_own(galley, style, self.slots, column, &seat);
-        let added = judge_added(
-            galley,
-            style,
-            list,
-            self.slots,
-            self.column,
-            self.turns.as_slice(),
-            &self.placed,
-            wide,
-            column,
-            counted,
-            &seat,
-        );
-        let most = decide(own, added, self.has_run(style, run));
-        let keeps = keeps_barriers(
-            galley,
-            style,
-            list,
-            self.slots,
-            column,
-            self.placed.as_slice(),
-            counted.after.as_slice(),
-        );
+        let seat = seat_of(basis, self.slots, step, height, counted);
+        let own = judge_own(basis.galley, basis.style, self.slots, step.column, &seat);
+        let added = judge_added(basis, self, step, counted, &seat);
+        let most = decide(own, added, self.has_run(basis.style, step.run));
+        let before = self.placed.as_slice();
+        let after = counted.after.as_slice();
+        let keeps = keeps_barriers(basis, self.slots, step.column, before, after);
         with_barriers(most, keeps)
     }
 }
@@ -248,36 +219,42 @@ fn push_turn(turns: &mut Vec<Place>, is_last: bool, to: Place) -> Result<(), All
     Ok(())
 }
 
+// What a column comes to: the fitness of the last text, the rule that is broken, and what is paid.
+#[derive(Clone, Copy)]
+struct Outcome {
+    fitness: Option<u8>,
+    rule: Option<u8>,
+    cost: i128,
+}
+
 impl Progress {
     // Goes on behind a column.
     fn advance(
         &mut self,
         style: &Style,
-        column: &Column,
-        run: u8,
+        step: &NextColumn,
         wide: Option<i64>,
         after: Counts,
-        fitness: Option<u8>,
-        rule: Option<u8>,
-        cost: i128,
+        outcome: Outcome,
     ) -> Result<(), AllocError>
         requires column { self.old.column ≤ style.now.columns }
         requires page { self.old.page ≤ self.old.number + 1 }
         requires number { self.old.number < 2 ^ 31 }
-        ensures { OnOk result (IsAdvanced style.now column.now run wide after fitness rule cost self.old self.new) }
+        ensures { OnOk result (IsAdvanced style.now step.now.column.now step.now.run wide after outcome.fitness
+            outcome.rule outcome.cost self.old self.new) }
     {
         let is_last = self.column == style.columns;
-        push_turn(&mut self.turns, is_last, column.to)?;
+        push_turn(&mut self.turns, is_last, step.column.to)?;
         self.column = column_after(self.column, style.columns);
         self.page = page_after(self.page, is_last);
-        self.at = column.to;
-        self.run = Some(run);
+        self.at = step.column.to;
+        self.run = Some(step.run);
         self.wide = wide;
         self.placed = after;
-        self.fitness = fitness;
+        self.fitness = outcome.fitness;
         self.number += 1;
-        self.broken = lesser_of(self.broken, rule, self.number);
-        self.cost = cost;
+        self.broken = lesser_of(self.broken, outcome.rule, self.number);
+        self.cost = outcome.cost;
         Ok(())
     }
 }
@@ -295,25 +272,20 @@ fn next_fitness(style: &Style, last: Option<u8>, own: Option<u8>) -> Option<u8>
 
 impl Progress {
     // What is paid with the next column.
-    fn paid_with(
-        &self,
-        galley: &Galley,
-        style: &Style,
-        column: &Column,
-        run: u8,
-        it: &MoveCost,
-    ) -> i128
+    fn paid_with(&self, basis: &Basis, step: &NextColumn, it: &MoveCost) -> i128
         requires paid { nat_abs self.now.cost < 2 ^ 110 }
         ensures value { result ≡ self.now.cost +ℤ ((it.now.own.demerits
             +ℤ whole_sum_by (λ (variant : AVariant). pos variant.demerits)
-            (picked_variants (blocks_at galley.now.blocks column.now.from) column.now.picks))
-            +ℤ (((if self.now.column == 1 then run_demerits style.now run else pos 0) +ℤ pos it.now.price)
-            +ℤ pos (fitness_cost style.now self.now.fitness it.now.own.fitness))) }
+            (picked_variants (blocks_at basis.now.galley.now.blocks step.now.column.now.from)
+            step.now.column.now.picks))
+            +ℤ (((if self.now.column == 1 then run_demerits basis.now.style.now step.now.run else pos 0)
+            +ℤ pos it.now.price)
+            +ℤ pos (fitness_cost basis.now.style.now self.now.fitness it.now.own.fitness))) }
         ensures size { nat_abs result ≤ nat_abs self.now.cost + 2 ^ 70 }
     {
-        let picks = pick_demerits(galley, column.from, column.picks.as_slice());
-        let run_price = run_price(style, self.column, run);
-        let fitness = fitness_price(style, self.fitness, it.own.fitness);
+        let picks = pick_demerits(basis.galley, step.column.from, step.column.picks.as_slice());
+        let run_price = run_price(basis.style, self.column, step.run);
+        let fitness = fitness_price(basis.style, self.fitness, it.own.fitness);
         cost_with(
             self.cost,
             it.own.demerits,
@@ -325,73 +297,66 @@ impl Progress {
     }
 
     // Goes on behind a column that goes on from the one before.
-    fn go_on(
-        &mut self,
-        alloc: Global,
-        galley: &Galley,
-        style: &Style,
-        list: &FloatList,
-        column: &Column,
-        run: u8,
-        wide: &Counts,
-    ) -> Result<(), AllocError>
-        requires list { IsListOf galley.now.blocks style.now list.now }
-        requires kept { IsKept style.now self.old }
+    fn go_on(&mut self, alloc: Global, basis: &Basis, step: &NextColumn) -> Result<(), AllocError>
+        requires list { IsBasis basis.now }
+        requires kept { IsKept basis.now.style.now self.old }
         requires number { self.old.number < 2 ^ 31 }
-        requires fits { does_fit_from galley.now.blocks column.now.from column.now.picks column.now.to ≡ true }
-        ensures kept { OnOk result (IsKept style.now self.new) }
+        requires fits { does_fit_from basis.now.galley.now.blocks step.now.column.now.from step.now.column.now.picks
+            step.now.column.now.to ≡ true }
+        ensures kept { OnOk result (IsKept basis.now.style.now self.new) }
         ensures number { OnOk result (self.new.number ≡ self.old.number + 1) }
-        ensures next { OnOk result ((ms : List APageMove) →
-            IsProgress (document galley.now style.now) ms self.old →
-            IsGoing (document galley.now style.now) ms self.old →
-            is_chained_of (document galley.now style.now) (the_move column.now run wide.now) ms ≡ true →
-            IsProgress (document galley.now style.now) (the_move column.now run wide.now ∷ ms) self.new) }
+        ensures next { OnOk result ((ms : List APageMove) → IsProgress (doc_of basis.now) ms self.old →
+            IsGoing (doc_of basis.now) ms self.old → is_chained_of (doc_of basis.now) (move_of step.now) ms ≡ true →
+            IsProgress (doc_of basis.now) (move_of step.now ∷ ms) self.new) }
     {
-        style.stays_in_range();
-        let counted = Counted::of(alloc, self.slots, &self.placed, wide, column)?;
-        let height = self.next_wide(galley, style, list, wide);
+        basis.style.stays_in_range();
+        let counted = Counted::of(alloc, self.slots, &self.placed, step.wide, step.column)?;
+        let height = self.next_wide(basis.galley, basis.style, basis.list, step.wide);
         let after = counted.after.copy()?;
-        match self.judge_move(galley, style, list, column, run, wide, height, &counted) {
+        match self.judge_move(basis, step, height, &counted) {
             Ok(it) => {
-                let fitness = next_fitness(style, self.fitness, it.own.fitness);
-                let cost = self.paid_with(galley, style, column, run, &it);
-                self.advance(style, column, run, height, after, fitness, None, cost)
+                let fitness = next_fitness(basis.style, self.fitness, it.own.fitness);
+                let cost = self.paid_with(basis, step, &it);
+                let outcome = Outcome {
+                    fitness,
+                    rule: None,
+                    cost,
+                };
+                self.advance(basis.style, step, height, after, outcome)
             }
             Err(rule) => {
-                let fitness = self.fitness;
-                let cost = self.cost;
-                self.advance(style, column, run, height, after, fitness, Some(rule), cost)
+                let outcome = Outcome {
+                    fitness: self.fitness,
+                    rule: Some(rule),
+                    cost: self.cost,
+                };
+                self.advance(basis.style, step, height, after, outcome)
             }
         }
     }
 }
 
 impl Progress {
-    /// Judges a column of a page with this run, behind those judged so far. In a page's second column the wide counts
-    /// are zeros.
+    /// Judges the next column, behind those judged so far.
     pub fn judge(
         &mut self,
         alloc: Global,
-        galley: &Galley,
-        style: &Style,
-        list: &FloatList,
-        column: &Column,
-        run: u8,
-        wide: &Counts,
+        basis: &Basis,
+        step: &NextColumn,
     ) -> Result<(), AllocError>
-        requires list { IsListOf galley.now.blocks style.now list.now }
-        requires kept { IsKept style.now self.old }
+        requires list { IsBasis basis.now }
+        requires kept { IsKept basis.now.style.now self.old }
         requires number { self.old.number < 2 ^ 31 }
-        ensures kept { OnOk result (IsKept style.now self.new) }
+        ensures kept { OnOk result (IsKept basis.now.style.now self.new) }
         ensures number { OnOk result (self.new.number ≡ self.old.number + 1) }
-        ensures next { OnOk result ((ms : List APageMove) → IsProgress (document galley.now style.now) ms self.old →
-            IsProgress (document galley.now style.now) (the_move column.now run wide.now ∷ ms) self.new) }
+        ensures next { OnOk result ((ms : List APageMove) → IsProgress (doc_of basis.now) ms self.old →
+            IsProgress (doc_of basis.now) (move_of step.now ∷ ms) self.new) }
     {
         if is_lost(self.broken) {
             self.number += 1;
             return Ok(());
         }
-        if !self.is_chained(galley, column) {
+        if !self.is_chained(basis.galley, step.column) {
             self.number += 1;
             self.broken = Some(Broken {
                 rule: 2,
@@ -399,6 +364,6 @@ impl Progress {
             });
             return Ok(());
         }
-        self.go_on(alloc, galley, style, list, column, run, wide)
+        self.go_on(alloc, basis, step)
     }
 }

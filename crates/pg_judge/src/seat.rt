@@ -9,13 +9,16 @@ ghost use Rattle.pg_floats.specs.AreFloats.{AreFloats};
 ghost use Rattle.pg_list.specs.declared.blocks.Block.{Block as ABlock};
 ghost use Rattle.pg_style.specs.Ranges.{IsStyle};
 ghost use Rattle.pg_floats.specs.Counts.{capped};
-ghost use Rattle.pg_floats.specs.Given.{IsListOf, IsWideHeight};
+ghost use Rattle.pg_floats.specs.Given.{IsWideHeight};
+ghost use Rattle.pg_judge.specs.Bases.{IsBasis};
 ghost use Rattle.pg_judge.specs.Seats.{AreHeights, IsSeat, seated};
 
+use crate::added::Counted;
+use crate::basis::{Basis, NextColumn};
 use pg_column::TextRoom;
 use pg_floats::{FloatList, Spot, checked_area, checked_give, full_height, is_allowed};
-use pg_list::{Galley, Place};
-use pg_plan::{Column, Counts};
+use pg_list::Place;
+use pg_plan::Counts;
 use pg_scaled::minus;
 use pg_style::{Give, Style};
 
@@ -165,33 +168,32 @@ fn bottom_give(
     checked_give(list, is_allowed, &style.bottom, placed, counts)
 }
 
-/// The seat of a column on a page of a run, with a wide area of this height. `before` counts the floats placed before
-/// its top area, and `below` those placed before its bottom area.
+/// The seat of the next column, with a wide area of this height, where so many floats are placed before its areas.
 pub fn seat_of(
-    galley: &Galley,
-    style: &Style,
-    list: &FloatList,
+    basis: &Basis,
     slots: usize,
-    column: &Column,
-    run: u8,
+    step: &NextColumn,
     wide: Option<i64>,
-    before: &Counts,
-    below: &Counts,
+    counted: &Counted,
 ) -> Seat
-    requires list { IsListOf galley.now.blocks style.now list.now }
-    requires slots { slots ≡ length (float_numbers style.now) }
+    requires list { IsBasis basis.now }
+    requires slots { slots ≡ length (float_numbers basis.now.style.now) }
     requires few { slots ≤ 8 }
     requires wide { IsWideHeight wide }
     ensures heights { AreHeights result }
-    ensures seat { (placed : List ℕ) → before.now ≡ capped placed → below.now ≡ capped
-        (plus_counts style.now placed column.now.top) →
-        IsSeat (seated galley.now style.now column.now run wide placed) result }
+    ensures seat { (placed : List ℕ) → counted.now.before ≡ capped placed → counted.now.below ≡ capped
+        (plus_counts basis.now.style.now placed step.now.column.now.top) →
+        IsSeat (seated basis.now.galley.now basis.now.style.now step.now.column.now step.now.run wide placed) result }
 {
-    let _ = galley;
+    let style = basis.style;
+    let list = basis.list;
+    let column = step.column;
     style.stays_in_range();
     let is_text = !is_same_place(column.from, column.to);
     let is_top_allowed = is_top_allowed(style, slots, is_text, &column.top);
     let is_bottom_allowed = is_bottom_allowed(style, slots, is_text, &column.bottom);
+    let before = &counted.before;
+    let below = &counted.below;
     let top_give = top_give(style, list, is_top_allowed, before, &column.top);
     let bottom_give = bottom_give(style, list, is_bottom_allowed, below, &column.bottom);
     Seat {
@@ -199,7 +201,7 @@ pub fn seat_of(
         is_top_allowed,
         is_bottom_allowed,
         has_wide: wide.is_some(),
-        full: full_height(style, run),
+        full: full_height(style, step.run),
         wide: wide.unwrap_or(0),
         top: top_area(style, list, is_top_allowed, before, &column.top),
         bottom: bottom_area(style, list, is_bottom_allowed, below, &column.bottom),

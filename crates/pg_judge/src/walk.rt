@@ -3,15 +3,12 @@ ghost use Rattle.std.specs.Prelude.{◌≡◌, ◌≤◌, ◌<◌, ◌+◌, ◌^
 ghost use Rattle.pg_plan.specs.declared.pages.Column.{Column as AColumn};
 ghost use Rattle.pg_plan.specs.declared.pages.PageMove.{PageMove as APageMove};
 ghost use Rattle.pg_plan.specs.Order.{columns_of, no_floats as no_floats_of, page_moves};
-ghost use Rattle.pg_rules.specs.Legal.{document};
-ghost use Rattle.pg_floats.specs.Given.{IsListOf};
+ghost use Rattle.pg_judge.specs.Bases.{IsBasis, doc_of};
 ghost use Rattle.pg_judge.specs.Progress.{IsKept, IsProgress, the_move};
 
+use crate::basis::{Basis, NextColumn};
 use crate::progress::Progress;
-use pg_floats::FloatList;
-use pg_list::Galley;
 use pg_plan::{Column, Counts, Page};
-use pg_style::Style;
 use std::alloc::{AllocError, Global};
 
 // A zero for each count.
@@ -29,24 +26,27 @@ fn no_floats(alloc: Global, counts: &[u16]) -> Result<Counts, AllocError>
 fn judge_later(
     progress: &mut Progress,
     alloc: Global,
-    galley: &Galley,
-    style: &Style,
-    list: &FloatList,
+    basis: &Basis,
     run: u8,
     none: &Counts,
     later: &[Column],
 ) -> Result<(), AllocError>
-    requires list { IsListOf galley.now.blocks style.now list.now }
-    requires kept { IsKept style.now progress.old }
+    requires list { IsBasis basis.now }
+    requires kept { IsKept basis.now.style.now progress.old }
     requires number { progress.old.number + length later.now < 2 ^ 31 }
-    ensures kept { OnOk result (IsKept style.now progress.new) }
+    ensures kept { OnOk result (IsKept basis.now.style.now progress.new) }
     ensures number { OnOk result (progress.new.number ≡ progress.old.number + length later.now) }
-    ensures next { OnOk result ((ms : List APageMove) → IsProgress (document galley.now style.now) ms progress.old →
-        IsProgress (document galley.now style.now)
+    ensures next { OnOk result ((ms : List APageMove) → IsProgress (doc_of basis.now) ms progress.old →
+        IsProgress (doc_of basis.now)
         (reverse (map (λ (column : AColumn). the_move column run none.now) later.now) ++ ms) progress.new) }
 {
     for column in later {
-        progress.judge(alloc, galley, style, list, column, run, none)?;
+        let step = NextColumn {
+            column,
+            run,
+            wide: none,
+        };
+        progress.judge(alloc, basis, &step)?;
     }
     Ok(())
 }
@@ -55,46 +55,47 @@ fn judge_later(
 fn judge_page(
     progress: &mut Progress,
     alloc: Global,
-    galley: &Galley,
-    style: &Style,
-    list: &FloatList,
+    basis: &Basis,
     page: &Page,
 ) -> Result<(), AllocError>
-    requires list { IsListOf galley.now.blocks style.now list.now }
-    requires kept { IsKept style.now progress.old }
+    requires list { IsBasis basis.now }
+    requires kept { IsKept basis.now.style.now progress.old }
     requires number { progress.old.number + length page.now.columns < 2 ^ 31 }
-    ensures kept { OnOk result (IsKept style.now progress.new) }
+    ensures kept { OnOk result (IsKept basis.now.style.now progress.new) }
     ensures number { OnOk result (progress.new.number ≡ progress.old.number + length page.now.columns) }
-    ensures next { OnOk result ((ms : List APageMove) → IsProgress (document galley.now style.now) ms progress.old →
-        IsProgress (document galley.now style.now) (reverse (page_moves page.now page.now.columns) ++ ms) progress.new) }
+    ensures next { OnOk result ((ms : List APageMove) → IsProgress (doc_of basis.now) ms progress.old →
+        IsProgress (doc_of basis.now) (reverse (page_moves page.now page.now.columns) ++ ms) progress.new) }
 {
     let [first, later @ ..] = page.columns.as_slice() else {
         return Ok(());
     };
-    progress.judge(alloc, galley, style, list, first, page.run, &page.wide)?;
+    let step = NextColumn {
+        column: first,
+        run: page.run,
+        wide: &page.wide,
+    };
+    progress.judge(alloc, basis, &step)?;
     let none = no_floats(alloc, page.wide.as_slice())?;
-    judge_later(progress, alloc, galley, style, list, page.run, &none, later)
+    judge_later(progress, alloc, basis, page.run, &none, later)
 }
 
 /// The columns of pages behind those judged so far.
 pub fn judge_pages(
     progress: &mut Progress,
     alloc: Global,
-    galley: &Galley,
-    style: &Style,
-    list: &FloatList,
+    basis: &Basis,
     pages: &[Page],
 ) -> Result<(), AllocError>
-    requires list { IsListOf galley.now.blocks style.now list.now }
-    requires kept { IsKept style.now progress.old }
-    requires start { IsProgress (document galley.now style.now) [] progress.old }
+    requires list { IsBasis basis.now }
+    requires kept { IsKept basis.now.style.now progress.old }
+    requires start { IsProgress (doc_of basis.now) [] progress.old }
     requires number { length (columns_of (reverse pages.now)) < 2 ^ 31 }
-    ensures kept { OnOk result (IsKept style.now progress.new) }
-    ensures progress { OnOk result (IsProgress (document galley.now style.now) (columns_of (reverse pages.now))
+    ensures kept { OnOk result (IsKept basis.now.style.now progress.new) }
+    ensures progress { OnOk result (IsProgress (doc_of basis.now) (columns_of (reverse pages.now))
         progress.new) }
 {
     for page in pages {
-        judge_page(progress, alloc, galley, style, list, page)?;
+        judge_page(progress, alloc, basis, page)?;
     }
     Ok(())
 }

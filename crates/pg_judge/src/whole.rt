@@ -9,6 +9,7 @@ ghost use Rattle.pg_floats.specs.Given.{IsListOf};
 ghost use Rattle.pg_judge.specs.Progress.{IsKept, IsProgress, broken_pair};
 ghost use Rattle.pg_judge.specs.Settled.{JudgesPlan, Settles, answered};
 
+use crate::basis::Basis;
 use crate::ending::end_rule;
 use crate::pages::misfilled;
 use crate::progress::{Broken, Progress, is_lost, lesser_of};
@@ -111,14 +112,12 @@ fn judge_columns(
     ensures { Settles (document galley.now style.now) (columns plan.now) result }
 {
     let mut progress = start(alloc, style);
-    match judge_pages(
-        &mut progress,
-        alloc,
+    let basis = Basis {
         galley,
         style,
-        floats,
-        plan.pages.as_slice(),
-    ) {
+        list: floats,
+    };
+    match judge_pages(&mut progress, alloc, &basis, plan.pages.as_slice()) {
         Ok(()) => settle(galley, style, floats, &progress),
         Err(_) => Err(JudgeFault::Memory),
     }

@@ -10,6 +10,7 @@ use Rattle.pg_labels.specs.declared.output.Output.{Output}
 use Rattle.pg_labels.specs.declared.output.Shown.{Shown}
 use Rattle.pg_labels.specs.declared.output.Shown.TheVariants.{Pages, NoLegal}
 use Rattle.law_check.specs.Faults.{IsCheaper, IsFaultOrMemory}
+use Rattle.law_check.specs.Tests.{PassesCost, PassesText}
 use Rattle.law_check.specs.declared.answers.No.{No}
 use Rattle.law_check.specs.declared.answers.No.TheVariants.{FinalInNone, Undercut}
 
@@ -17,6 +18,14 @@ use Rattle.law_check.specs.declared.answers.No.TheVariants.{FinalInNone, Undercu
 abbrev pub Tested : {X : Type 0} → Type 0 → GalleyValue → StyleValue → Output → Result X No → Type 0
 Tested passes galley style output (Ok x) = passes
 Tested passes galley style output (Err fault) = IsFaultOrMemory galley style output fault
+
+-- tests 1 and 2 of an output
+abbrev pub TestedCost : {X : Type 0} → GalleyValue → StyleValue → Output → Result X No → Type 0
+TestedCost galley style output result = Tested (PassesCost galley style output) galley style output result
+
+-- tests 1 to 3
+abbrev pub TestedText : {X : Type 0} → GalleyValue → StyleValue → Output → Result X No → Type 0
+TestedText galley style output result = Tested (PassesText galley style output) galley style output result
 
 -- the output that shows this pagination with this cost and this text, with labels behind it
 abbrev pub showing : Pagination → ℤ → List ℕ → List Label → Output

@@ -4,13 +4,13 @@ ghost use Rattle.pg_floats.specs.AreFloats.{AreFloats};
 ghost use Rattle.pg_plan.specs.Order.{columns};
 ghost use Rattle.pg_plan.specs.declared.states.Label.{Label as ALabel};
 ghost use Rattle.pg_labels.specs.Reading.{IsFew};
-ghost use Rattle.law_check.specs.Tests.{PassesCost, PassesText};
-ghost use Rattle.pg_labelcheck.specs.Tested.{Tested, showing};
+ghost use Rattle.law_check.specs.Tests.{PassesCost};
+ghost use Rattle.pg_labelcheck.specs.Tested.{TestedCost, TestedText, showing};
 
 use crate::lines::first_other_line;
 use law_check::No;
 use pg_floats::FloatList;
-use pg_judge::{JudgeFault, judge};
+use pg_judge::{Basis, JudgeFault, judge};
 use pg_labels::{Output, Shown};
 use pg_list::Galley;
 use pg_pages::print_pages;
@@ -19,21 +19,13 @@ use pg_style::Style;
 use std::alloc::Global;
 
 // Tests 1 and 2: the pagination breaks no rule, and has the printed cost.
-fn test_cost(
-    alloc: Global,
-    galley: &Galley,
-    style: &Style,
-    floats: &FloatList,
-    plan: &Pagination,
-    cost: i128,
-) -> Result<(), No>
-    requires floats { AreFloats galley.now.blocks style.now floats.now }
+fn test_cost(alloc: Global, basis: &Basis, plan: &Pagination, cost: i128) -> Result<(), No>
+    requires floats { AreFloats basis.now.galley.now.blocks basis.now.style.now basis.now.list.now }
     requires few { length (columns plan.now) < 2 ^ 31 }
     ensures { (text : List ℕ) (labels : List ALabel) →
-        Tested (PassesCost galley.now style.now (showing plan.now cost text labels)) galley.now style.now
-        (showing plan.now cost text labels) result }
+        TestedCost basis.now.galley.now basis.now.style.now (showing plan.now cost text labels) result }
 {
-    match judge(alloc, galley, style, floats, plan) {
+    match judge(alloc, basis.galley, basis.style, basis.list, plan) {
         Ok(judged) => {
             if judged == cost {
                 Ok(())
@@ -52,21 +44,26 @@ fn test_cost(
 // Test 3: the page text is that of the pagination with the printed cost.
 fn test_text(
     alloc: Global,
-    galley: &Galley,
-    style: &Style,
-    floats: &FloatList,
+    basis: &Basis,
     plan: &Pagination,
     cost: i128,
     text: &[u8],
 ) -> Result<(), No>
-    requires floats { AreFloats galley.now.blocks style.now floats.now }
-    requires before { (labels : List ALabel) → PassesCost galley.now style.now (showing plan.now cost text.now labels) }
+    requires floats { AreFloats basis.now.galley.now.blocks basis.now.style.now basis.now.list.now }
+    requires before { (labels : List ALabel) →
+        PassesCost basis.now.galley.now basis.now.style.now (showing plan.now cost text.now labels) }
     ensures { (labels : List ALabel) →
-        Tested (PassesText galley.now style.now (showing plan.now cost text.now labels)) galley.now style.now
-        (showing plan.now cost text.now labels) result }
+        TestedText basis.now.galley.now basis.now.style.now (showing plan.now cost text.now labels) result }
 {
     let mut printed = Vec::new(alloc);
-    match print_pages(galley, style, floats, plan, cost, &mut printed) {
+    match print_pages(
+        basis.galley,
+        basis.style,
+        basis.list,
+        plan,
+        cost,
+        &mut printed,
+    ) {
         Ok(()) => match first_other_line(text, printed.as_slice()) {
             None => Ok(()),
             Some(line) => Err(No::PagesDiffer { line }),
@@ -78,21 +75,18 @@ fn test_text(
 // Tests 1 to 3, of a pagination with its cost and its page text.
 fn test_pages(
     alloc: Global,
-    galley: &Galley,
-    style: &Style,
-    floats: &FloatList,
+    basis: &Basis,
     plan: &Pagination,
     cost: i128,
     text: &[u8],
 ) -> Result<(), No>
-    requires floats { AreFloats galley.now.blocks style.now floats.now }
+    requires floats { AreFloats basis.now.galley.now.blocks basis.now.style.now basis.now.list.now }
     requires few { length (columns plan.now) < 2 ^ 31 }
     ensures { (labels : List ALabel) →
-        Tested (PassesText galley.now style.now (showing plan.now cost text.now labels)) galley.now style.now
-        (showing plan.now cost text.now labels) result }
+        TestedText basis.now.galley.now basis.now.style.now (showing plan.now cost text.now labels) result }
 {
-    match test_cost(alloc, galley, style, floats, plan, cost) {
-        Ok(()) => test_text(alloc, galley, style, floats, plan, cost, text),
+    match test_cost(alloc, basis, plan, cost) {
+        Ok(()) => test_text(alloc, basis, plan, cost, text),
         Err(fault) => Err(fault),
     }
 }
@@ -107,18 +101,17 @@ pub(crate) fn test_shown(
 ) -> Result<(), No>
     requires floats { AreFloats galley.now.blocks style.now floats.now }
     requires few { IsFew output.now }
-    ensures { Tested (PassesText galley.now style.now output.now) galley.now style.now output.now result }
+    ensures { TestedText galley.now style.now output.now result }
 {
     match &output.shown {
-        Shown::Pages(plan, cost) => test_pages(
-            alloc,
-            galley,
-            style,
-            floats,
-            plan,
-            *cost,
-            output.page_text.as_slice(),
-        ),
+        Shown::Pages(plan, cost) => {
+            let basis = Basis {
+                galley,
+                style,
+                list: floats,
+            };
+            test_pages(alloc, &basis, plan, *cost, output.page_text.as_slice())
+        }
         Shown::NoLegal => Ok(()),
     }
 }

@@ -6,9 +6,8 @@ ghost use Rattle.pg_layouts.specs.Layouts.{area_lists, layout_of, zeros};
 ghost use Rattle.pg_layouts.specs.Behind.{bottoms_behind, floats_alone};
 ghost use Rattle.pg_layouts.specs.Fit.{Fit};
 
-use crate::counting::count_lists;
 use crate::layout::Layout;
-use crate::limits::area_limits;
+use crate::search::Search;
 use pg_floats::{Spot, plus};
 use pg_plan::Counts;
 use pg_style::Style;
@@ -60,111 +59,93 @@ fn push_each(
     Ok(())
 }
 
+// How many floats the bottom area takes.
+fn bottom_count(style: &Style) -> u8
+    ensures { result ≡ style.now.bottom.count }
+{
+    style.bottom.count
+}
+
 /// Adds the layouts with these floats at the top, behind the counts `before`, which these are added to.
 pub fn push_bottoms(
-    alloc: Global,
-    style: &Style,
-    slots: usize,
+    search: &Search,
     before: &[u16],
-    ceiling: &[u16],
     run: u8,
     wide: &Counts,
     top: &Counts,
     layouts: &mut Vec<Layout>,
 ) -> Result<(), AllocError>
-    requires { slots ≡ length (float_numbers style.now) }
     ensures { OnOk result (layouts.new.items ≡ layouts.old.items ++ map (layout_of run wide.now top.now)
-        (area_lists style.now takes_bottom style.now.bottom.count before.now ceiling.now)) }
+        (area_lists search.now.style.now takes_bottom search.now.style.now.bottom.count before.now
+        search.now.ceiling.now)) }
 {
-    let limits = area_limits(alloc, Spot::Bottom, style, slots, before, ceiling)?;
-    let bottoms = count_lists(alloc, style.bottom.count, limits.as_slice())?;
+    let bottoms = search.area_lists(Spot::Bottom, bottom_count(search.style), before)?;
     push_each(run, wide, top, bottoms.as_slice(), layouts)
 }
 
 // Adds the layouts with these floats at the top.
 fn push_top(
-    alloc: Global,
-    style: &Style,
-    slots: usize,
+    search: &Search,
     before: &[u16],
-    ceiling: &[u16],
     run: u8,
     wide: &Counts,
     top: &Counts,
     layouts: &mut Vec<Layout>,
 ) -> Result<(), AllocError>
-    requires slots { slots ≡ length (float_numbers style.now) }
-    requires fit { Fit before.now top.now }
+    requires { Fit before.now top.now }
     ensures { OnOk result (layouts.new.items ≡ layouts.old.items
-        ++ bottoms_behind style.now before.now ceiling.now run wide.now top.now) }
+        ++ bottoms_behind search.now.style.now before.now search.now.ceiling.now run wide.now top.now) }
 {
-    let behind = plus_counts(alloc, style, slots, before, top.as_slice())?;
-    push_bottoms(
-        alloc,
-        style,
-        slots,
-        behind.as_slice(),
-        ceiling,
-        run,
-        wide,
-        top,
-        layouts,
-    )
+    let behind = plus_counts(
+        search.alloc,
+        search.style,
+        search.slots,
+        before,
+        top.as_slice(),
+    )?;
+    push_bottoms(search, behind.as_slice(), run, wide, top, layouts)
 }
 
 // Adds the layouts for each of these counts of the top area.
 fn push_each_top(
-    alloc: Global,
-    style: &Style,
-    slots: usize,
+    search: &Search,
     before: &[u16],
-    ceiling: &[u16],
     run: u8,
     wide: &Counts,
     tops: &[Counts],
     layouts: &mut Vec<Layout>,
 ) -> Result<(), AllocError>
-    requires slots { slots ≡ length (float_numbers style.now) }
-    requires fit { (top : List ℕ) → Contains tops.now top → Fit before.now top }
+    requires { (top : List ℕ) → Contains tops.now top → Fit before.now top }
     ensures { OnOk result (layouts.new.items ≡ layouts.old.items ++ flat_map
-        (bottoms_behind style.now before.now ceiling.now run wide.now) tops.now) }
+        (bottoms_behind search.now.style.now before.now search.now.ceiling.now run wide.now) tops.now) }
 {
     for top in tops {
-        push_top(
-            alloc, style, slots, before, ceiling, run, wide, top, layouts,
-        )?;
+        push_top(search, before, run, wide, top, layouts)?;
     }
     Ok(())
 }
 
+// How many floats the top area takes.
+fn top_count(style: &Style) -> u8
+    ensures { result ≡ style.now.top.count }
+{
+    style.top.count
+}
+
 /// Adds the layouts with these wide floats, behind the counts `before`, which these are added to.
 pub fn push_tops(
-    alloc: Global,
-    style: &Style,
-    slots: usize,
+    search: &Search,
     before: &[u16],
-    ceiling: &[u16],
     run: u8,
     wide: &Counts,
     layouts: &mut Vec<Layout>,
 ) -> Result<(), AllocError>
-    requires { slots ≡ length (float_numbers style.now) }
     ensures { OnOk result (layouts.new.items ≡ layouts.old.items ++ flat_map
-        (bottoms_behind style.now before.now ceiling.now run wide.now) (area_lists style.now takes_top style.now.top.count before.now ceiling.now)) }
+        (bottoms_behind search.now.style.now before.now search.now.ceiling.now run wide.now)
+        (area_lists search.now.style.now takes_top search.now.style.now.top.count before.now search.now.ceiling.now)) }
 {
-    let limits = area_limits(alloc, Spot::Top, style, slots, before, ceiling)?;
-    let tops = count_lists(alloc, style.top.count, limits.as_slice())?;
-    push_each_top(
-        alloc,
-        style,
-        slots,
-        before,
-        ceiling,
-        run,
-        wide,
-        tops.as_slice(),
-        layouts,
-    )
+    let tops = search.area_lists(Spot::Top, top_count(search.style), before)?;
+    push_each_top(search, before, run, wide, tops.as_slice(), layouts)
 }
 
 // Adds a layout for each of these counts of a column without text.
@@ -192,22 +173,18 @@ fn float_count(style: &Style) -> u8
 
 /// Adds the layouts without text with these wide floats, behind the counts `before`, which these are added to.
 pub fn push_floats(
-    alloc: Global,
-    style: &Style,
-    slots: usize,
+    search: &Search,
     before: &[u16],
-    ceiling: &[u16],
     run: u8,
     wide: &Counts,
     layouts: &mut Vec<Layout>,
 ) -> Result<(), AllocError>
-    requires slots { slots ≡ length (float_numbers style.now) }
-    requires few { slots ≤ 8 }
-    ensures { OnOk result (layouts.new.items ≡ layouts.old.items ++ map (floats_alone run wide.now (zeros style.now))
-        (area_lists style.now takes_in_column style.now.float_column.count before.now ceiling.now)) }
+    ensures { OnOk result (layouts.new.items ≡ layouts.old.items
+        ++ map (floats_alone run wide.now (zeros search.now.style.now))
+        (area_lists search.now.style.now takes_in_column search.now.style.now.float_column.count before.now
+        search.now.ceiling.now)) }
 {
-    let limits = area_limits(alloc, Spot::Column, style, slots, before, ceiling)?;
-    let tops = count_lists(alloc, float_count(style), limits.as_slice())?;
-    let none = Counts::zeros(alloc, slots);
+    let tops = search.area_lists(Spot::Column, float_count(search.style), before)?;
+    let none = Counts::zeros(search.alloc, search.slots);
     push_each_float(run, wide, &none, tops.as_slice(), layouts)
 }

@@ -12,6 +12,7 @@ mod layouts;
 mod limits;
 mod lists;
 mod runs;
+mod search;
 
 pub use counting::count_lists;
 pub use laws::counts_are_listed;

@@ -7,12 +7,11 @@ ghost use Rattle.pg_layouts.specs.Layouts.{float_layouts as the_float_layouts, r
 ghost use Rattle.pg_layouts.specs.Behind.{areas_behind, bare, of_run, with_areas};
 ghost use Rattle.pg_layouts.specs.Fit.{Fit};
 
-use crate::counting::count_lists;
 use crate::kind::ColumnKind;
 use crate::layout::Layout;
 use crate::layouts::{plus_counts, push_floats, push_tops};
-use crate::limits::area_limits;
 use crate::lists::ListedCounts;
+use crate::search::Search;
 use pg_floats::Spot;
 use pg_plan::{Counts, State};
 use pg_style::Style;
@@ -20,81 +19,57 @@ use std::alloc::{AllocError, Global};
 
 // Adds the layouts of a column with these wide floats, where so many are placed with them.
 fn push_areas(
-    alloc: Global,
-    style: &Style,
-    slots: usize,
-    kind: ColumnKind,
+    search: &Search,
     before: &[u16],
-    ceiling: &[u16],
     run: u8,
     wide: &Counts,
     layouts: &mut Vec<Layout>,
 ) -> Result<(), AllocError>
-    requires slots { slots ≡ length (float_numbers style.now) }
-    requires few { slots ≤ 8 }
     ensures { OnOk result (layouts.new.items ≡ layouts.old.items
-        ++ areas_behind kind style.now before.now ceiling.now run wide.now) }
+        ++ areas_behind search.now.kind search.now.style.now before.now search.now.ceiling.now run wide.now) }
 {
-    match kind {
-        ColumnKind::Text => push_tops(alloc, style, slots, before, ceiling, run, wide, layouts),
-        ColumnKind::Floats => push_floats(alloc, style, slots, before, ceiling, run, wide, layouts),
+    match search.kind {
+        ColumnKind::Text => push_tops(search, before, run, wide, layouts),
+        ColumnKind::Floats => push_floats(search, before, run, wide, layouts),
     }
 }
 
 // Adds the layouts with these wide floats, behind the counts that are placed.
 fn push_wide(
-    alloc: Global,
-    style: &Style,
-    slots: usize,
-    kind: ColumnKind,
+    search: &Search,
     placed: &[u16],
-    ceiling: &[u16],
     run: u8,
     wide: &Counts,
     layouts: &mut Vec<Layout>,
 ) -> Result<(), AllocError>
-    requires slots { slots ≡ length (float_numbers style.now) }
-    requires few { slots ≤ 8 }
-    requires fit { Fit placed.now wide.now }
+    requires { Fit placed.now wide.now }
     ensures { OnOk result (layouts.new.items ≡ layouts.old.items
-        ++ with_areas kind style.now placed.now ceiling.now run wide.now) }
+        ++ with_areas search.now.kind search.now.style.now placed.now search.now.ceiling.now run wide.now) }
 {
-    let before = plus_counts(alloc, style, slots, placed, wide.as_slice())?;
-    push_areas(
-        alloc,
-        style,
-        slots,
-        kind,
-        before.as_slice(),
-        ceiling,
-        run,
-        wide,
-        layouts,
-    )
+    let before = plus_counts(
+        search.alloc,
+        search.style,
+        search.slots,
+        placed,
+        wide.as_slice(),
+    )?;
+    push_areas(search, before.as_slice(), run, wide, layouts)
 }
 
 // Adds the layouts of a run for each of these wide counts, behind the counts that are placed.
 fn push_wides(
-    alloc: Global,
-    style: &Style,
-    slots: usize,
-    kind: ColumnKind,
+    search: &Search,
     placed: &[u16],
-    ceiling: &[u16],
     run: u8,
     wides: &[Counts],
     layouts: &mut Vec<Layout>,
 ) -> Result<(), AllocError>
-    requires slots { slots ≡ length (float_numbers style.now) }
-    requires few { slots ≤ 8 }
-    requires fit { (wide : List ℕ) → Contains wides.now wide → Fit placed.now wide }
+    requires { (wide : List ℕ) → Contains wides.now wide → Fit placed.now wide }
     ensures { OnOk result (layouts.new.items ≡ layouts.old.items
-        ++ flat_map (with_areas kind style.now placed.now ceiling.now run) wides.now) }
+        ++ flat_map (with_areas search.now.kind search.now.style.now placed.now search.now.ceiling.now run) wides.now) }
 {
     for wide in wides {
-        push_wide(
-            alloc, style, slots, kind, placed, ceiling, run, wide, layouts,
-        )?;
+        push_wide(search, placed, run, wide, layouts)?;
     }
     Ok(())
 }
@@ -111,54 +86,41 @@ fn is_run_taken(must: Option<u8>, run: u8) -> bool
 
 // Adds the layouts of a run, where the page may have it.
 fn push_run(
-    alloc: Global,
-    style: &Style,
-    slots: usize,
-    kind: ColumnKind,
+    search: &Search,
     placed: &[u16],
-    ceiling: &[u16],
     must: Option<u8>,
     run: u8,
     wides: &[Counts],
     layouts: &mut Vec<Layout>,
 ) -> Result<(), AllocError>
-    requires slots { slots ≡ length (float_numbers style.now) }
-    requires few { slots ≤ 8 }
-    requires fit { (wide : List ℕ) → Contains wides.now wide → Fit placed.now wide }
+    requires { (wide : List ℕ) → Contains wides.now wide → Fit placed.now wide }
     ensures { OnOk result (layouts.new.items ≡ layouts.old.items ++ flat_map
-        (of_run kind style.now placed.now ceiling.now wides.now) (if takes_run must run then run ∷ [] else [])) }
+        (of_run search.now.kind search.now.style.now placed.now search.now.ceiling.now wides.now)
+        (if takes_run must run then run ∷ [] else [])) }
 {
     if is_run_taken(must, run) {
-        push_wides(
-            alloc, style, slots, kind, placed, ceiling, run, wides, layouts,
-        )?;
+        push_wides(search, placed, run, wides, layouts)?;
     }
     Ok(())
 }
 
 // Adds the layouts of a column, for these wide counts of its page.
 fn push_runs(
-    alloc: Global,
-    style: &Style,
-    slots: usize,
-    kind: ColumnKind,
+    search: &Search,
     placed: &[u16],
-    ceiling: &[u16],
     must: Option<u8>,
     wides: &[Counts],
     layouts: &mut Vec<Layout>,
 ) -> Result<(), AllocError>
-    requires slots { slots ≡ length (float_numbers style.now) }
-    requires few { slots ≤ 8 }
-    requires fit { (wide : List ℕ) → Contains wides.now wide → Fit placed.now wide }
+    requires { (wide : List ℕ) → Contains wides.now wide → Fit placed.now wide }
     ensures { OnOk result (layouts.new.items ≡ layouts.old.items ++ flat_map
-        (of_run kind style.now placed.now ceiling.now wides.now) (runs_of style.now must)) }
+        (of_run search.now.kind search.now.style.now placed.now search.now.ceiling.now wides.now)
+        (runs_of search.now.style.now must)) }
 {
+    let style = search.style;
     let count = style.runs.as_slice().len() as u8;
     for run in 0..count {
-        push_run(
-            alloc, style, slots, kind, placed, ceiling, must, run, wides, layouts,
-        )?;
+        push_run(search, placed, must, run, wides, layouts)?;
     }
     Ok(())
 }
@@ -171,62 +133,38 @@ fn no_wides(alloc: Global, slots: usize) -> ListedCounts
     ListedCounts::one(Counts::zeros(alloc, slots))
 }
 
+// How many floats the wide area takes.
+fn wide_count(style: &Style) -> u8
+    ensures { result ≡ style.now.wide.count }
+{
+    style.wide.count
+}
+
 // The counts of wide floats that the page of the next column may have.
-fn wides(
-    alloc: Global,
-    style: &Style,
-    slots: usize,
-    state: &State,
-    ceiling: &[u16],
-) -> Result<ListedCounts, AllocError>
-    requires slots { slots ≡ length (float_numbers style.now) }
-    requires few { slots ≤ 8 }
-    ensures { IfOk result (λ wides. wides ≡ wides_of (bare style.now) state.now ceiling.now) }
+fn wides(search: &Search, state: &State) -> Result<ListedCounts, AllocError>
+    ensures { IfOk result (λ wides. wides ≡ wides_of (bare search.now.style.now) state.now search.now.ceiling.now) }
 {
     if state.column == 1 {
-        let limits = area_limits(
-            alloc,
+        search.area_lists(
             Spot::Across,
-            style,
-            slots,
+            wide_count(search.style),
             state.placed.as_slice(),
-            ceiling,
-        )?;
-        count_lists(alloc, style.wide.count, limits.as_slice())
+        )
     } else {
-        Ok(no_wides(alloc, slots))
+        Ok(no_wides(search.alloc, search.slots))
     }
 }
 
 // The layouts of a column.
-fn layouts_of(
-    alloc: Global,
-    style: &Style,
-    slots: usize,
-    kind: ColumnKind,
-    state: &State,
-    placed: &[u16],
-    ceiling: &[u16],
-) -> Result<Vec<Layout>, AllocError>
-    requires slots { slots ≡ length (float_numbers style.now) }
-    requires few { slots ≤ 8 }
-    requires placed { placed.now ≡ state.now.placed }
-    ensures { IfOk result (λ layouts. layouts.items ≡ flat_map (of_run kind style.now state.now.placed ceiling.now
-        (wides_of (bare style.now) state.now ceiling.now)) (runs_of style.now state.now.run)) }
+fn layouts_of(search: &Search, state: &State, placed: &[u16]) -> Result<Vec<Layout>, AllocError>
+    requires { placed.now ≡ state.now.placed }
+    ensures { IfOk result (λ layouts. layouts.items ≡ flat_map (of_run search.now.kind search.now.style.now
+        state.now.placed search.now.ceiling.now (wides_of (bare search.now.style.now) state.now search.now.ceiling.now))
+        (runs_of search.now.style.now state.now.run)) }
 {
-    let wides = wides(alloc, style, slots, state, ceiling)?;
-    let mut layouts = Vec::new(alloc);
-    push_runs(
-        alloc,
-        style,
-        slots,
-        kind,
-        placed,
-        ceiling,
-        state.run,
-        wides.as_slice(),
-        &mut layouts,
-    )?;
+    let wides = wides(search, state)?;
+    let mut layouts = Vec::new(search.alloc);
+    push_runs(search, placed, state.run, wides.as_slice(), &mut layouts)?;
     Ok(layouts)
 }
 
@@ -243,15 +181,14 @@ pub fn text_layouts(
     ensures { IfOk result (λ layouts. (blocks : List Block) → layouts.items
         ≡ the_text_layouts (record { blocks = blocks; style = style.now }) state.now ceiling.now) }
 {
-    layouts_of(
+    let search = Search {
         alloc,
         style,
         slots,
-        ColumnKind::Text,
-        state,
-        state.placed.as_slice(),
+        kind: ColumnKind::Text,
         ceiling,
-    )
+    };
+    layouts_of(&search, state, state.placed.as_slice())
 }
 
 /// The layouts of a column without text that follows a state, with counts up to a ceiling.
@@ -267,13 +204,12 @@ pub fn float_layouts(
     ensures { IfOk result (λ layouts. (blocks : List Block) → layouts.items
         ≡ the_float_layouts (record { blocks = blocks; style = style.now }) state.now ceiling.now) }
 {
-    layouts_of(
+    let search = Search {
         alloc,
         style,
         slots,
-        ColumnKind::Floats,
-        state,
-        state.placed.as_slice(),
+        kind: ColumnKind::Floats,
         ceiling,
-    )
+    };
+    layouts_of(&search, state, state.placed.as_slice())
 }

@@ -7,7 +7,7 @@ use Rattle.pg_list.specs.Whole.{square}
 use Rattle.pg_rules.specs.ColumnRules.{text_badness}
 use Rattle.pg_rules.specs.Cost.{cost_of, column_demerits, pick_demerits, text_demerits}
 use Rattle.pg_rules.specs.History.{context}
-use Rattle.pg_rules.specs.Room.{ColumnContext, is_text, items_of, size_of}
+use Rattle.pg_rules.specs.Room.{ColumnContext, is_text, size_of}
 use Rattle.pg_parts.specs.Parts.{PartsAddUp, badness_part, empty_part, fitness_part, float_part, line_part, part_sum, penalty_part, run_part}
 use Rattle.pg_parts.specs.declared.part.Part.TheVariants.{Line, Badness, Penalties, Empty, Picks, Runs, Floats, Fitness}
 

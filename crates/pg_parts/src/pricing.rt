@@ -15,7 +15,8 @@ use crate::priced::PricedColumn;
 use pg_column::{TextCost, is_same_place, judge_from};
 use pg_floats::FloatList;
 use pg_judge::{
-    Counted, MoveCost, Progress, Seat, fitness_price, pick_demerits, run_price, seat_of,
+    Basis, Counted, MoveCost, NextColumn, Progress, Seat, fitness_price, pick_demerits, run_price,
+    seat_of,
 };
 use pg_list::{Galley, Place};
 use pg_plan::{Column, PageMove};
@@ -104,47 +105,36 @@ pub fn price_of_next(
         Stand (document galley.now style.now) (step.now ∷ ms) →
         IsPriced (document galley.now style.now) step.now ms it) }
 {
-    let counted = Counted::of(
-        alloc,
-        progress.slots,
-        &progress.placed,
-        &step.wide,
-        &step.column,
-    )?;
-    let height = progress.next_wide(galley, style, list, &step.wide);
-    let verdict = progress.judge_move(
+    let column = &step.column;
+    let wide = &step.wide;
+    let slots = progress.slots;
+    let placed = &progress.placed;
+    let counted = Counted::of(alloc, slots, placed, wide, column)?;
+    let height = progress.next_wide(galley, style, list, wide);
+    let basis = Basis {
         galley,
         style,
         list,
-        &step.column,
-        step.run,
-        &step.wide,
-        height,
-        &counted,
-    );
-    let seat = seat_of(
-        galley,
-        style,
-        list,
-        progress.slots,
-        &step.column,
-        step.run,
-        height,
-        &counted.before,
-        &counted.below,
-    );
-    let text = numbers_of(galley, style, &step.column, &seat);
+    };
+    let next = NextColumn {
+        column,
+        run: step.run,
+        wide,
+    };
+    let verdict = progress.judge_move(&basis, &next, height, &counted);
+    let seat = seat_of(&basis, slots, &next, height, &counted);
+    let text = numbers_of(galley, style, column, &seat);
     let after = counted.after.as_slice();
     Ok(PricedColumn {
         page: progress.page,
         column: progress.column,
-        from: step.column.from,
-        to: step.column.to,
+        from: column.from,
+        to: column.to,
         text,
-        waits: count_waiting(galley, list, progress.slots, step.column.to, after),
+        waits: count_waiting(galley, list, slots, column.to, after),
         line: style.line,
         empty: empty_price(style, text),
-        picks: pick_demerits(galley, step.column.from, step.column.picks.as_slice()),
+        picks: pick_demerits(galley, column.from, column.picks.as_slice()),
         run: run_price(style, progress.column, step.run),
         floats: price_of(verdict),
         fitness: fitness_price(style, progress.fitness, fitness_of(text)),

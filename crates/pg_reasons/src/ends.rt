@@ -86,29 +86,35 @@ fn badness_in(numbers: &TextCost, is_over: bool) -> u16 {
     if is_over { 0 } else { numbers.badness }
 }
 
-// What is kept of the items so far.
+// A text: its places, and the picks of its choices.
+#[derive(Clone, Copy)]
+struct Text<'a> {
+    from: Place,
+    picks: &'a [u32],
+    to: Place,
+}
+
+// What is kept of a text, whose items have these sums.
 fn reach_at(
     galley: &Galley,
     style: &Style,
-    from: Place,
-    picks: &[u32],
-    to: Place,
+    text: &Text,
     room: &TextRoom,
     sums: &Sums,
     notes: &NoteSums,
 ) -> Reach
     requires { IsRoom room.now }
 {
-    let numbers = text_cost(style, room, sums, notes, is_spent(galley, to), 0);
+    let numbers = text_cost(style, room, sums, notes, is_spent(galley, text.to), 0);
     let is_over = is_over(style, room, sums, notes);
     Reach {
-        to,
+        to: text.to,
         total: numbers.total,
         goal: numbers.goal,
         is_over,
         badness: badness_in(&numbers, is_over),
         has_box: sums.has_box(),
-        rule: rule_at(galley, style, from, picks, to, room),
+        rule: rule_at(galley, style, text.from, text.picks, text.to, room),
     }
 }
 
@@ -132,16 +138,12 @@ pub fn reaches_of(
     for _ in 0..MOST {
         let is_break = break_cost(galley, place).is_some();
         if is_break && !is_same_place(from, place) {
-            let end = reach_at(
-                galley,
-                style,
+            let text = Text {
                 from,
-                picks.as_slice(),
-                place,
-                room,
-                &sums,
-                &notes,
-            );
+                picks: picks.as_slice(),
+                to: place,
+            };
+            let end = reach_at(galley, style, &text, room, &sums, &notes);
             ends.push(end)?;
             if end.is_over || (end.has_box && is_forced(galley, place)) {
                 return Ok(ends);

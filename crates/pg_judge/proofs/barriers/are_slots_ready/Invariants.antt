@@ -1,12 +1,10 @@
 use Rattle.std.proofs.Common.{◌≡◌, true, ℕ, List}
-use Rattle.std.specs.Prelude.{◌||◌, nat_le}
 use Rattle.std.specs.List.{list_all, range_with_len}
-use Rattle.pg_rules.specs.Floats.{called, entry, flushed}
 use Rattle.pg_floats.specs.Counts.{capped}
+use Rattle.pg_judge.specs.Barriers.{is_ready}
+use Rattle.pg_judge.specs.Bases.{doc_of}
 use Rattle.pg_judge.proofs.barriers.are_slots_ready.Given as goal
 
 abbrev pub invariant-loop-slot : goal.invariant-loop-slot
 invariant-loop-slot l = (counts : List ℕ) → l.placed ≡ capped counts →
-    list_all (λ (slot : ℕ). nat_le (entry (called l.galley.blocks l.style l.from) slot) (entry counts slot)
-    || nat_le (entry (flushed l.galley.blocks l.style l.block) slot) (entry counts slot))
-    (range_with_len 0 l.slot) ≡ true
+    list_all (is_ready (doc_of l.basis) l.from l.block counts) (range_with_len 0 l.slot) ≡ true

@@ -9,4 +9,4 @@ returns c = λ counts e.
     placed_is c.flushed.result c.from.result c.args.placed.now counts c.args.slot
     c.flushed.ensures.few (search rules) e
     ∙ ap (λ (n : ℕ). nat_le n (entry counts c.args.slot))
-    (c.flushed.ensures.value c.args.style.now c.requires.floats)
+    (c.flushed.ensures.value c.args.basis.now.style.now c.requires.floats)

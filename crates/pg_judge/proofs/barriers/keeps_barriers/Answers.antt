@@ -8,8 +8,8 @@ use Rattle.pg_judge.proofs.barriers.keeps_barriers.Goals as goal
 
 pub returns-then-are_slots_ready : goal.returns-then-are_slots_ready
 returns-then-are_slots_ready c = λ before behind p q.
-    let blocks = c.args.galley.now.blocks in
-    let style = c.args.style.now in
+    let blocks = c.args.basis.now.galley.now.blocks in
+    let style = c.args.basis.now.style.now in
     let from = c.args.column.now.from in
     let to = c.args.column.now.to in
     kept_then (is_same_place from to)
@@ -23,8 +23,8 @@ returns-then-are_slots_ready c = λ before behind p q.
 
 pub returns-else-are_slots_ready : goal.returns-else-are_slots_ready
 returns-else-are_slots_ready c = λ before behind p q.
-    let blocks = c.args.galley.now.blocks in
-    let style = c.args.style.now in
+    let blocks = c.args.basis.now.galley.now.blocks in
+    let style = c.args.basis.now.style.now in
     let from = c.args.column.now.from in
     let to = c.args.column.now.to in
     c.if-are_slots_ready.false ∙ kept_else (is_same_place from to)

@@ -16,7 +16,7 @@ returns-in-None c = λ labels. record {
   before = c.requires.before labels;
   text = text_same c.args.text.now c.as_slice.result.now (sym c.first_other_line.ensures ∙ c.in-None.is)
       ∙ printed_is _ _ _ _ c.new-printed.ensures.items c.in-Ok.ensures.ok c.as_slice.ensures.value
-      ∙ ap (page_text c.args.galley.now c.args.style.now c.args.plan.now)
+      ∙ ap (page_text c.args.basis.now.galley.now c.args.basis.now.style.now c.args.plan.now)
       (to_z-of_z w128 c.args.cost (record { sfits = c.ranges.cost.sfits }));
 }
 
@@ -25,7 +25,7 @@ returns-in-Ok c = λ labels. (
   c.requires.before labels,
   subst (λ (text : List ℕ). first_difference 1 (parts_of 10 c.args.text.now) (parts_of 10 text) ≡ Some c.in-Some.line)
       (printed_is _ _ _ _ c.new-printed.ensures.items c.in-Ok.ensures.ok c.as_slice.ensures.value
-      ∙ ap (page_text c.args.galley.now c.args.style.now c.args.plan.now)
+      ∙ ap (page_text c.args.basis.now.galley.now c.args.basis.now.style.now c.args.plan.now)
       (to_z-of_z w128 c.args.cost (record { sfits = c.ranges.cost.sfits })))
       (sym c.first_other_line.ensures ∙ c.in-Some.is),
 )

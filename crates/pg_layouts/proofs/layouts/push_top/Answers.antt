@@ -1,4 +1,4 @@
-use Rattle.std.proofs.Common.{rules, ◌≡◌, ◌++◌, subst, map, List, ℕ, OnOk}
+use Rattle.std.proofs.Common.{◌≡◌, ◌++◌, ◌∙◌, ap, subst, map, List, ℕ, OnOk}
 use Rattle.pg_rules.specs.Floats.{plus_counts, takes_bottom}
 use Rattle.pg_layouts.specs.Layouts.{area_lists, layout_of}
 use Rattle.pg_layouts.proofs.layouts.push_top.Goals as goal
@@ -6,6 +6,8 @@ use Rattle.pg_layouts.proofs.layouts.push_top.Goals as goal
 pub returns : goal.returns
 returns c = subst (λ (counts : List ℕ). OnOk c.push_bottoms.result (c.push_bottoms.new.layouts.items
     ≡ c.args.layouts.now.items ++ map (layout_of c.args.run c.args.wide.now c.args.top.now)
-    (area_lists c.args.style.now takes_bottom c.args.style.now.bottom.count counts c.args.ceiling.now)))
-    (let e : c.as_slice-2.result.now ≡ plus_counts c.args.style.now c.args.before.now c.args.top.now = search rules in e)
+    (area_lists c.args.search.now.style.now takes_bottom c.args.search.now.style.now.bottom.count counts
+    c.args.search.now.ceiling.now)))
+    (c.as_slice-2.ensures ∙ (c.in_ok-behind.ensures
+    ∙ ap (plus_counts c.args.search.now.style.now c.args.before.now) c.as_slice.ensures))
     c.push_bottoms.ensures

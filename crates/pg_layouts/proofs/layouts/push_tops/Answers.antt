@@ -1,14 +1,28 @@
-use Rattle.std.proofs.Common.{rules, ◌≡◌, subst, List, ℕ}
+use Rattle.std.proofs.Common.{◌≡◌, ◌++◌, ◌∙◌, ap, subst, List, ℕ, OnOk}
+use Rattle.std.specs.List.{flat_map}
 use Rattle.std.specs.Prelude.{Contains}
 use Rattle.pg_rules.specs.Floats.{takes_top}
+use Rattle.pg_layouts.specs.Behind.{bottoms_behind}
 use Rattle.pg_layouts.specs.Layouts.{area_lists}
 use Rattle.pg_layouts.proofs.Fits.{fits_below, short_of}
 use Rattle.pg_layouts.proofs.layouts.push_tops.Goals as goal
 
-pub push_each_top-requires-clause-fit : goal.push_each_top-requires-clause-fit
-push_each_top-requires-clause-fit c = λ top m. fits_below c.args.style.now takes_top c.args.style.now.top.count
-    c.args.before.now c.args.ceiling.now (short_of c.args.before.now c.type_inv.before)
-    (short_of c.args.ceiling.now c.type_inv.ceiling) top
-    (subst (λ (lists : List (List ℕ)). Contains lists top)
-    (let e : c.as_slice-2.result.now ≡ area_lists c.args.style.now takes_top c.args.style.now.top.count
-    c.args.before.now c.args.ceiling.now = search rules in e) m)
+pub push_each_top-requires : goal.push_each_top-requires
+push_each_top-requires c = λ top m.
+    let style = c.args.search.now.style.now in
+    let before = c.args.before.now in
+    let ceiling = c.args.search.now.ceiling.now in
+    fits_below style takes_top style.top.count before ceiling (short_of before c.type_inv.before) c.args.search.now.short
+    top (subst (λ (lists : List (List ℕ)). Contains lists top)
+    (c.as_slice.ensures.value ∙ (c.in_ok-tops.ensures ∙ ap (λ (most : ℕ). area_lists style takes_top most before ceiling)
+    c.top_count.ensures)) m)
+
+pub returns : goal.returns
+returns c =
+    let style = c.args.search.now.style.now in
+    let before = c.args.before.now in
+    let ceiling = c.args.search.now.ceiling.now in
+    subst (λ (tops : List (List ℕ)). OnOk c.push_each_top.result (c.push_each_top.new.layouts.items
+    ≡ c.args.layouts.now.items ++ flat_map (bottoms_behind style before ceiling c.args.run c.args.wide.now) tops))
+    (c.as_slice.ensures.value ∙ (c.in_ok-tops.ensures ∙ ap (λ (most : ℕ). area_lists style takes_top most before ceiling)
+    c.top_count.ensures)) c.push_each_top.ensures

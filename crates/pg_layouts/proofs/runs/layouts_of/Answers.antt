@@ -1,4 +1,4 @@
-use Rattle.std.proofs.Common.{rules, ◌≡◌, sym, subst, List, ℕ}
+use Rattle.std.proofs.Common.{◌∙◌, sym, subst, List, ℕ}
 use Rattle.std.specs.Prelude.{Contains}
 use Rattle.pg_layouts.specs.Behind.{bare}
 use Rattle.pg_layouts.specs.Fit.{Fit}
@@ -7,18 +7,18 @@ use Rattle.pg_layouts.proofs.Fits.{Short, fits_wides, short_of}
 use Rattle.pg_layouts.proofs.Answered.{grown_from}
 use Rattle.pg_layouts.proofs.runs.layouts_of.Goals as goal
 
-pub push_runs-requires-clause-fit : goal.push_runs-requires-clause-fit
-push_runs-requires-clause-fit c = λ wide m.
-    let wides : c.as_slice.result.now ≡ wides_of (bare c.args.style.now) c.args.state.now c.args.ceiling.now =
-    search rules in
-    subst (λ (counts : List ℕ). Fit counts wide) (sym c.requires.placed)
-    (fits_wides c.args.style.now c.args.state.now c.args.ceiling.now
-    (subst Short c.requires.placed (short_of c.args.placed.now c.type_inv.placed))
-    (short_of c.args.ceiling.now c.type_inv.ceiling) wide
+pub push_runs-requires : goal.push_runs-requires
+push_runs-requires c = λ wide m.
+    let wides = c.as_slice.ensures.value ∙ c.in_ok-wides.ensures in
+    subst (λ (counts : List ℕ). Fit counts wide) (sym c.requires)
+    (fits_wides c.args.search.now.style.now c.args.state.now c.args.search.now.ceiling.now
+    (subst Short c.requires (short_of c.args.placed.now c.type_inv.placed))
+    c.args.search.now.short wide
     (subst (λ (lists : List (List ℕ)). Contains lists wide) wides m))
 
 pub returns : goal.returns
-returns c = grown_from c.args.kind c.args.style.now c.args.state.now.placed c.args.ceiling.now c.args.placed.now
-    (wides_of (bare c.args.style.now) c.args.state.now c.args.ceiling.now) c.as_slice.result.now
-    (runs_of c.args.style.now c.args.state.now.run) c.new-layouts.result.items c.push_runs.new.layouts.items
-    (search rules) c.requires.placed (search rules) c.in_ok-push_runs.ensures
+returns c = grown_from c.args.search.now.kind c.args.search.now.style.now c.args.state.now.placed
+    c.args.search.now.ceiling.now c.args.placed.now
+    (wides_of (bare c.args.search.now.style.now) c.args.state.now c.args.search.now.ceiling.now) c.as_slice.result.now
+    (runs_of c.args.search.now.style.now c.args.state.now.run) c.new-layouts.result.items c.push_runs.new.layouts.items
+    c.new-layouts.ensures.items c.requires (c.as_slice.ensures.value ∙ c.in_ok-wides.ensures) c.in_ok-push_runs.ensures

@@ -6,13 +6,15 @@ use Rattle.pg_layouts.proofs.OneMore.{taken_next}
 use Rattle.pg_layouts.proofs.runs.push_runs.Goals as goal
 
 pub loop-run-preserved : goal.loop-run-preserved
-loop-run-preserved c = taken_next (of_run c.args.kind c.args.style.now c.args.placed.now c.args.ceiling.now c.args.wides.now)
-    (takes_run c.args.must) c.args.layouts.now.items c.loop-run.layouts.items c.push_run.new.layouts.items
+loop-run-preserved c = taken_next
+    (of_run c.args.search.now.kind c.args.search.now.style.now c.args.placed.now c.args.search.now.ceiling.now
+    c.args.wides.now) (takes_run c.args.must) c.args.layouts.now.items c.loop-run.layouts.items c.push_run.new.layouts.items
     c.loop-run.run c.loop-run.invariant (search rules)
 
 pub returns : goal.returns
 returns c = c.loop-run.invariant
     ∙ ap (λ (n : ℕ). c.args.layouts.now.items ++ flat_map
-    (of_run c.args.kind c.args.style.now c.args.placed.now c.args.ceiling.now c.args.wides.now)
+    (of_run c.args.search.now.kind c.args.search.now.style.now c.args.placed.now c.args.search.now.ceiling.now
+    c.args.wides.now)
     (filter (takes_run c.args.must) (range_with_len 0 n)))
-    (let e : c.loop-run.run ≡ length c.args.style.now.runs = search rules in e)
+    (let e : c.loop-run.run ≡ length c.args.search.now.style.now.runs = search rules in e)

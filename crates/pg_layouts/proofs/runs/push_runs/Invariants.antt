@@ -6,4 +6,5 @@ use Rattle.pg_layouts.proofs.runs.push_runs.Given as goal
 
 abbrev pub invariant-loop-run : goal.invariant-loop-run
 invariant-loop-run l = l.layouts.items ≡ l.initial.layouts.items ++ flat_map
-    (of_run l.kind l.style l.placed l.ceiling l.wides) (filter (takes_run l.must) (range_with_len 0 l.run))
+    (of_run l.search.kind l.search.style.now l.placed l.search.ceiling.now l.wides)
+    (filter (takes_run l.must) (range_with_len 0 l.run))

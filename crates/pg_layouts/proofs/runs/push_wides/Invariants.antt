@@ -5,4 +5,4 @@ use Rattle.pg_layouts.proofs.runs.push_wides.Given as goal
 
 abbrev pub invariant-loop-wide : goal.invariant-loop-wide
 invariant-loop-wide l = l.layouts.items ≡ l.initial.layouts.items ++ flat_map
-    (with_areas l.kind l.style l.placed l.ceiling l.run) (take l.wide-index l.wides)
+    (with_areas l.search.kind l.search.style.now l.placed l.search.ceiling.now l.run) (take l.wide-index l.wides)
