@@ -1,6 +1,6 @@
 -- Ends of which is remembered that they come too late, and those that are left.
 use Rattle.std.proofs.Common.{◌≡◌, refl, sym, subst, ◌<◌, Bool, List, [], ◌∷◌, ◌++◌, append_assoc, ◌∙◌, length, arith, ℤ}
-use Rattle.std.specs.Prelude.{◌+ℤ◌}
+use Rattle.std.specs.Prelude.{◌+ℤ◌, Option, Some, true}
 use Rattle.std.specs.List.{AllByRecursion}
 use Rattle.pg_lemmas.proofs.Lists.{all_append, all_parts}
 use Rattle.law_moves.specs.Steps.{fitness_cost, kept_fitness}
@@ -13,14 +13,15 @@ use Rattle.pg_plan.specs.declared.states.State.{State}
 use Rattle.pg_rooms.specs.Laid.{laid_of}
 use Rattle.pg_rooms.specs.declared.laid.Laid.{Laid}
 use Rattle.pg_rules.specs.Room.{Document}
-use Rattle.pg_states.specs.Marks.{along}
+use Rattle.pg_states.specs.Marks.{along, is_marked}
 use Rattle.pg_states.specs.declared.settling.Settled.{Settled}
 use Rattle.pg_style.specs.Values.{StyleValue}
 use Rattle.pg_table.specs.declared.step.Step.{Step}
-use Rattle.pg_moves.specs.Outdone.{AreLeft, AreSpared, IsLate}
+use Rattle.pg_moves.specs.Outdone.{AreLeft, AreSameMarks, AreSpared, IsAsked, IsLate, IsLateBy, IsSkipping}
 use Rattle.pg_moves.specs.Stepping.{IsBehind, IsOpenAt}
 use Rattle.pg_moves.specs.Thinned.{Adds}
 use Rattle.pg_moves.specs.declared.behind.Behind.{Behind}
+use Rattle.pg_moves.specs.declared.behind.Reached.{Reached}
 use Rattle.pg_moves.proofs.Added.{adds_more, adds_none, adds_same}
 use Rattle.pg_moves.proofs.Built.{asked_is, late_at, step}
 use Rattle.pg_moves.proofs.Stepped.{Going, going_more, listed_append, listed_of, outdone_step}
@@ -44,6 +45,41 @@ late_more style u it ends rest after end is left late = record {
       ∙ sym (append_assoc left.first (end ∷ []) after));
   late = all_append (IsLate style u it) left.first (end ∷ []) left.late (late, tt);
 }
+
+-- ---- while they are passed over
+
+-- what is marked does not depend on whom is asked
+same_late : (style : StyleValue) (u line : State) (own it : Reached) (end : RoomEnd) → AreSameMarks own it →
+    IsLateBy style u line (Some it) end → IsLateBy style u line (Some own) end
+same_late style u line own it end same late =
+    let there = along line end.to (kept_fitness style end.cost.fitness) in
+    let pays = (end.cost.demerits +ℤ end.pick_demerits) +ℤ fitness_cost style u.fitness end.cost.fitness in
+    subst (λ m. is_marked m.now there (own.cost +ℤ pays) ≡ true) same.marks
+    (subst (λ (cost : ℤ). is_marked it.line.marks.now there (cost +ℤ pays) ≡ true) same.cost late)
+
+-- before any end is looked at
+pub skip_none : (style : StyleValue) (u : State) (it : Behind) (ends : List RoomEnd) (own : Reached) →
+    it.reached ≡ Some own → IsAsked it.state own → IsSkipping style u it ends own ends
+skip_none style u it ends own is asked = record {
+  left = all_left style u it ends;
+  asked = asked;
+  own = (own, (is, record { marks = refl; cost = refl }));
+}
+
+-- one end more comes too late
+pub skip_more : (style : StyleValue) (u : State) (it : Behind) (ends rest after : List RoomEnd) (end : RoomEnd)
+    (reached next : Reached) → rest ≡ end ∷ after → IsSkipping style u it ends reached rest → IsAsked it.state next →
+    AreSameMarks reached next → IsLateBy style u it.state (Some reached) end → IsSkipping style u it ends next after
+skip_more style u it ends rest after end reached next is skips asked same late =
+    let own = skips.own.0 in
+    let was = skips.own.1.1 in
+    record {
+      left = late_more style u it ends rest after end is skips.left
+          (subst (λ (o : Option Reached). IsLateBy style u it.state o end) (sym skips.own.1.0)
+          (same_late style u it.state own reached end was late));
+      asked = asked;
+      own = (own, (skips.own.1.0, record { marks = same.marks ∙ was.marks; cost = same.cost ∙ was.cost }));
+    }
 
 -- ---- their steps
 

@@ -9,10 +9,10 @@ ghost use Rattle.pg_rooms.specs.Laid.{laid_of};
 ghost use Rattle.law_space.specs.PageSpace.{rank};
 ghost use Rattle.pg_plan.specs.declared.states.State.{State as AState};
 ghost use Rattle.pg_states.specs.Marks.{along};
-ghost use Rattle.pg_moves.specs.Outdone.{AreLeft, AreSpared, IsAsked, IsLate, marked_at};
+ghost use Rattle.pg_moves.specs.Outdone.{AreLeft, AreSameMarks, AreSpared, IsAsked, IsLateBy, marked_at};
 ghost use Rattle.pg_moves.specs.Stepping.{IsBehind, rank_tail};
 
-use crate::steps::{fitness_price, kept_fitness, page_price, state_behind, text_price};
+use crate::steps::{fitness_price, kept_fitness, page_price, parts_behind, text_price};
 use pg_candidates::RoomEnd;
 use pg_floats::total;
 use pg_list::Place;
@@ -65,22 +65,26 @@ fn reached_at<'a, W: Wants<State = SmallState, Marks = PageMarks>>(
     })
 }
 
-// Whether a state no worse than that of the line at a place and with a fitness was reached at a lower cost than a column
-// that pays so much beside what is paid already, as far as that is remembered.
-#[inline]
-fn is_reached(
-    reached: &Reached<'_>,
-    own: &SmallState,
-    place: Place,
-    fitness: Option<u8>,
-    pays: i128,
-) -> bool
-    requires asked { IsAsked own.now reached.now }
-    requires pays { nat_abs pays ≤ 2 ^ 66 }
-    ensures { result ≡ true → marked_at (Some reached.now) (along own.now place fitness) pays ≡ true }
-{
-    let cost = large_plus(reached.cost, pays);
-    reached.line.is_outdone(own, place, fitness, cost)
+impl Reached<'_> {
+    // Whether a state no worse than that of the line at a place and with a fitness was reached at a lower cost than a column
+    // that pays so much beside what is paid already, as far as that is remembered.
+    #[inline]
+    fn is_outdone(
+        &mut self,
+        own: &SmallState,
+        place: Place,
+        fitness: Option<u8>,
+        pays: i128,
+    ) -> bool
+        requires asked { IsAsked own.now self.old }
+        requires pays { nat_abs pays ≤ 2 ^ 66 }
+        ensures asked { IsAsked own.now self.new }
+        ensures same { AreSameMarks self.old self.new }
+        ensures told { result ≡ true → marked_at (Some self.old) (along own.now place fitness) pays ≡ true }
+    {
+        let cost = large_plus(self.cost, pays);
+        self.line.is_outdone(own, place, fitness, cost)
+    }
 }
 
 // What a state gives to its rank, but for its place, where so many floats are placed.
@@ -125,8 +129,8 @@ pub(crate) fn first_behind<'a, W: Wants<State = SmallState, Marks = PageMarks>>(
     let style = sources.style;
     let placed = count_after(sources, state, laid);
     let page = page_price(style, state, laid, settled.price);
-    let next = state_behind(style, state, laid, state.place, None, settled.ages.copy()?)?;
-    let small = SmallState::of(sources.alloc, next)?;
+    let next = parts_behind(style, state, laid, state.place, None, &settled.ages);
+    let small = SmallState::of_parts(sources.alloc, &next)?;
     let tail = tail_of(&small, placed);
     let reached = reached_at(wants, &small, page);
     Ok(Behind {
@@ -154,30 +158,28 @@ impl Behind<'_> {
     // Whether a state no worse than that behind a column to this end was reached at a lower cost, as far as that is
     // remembered.
     #[inline]
-    fn is_outdone(&self, style: &Style, state: &State, end: &RoomEnd) -> bool
-        requires { IfSome self.now.reached (IsAsked self.now.state) }
-        ensures { result ≡ true → IsLate style.now state.now self.now end.now }
+    fn is_late(
+        &self,
+        style: &Style,
+        state: &State,
+        reached: &mut Reached<'_>,
+        end: &RoomEnd,
+    ) -> bool
+        requires asked { IsAsked self.now.state reached.old }
+        ensures asked { IsAsked self.now.state reached.new }
+        ensures same { AreSameMarks reached.old reached.new }
+        ensures late { result ≡ true → IsLateBy style.now state.now self.now.state (Some reached.old) end.now }
     {
-        match &self.reached {
-            None => false,
-            Some(reached) => {
-                let fitness = end.cost.fitness;
-                let pays = large_plus(
-                    text_price(end),
-                    fitness_price(style, state.fitness, fitness),
-                );
-                is_reached(
-                    reached,
-                    &self.state,
-                    end.to,
-                    kept_fitness(style, fitness),
-                    pays,
-                )
-            }
-        }
+        let fitness = end.cost.fitness;
+        let pays = large_plus(
+            text_price(end),
+            fitness_price(style, state.fitness, fitness),
+        );
+        reached.is_outdone(&self.state, end.to, kept_fitness(style, fitness), pays)
     }
 
-    /// These ends from the first one on whose state was not reached at a lower cost, as far as that is remembered.
+    /// These ends from the first one on whose state was not reached at a lower cost, as far as that is remembered. A method of
+    /// its own, so that what the loop does not write is read once.
     pub(crate) fn skip_outdone<'e>(
         &self,
         style: &Style,
@@ -187,9 +189,12 @@ impl Behind<'_> {
         requires { IfSome self.now.reached (IsAsked self.now.state) }
         ensures { AreLeft style.now state.now self.now ends.now result.now }
     {
+        let Some(mut reached) = self.reached else {
+            return ends;
+        };
         let mut rest = ends;
         'ends: while let [end, after @ ..] = rest {
-            if !self.is_outdone(style, state, end) {
+            if !self.is_late(style, state, &mut reached, end) {
                 return rest;
             }
             rest = after;

@@ -13,7 +13,7 @@ ghost use Rattle.pg_moves.specs.Stepping.{can_stand, fitness_behind as fitness_b
 ghost use Rattle.pg_rooms.specs.declared.laid.Laid.{Laid as ALaid};
 ghost use Rattle.pg_plan.specs.declared.states.State.{State as AState};
 
-use crate::steps::{page_price, state_behind};
+use crate::steps::{page_price, parts_behind};
 use pg_plan::{Picks, State};
 use pg_rooms::{Laid, has_floats};
 use pg_scaled::{large_plus, plus};
@@ -118,9 +118,9 @@ fn step_of(
     let style = sources.style;
     let cost = stay_price(style, state, laid, settled.price);
     let fitness = fitness_behind(style, state);
-    let next = state_behind(style, state, laid, state.place, fitness, settled.ages)?;
+    let next = parts_behind(style, state, laid, state.place, fitness, &settled.ages);
     Ok(Step {
-        to: SmallState::of(sources.alloc, next)?,
+        to: SmallState::of_parts(sources.alloc, &next)?,
         by: stay(sources.alloc, state, laid)?,
         cost,
     })

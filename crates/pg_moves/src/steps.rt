@@ -13,6 +13,7 @@ ghost use Rattle.law_moves.specs.Listed.{listed_with};
 ghost use Rattle.law_moves.specs.Steps.{fitness_cost as fitness_cost_of, kept_fitness as kept_fitness_of};
 ghost use Rattle.pg_sources.specs.Document.{doc_of};
 ghost use Rattle.pg_rooms.specs.Laid.{laid_of};
+ghost use Rattle.pg_small.specs.Parts.{whole};
 ghost use Rattle.pg_moves.specs.Outdone.{AreSpared};
 ghost use Rattle.pg_moves.specs.Stepping.{IsBehind, IsOpenAt, page_price as page_price_of, state_behind as state_behind_of};
 ghost use Rattle.pg_moves.specs.Thinned.{Adds};
@@ -22,7 +23,7 @@ use pg_candidates::{NearList, RoomEnd};
 use pg_list::Place;
 use pg_plan::{Ages, Picks, Side, State};
 use pg_rooms::Laid;
-use pg_small::{SmallMove, SmallState};
+use pg_small::{SmallMove, SmallState, StateParts};
 use pg_sources::Sources;
 use pg_states::{PageMarks, Settled};
 use pg_style::{Run, Style};
@@ -99,21 +100,21 @@ fn kept_run(side: Side, run: u8) -> Option<u8>
     }
 }
 
-/// The state behind a column.
-pub fn state_behind(
+/// The parts of the state behind a column.
+pub fn parts_behind<'a>(
     style: &Style,
     state: &State,
-    laid: &Laid,
+    laid: &'a Laid,
     to: Place,
     fitness: Option<u8>,
-    ages: Ages,
-) -> Result<State, AllocError>
+    ages: &'a Ages,
+) -> StateParts<'a>
     requires { state.now.column ≤ 2 }
-    ensures { IfOk result (λ it. it ≡ state_behind_of style.now state.now laid.now to fitness ages) }
+    ensures { whole result ≡ state_behind_of style.now state.now laid.now to fitness ages.now }
 {
-    let placed = laid.after.copy()?;
+    let placed = &laid.after;
     if fills_page(style, state) {
-        Ok(State {
+        StateParts {
             place: to,
             column: 1,
             side: other_side(state.side),
@@ -122,9 +123,9 @@ pub fn state_behind(
             fitness,
             placed,
             ages,
-        })
+        }
     } else {
-        Ok(State {
+        StateParts {
             place: to,
             column: state.column + 1,
             side: state.side,
@@ -133,7 +134,7 @@ pub fn state_behind(
             fitness,
             placed,
             ages,
-        })
+        }
     }
 }
 

@@ -22,7 +22,7 @@ use pg_candidates::{NearList, has_text};
 use pg_column::TextRoom;
 use pg_list::{Galley, Place};
 use pg_plan::{Counts, State};
-use pg_rooms::{Behind, Laid, Layouts, PlaceEnds, RoomEnds, ends_in, groups_in};
+use pg_rooms::{Behind, Laid, Layouts, PlaceEnds, RoomEnds, room_in};
 use pg_small::{SmallMove, SmallState};
 use pg_sources::Sources;
 use pg_states::{Known, PageMarks};
@@ -49,8 +49,7 @@ fn add_kept<W: Wants<State = SmallState, Marks = PageMarks>>(
         Adds (W.spares wants.now) steps.old
         (steps_at (doc_of sources.now) state.now near.now.candidates rooms.now room.now laid.now) steps.new) }
 {
-    let groups = groups_in(rooms, room);
-    let ends = ends_in(rooms, room);
+    let (groups, ends) = room_in(rooms, room);
     add_groups(
         sources, near, state, known, laid, groups, ends, wants, steps,
     )

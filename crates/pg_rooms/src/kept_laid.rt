@@ -12,9 +12,8 @@ use pg_plan::{Counts, State};
 use pg_sources::Sources;
 use std::alloc::{AllocError, Global};
 
-// For how many states layouts are kept. States that are opened one after another differ in few of their parts, so that more
-// would hardly serve.
-const MOST: usize = 16;
+// For how many states layouts are kept. States that are opened one after another differ in few of their parts.
+const MOST: usize = 64;
 
 /// What was laid behind a state, with counts up to a ceiling.
 #[derive(Drop)]

@@ -26,4 +26,4 @@ pub use calls::{Call, Calls};
 pub use grouping::Group;
 pub use kept_laid::Layouts;
 pub use laid::{Laid, has_floats};
-pub use place_ends::{PlaceEnds, RoomEnds, ends_in, groups_in};
+pub use place_ends::{PlaceEnds, RoomEnds, room_in};

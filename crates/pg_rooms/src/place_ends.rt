@@ -255,23 +255,14 @@ fn add_rooms(
     Ok(())
 }
 
-/// The ends in a room, and none where they are not kept.
-pub fn ends_in<'a>(rooms: &'a [RoomEnds], room: &TextRoom) -> &'a [RoomEnd]
-    ensures { result.now ≡ ends_in_of rooms.now room.now }
+/// The groups of the ends in a room, and these ends; none of them where they are not kept.
+pub fn room_in<'a>(rooms: &'a [RoomEnds], room: &TextRoom) -> (&'a [Group], &'a [RoomEnd])
+    ensures groups { result.0.now ≡ groups_in_of rooms.now room.now }
+    ensures ends { result.1.now ≡ ends_in_of rooms.now room.now }
 {
     match kept(rooms, room) {
-        Some(it) => it.ends.as_slice(),
-        None => &[],
-    }
-}
-
-/// The groups of the ends in a room, and none where they are not kept.
-pub fn groups_in<'a>(rooms: &'a [RoomEnds], room: &TextRoom) -> &'a [Group]
-    ensures { result.now ≡ groups_in_of rooms.now room.now }
-{
-    match kept(rooms, room) {
-        Some(it) => it.groups.as_slice(),
-        None => &[],
+        Some(it) => (it.groups.as_slice(), it.ends.as_slice()),
+        None => (&[], &[]),
     }
 }
 

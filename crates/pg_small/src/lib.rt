@@ -13,7 +13,7 @@ mod states;
 
 pub use labels::{SmallLabel, small_labels};
 pub use moves::SmallMove;
-pub use states::SmallState;
+pub use states::{SmallState, StateParts};
 
 // The sizes for which this crate is there.
 const _: () = prove_eq!(std::mem::size_of::<SmallState>(), 40);

@@ -2,7 +2,7 @@
 ghost use Rattle.std.specs.Prelude.{◌≡◌, IfOk, IfSome};
 ghost use Rattle.std.specs.Cmp.Lexicographic.{slice_cmp};
 ghost use Rattle.pg_plan.specs.Order.{column_cmp, counts_cmp};
-ghost use Rattle.pg_small.specs.Columns.{move_kept, picks_seen};
+ghost use Rattle.pg_small.specs.Columns.{floats_cmp, move_kept, picks_seen};
 
 use crate::lists::{counts_from, few_counts, first_bytes, first_counts};
 use crate::picks::{PickView, compare_picks, few_picks};
@@ -241,18 +241,31 @@ impl SmallMove {
         }
     }
 
+    // The order by run, counts and picks alone.
+    fn compare_floats(&self, other: &SmallMove) -> Ordering
+        ensures { result ≡ floats_cmp self.now other.now }
+    {
+        let run = self.run().cmp(&other.run());
+        let wide = compare_counts(self.wide(), other.wide());
+        let bottom = compare_counts(self.bottom(), other.bottom());
+        let top = compare_counts(self.top(), other.top());
+        let picks = compare_picks(&self.picks(), &other.picks());
+        run.then(wide.then(bottom.then(top.then(picks))))
+    }
+
     /// The order among columns: by `to`, `from`, run, wide counts, bottom counts, top counts and picks, these from the
     /// last. No memory is taken.
     pub fn compare(&self, other: &SmallMove) -> Ordering
         ensures { result ≡ column_cmp self.now other.now }
     {
         let to = compare_places(&self.to(), &other.to());
+        if to.is_ne() {
+            return to;
+        }
         let from = compare_places(&self.from(), &other.from());
-        let run = self.run().cmp(&other.run());
-        let wide = compare_counts(self.wide(), other.wide());
-        let bottom = compare_counts(self.bottom(), other.bottom());
-        let top = compare_counts(self.top(), other.top());
-        let picks = compare_picks(&self.picks(), &other.picks());
-        to.then(from.then(run.then(wide.then(bottom.then(top.then(picks))))))
+        if from.is_ne() {
+            return from;
+        }
+        self.compare_floats(other)
     }
 }

@@ -98,16 +98,16 @@ impl Rest {
     pub(crate) fn of(
         alloc: Global,
         wide: Option<i64>,
-        placed: Counts,
-        ages: Ages,
+        placed: &Counts,
+        ages: &Ages,
     ) -> Result<Rest, AllocError>
         ensures wide { IfOk result (λ it. wide_kept it ≡ wide) }
-        ensures placed { IfOk result (λ it. placed_kept it ≡ placed) }
-        ensures ages { IfOk result (λ it. ages_kept it ≡ ages) }
+        ensures placed { IfOk result (λ it. placed_kept it ≡ placed.now) }
+        ensures ages { IfOk result (λ it. ages_kept it ≡ ages.now) }
     {
         match few_rest(wide, placed.as_slice(), ages.as_slice()) {
             Some(few) => Ok(Rest::Few(few)),
-            None => many_rest(alloc, wide, placed, ages),
+            None => many_rest(alloc, wide, placed.copy()?, ages.copy()?),
         }
     }
 

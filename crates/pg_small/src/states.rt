@@ -1,12 +1,26 @@
 //! States in few bytes.
 ghost use Rattle.std.specs.Prelude.{◌≡◌, ◌<◌, ◌≤◌, ℕ, IfOk, get_or, length, true};
+ghost use Rattle.pg_small.specs.Parts.{whole};
 
 use crate::lists::{ages_from, counts_from};
 use crate::rest::Rest;
 use pg_list::Place;
-use pg_plan::{PageKey, Side, State};
+use pg_plan::{Ages, Counts, PageKey, Side, State};
 use std::alloc::{AllocError, Global};
 use std::marker::Model;
+
+/// The parts of a state, whose lists are borrowed.
+#[derive(Clone, Copy)]
+pub struct StateParts<'a> {
+    pub place: Place,
+    pub column: u8,
+    pub side: Side,
+    pub run: Option<u8>,
+    pub wide: Option<i64>,
+    pub fitness: Option<u8>,
+    pub placed: &'a Counts,
+    pub ages: &'a Ages,
+}
 
 /// A state in 40 bytes. A state with a wide area, more than three counts or more than six ages keeps these on the heap.
 #[derive(Drop)]
@@ -48,7 +62,21 @@ impl SmallState {
             side: state.side,
             run: state.run,
             fitness: state.fitness,
-            rest: Rest::of(alloc, state.wide, state.placed, state.ages)?,
+            rest: Rest::of(alloc, state.wide, &state.placed, &state.ages)?,
+        })
+    }
+
+    /// The state of these parts in few bytes. It fails where memory runs out, in the rare case alone that it needs some.
+    pub fn of_parts(alloc: Global, parts: &StateParts<'_>) -> Result<SmallState, AllocError>
+        ensures { IfOk result (λ it. it ≡ whole parts.now) }
+    {
+        Ok(SmallState {
+            place: parts.place,
+            column: parts.column,
+            side: parts.side,
+            run: parts.run,
+            fitness: parts.fitness,
+            rest: Rest::of(alloc, parts.wide, parts.placed, parts.ages)?,
         })
     }
 
@@ -184,9 +212,9 @@ impl SmallState {
         page.wrapping_mul(0x27D4_EB2F_1656_67C5) ^ self.rest.placed_hash()
     }
 
-    /// A number that states have in common that differ in place and fitness alone. No memory is taken.
-    pub fn line_hash(&self) -> u64 {
-        self.key_hash() ^ self.rest.ages_hash()
+    /// A number that states with the same ages have in common. No memory is taken.
+    pub fn ages_hash(&self) -> u64 {
+        self.rest.ages_hash()
     }
 
     // Whether the column, the side, the run and the fitness are the same.

@@ -1,5 +1,5 @@
 -- A list that is no older, told by its numbers.
-use Rattle.std.proofs.Common.{◌≡◌, refl, ap, ◌∙◌, ℕ, zero, suc, ◌<◌, ◌≤◌, List, [], ◌∷◌, length, arith, Bool, true, false}
+use Rattle.std.proofs.Common.{◌≡◌, refl, ap, ◌∙◌, ℕ, suc, ◌<◌, ◌≤◌, List, [], ◌∷◌, length, arith, Bool, true}
 use Rattle.std.specs.Prelude.{◌&&◌, get_or, nat_le}
 use Rattle.pg_rules.specs.NoWorse.{are_no_older}
 

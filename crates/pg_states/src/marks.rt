@@ -17,11 +17,13 @@ use pg_table::Marking;
 use std::alloc::{AllocError, Global};
 use std::marker::Model;
 
-/// How many states are remembered at most.
-const CELLS: usize = 1 << 16;
+/// How many states are remembered at first, and how many at most.
+const FIRST_CELLS: usize = 1 << 12;
+
+const MOST_CELLS: usize = 1 << 18;
 
 /// How many states a search reaches before it remembers any.
-const REACHED_BEFORE: u32 = 512;
+const REACHED_BEFORE: usize = 512;
 
 /// How many lines are told apart before all is forgotten.
 const LINES: usize = 1 << 12;
@@ -40,14 +42,16 @@ pub(crate) struct Cell {
 
 /// States that were reached, and their costs. States that differ in place and fitness alone are a line, of which one
 /// state stands for all. Of each state its line, its place and its fitness are kept where a hash tells, and what stood
-/// there before is forgotten.
+/// there before is forgotten. The more states are reached, the more are remembered.
 #[derive(Drop)]
 pub struct PageMarks {
     lines: Vec<SmallState>,
     /// The numbers of lines, each where a hash tells. They are only hints.
     numbers: Vec<u32>,
     cells: Vec<Cell>,
-    reached: u32,
+    /// The bits of a hash that tell where a state is kept.
+    mask: usize,
+    reached: usize,
 }
 
 impl Model for PageMarks {
@@ -66,20 +70,22 @@ impl Model for PageMarks {
 #[derive(Copy, Clone)]
 pub struct Line<'a> {
     marks: &'a PageMarks,
+    /// A line no worse, where one is found.
     number: Option<u32>,
     seed: u64,
+    mask: usize,
 }
 
-// Where a state is kept.
-fn spot_of(seed: u64, place: Place) -> usize {
+// Where a state is kept, by these bits of a hash.
+fn spot_of(seed: u64, place: Place, mask: usize) -> usize {
     let at = (1 << 20) * (8 * u64::from(place.block) + u64::from(place.variant))
         + u64::from(place.index);
-    ((at ^ seed).wrapping_mul(0x9E37_79B9_7F4A_7C15) >> 48) as usize
+    ((at ^ seed).wrapping_mul(0x9E37_79B9_7F4A_7C15) >> 40) as usize & mask
 }
 
-// Where the number of the line of a state is kept.
-fn line_spot_of(state: &SmallState) -> usize {
-    (state.line_hash() >> 40) as usize % SPOTS
+// Where the number of the line of a state with this hash of its key is kept.
+fn line_spot_of(seed: u64, state: &SmallState) -> usize {
+    ((seed ^ state.ages_hash()) >> 40) as usize % SPOTS
 }
 
 // Whether the state of a number is no worse than a state along its line.
@@ -102,19 +108,38 @@ fn has_no_better(lines: &[SmallState], number: u32, state: &SmallState) -> bool
     }
 }
 
-// Keeps a cell at a spot. Where there are none yet, it is kept at each.
-fn keep_cell(cells: &mut Vec<Cell>, spot: usize, cell: Cell) -> Result<(), AllocError>
+// Makes as many cells again. What stood at a spot stands at both that one more bit of a hash tells apart.
+fn double_cells(cells: &mut Vec<Cell>) -> Result<(), AllocError>
+    ensures { (test : Cell → Bool) → list_any test cells.new.items ≡ true → list_any test cells.old.items ≡ true }
+{
+    let same = cells.as_slice().to_vec(*cells.allocator())?;
+    cells.extend_from_slice(same.as_slice())?;
+    Ok(())
+}
+
+// Makes more cells where there are few for so many states. The first ones all tell what this cell tells.
+fn make_cells(cells: &mut Vec<Cell>, reached: usize, cell: Cell) -> Result<(), AllocError>
     ensures { (test : Cell → Bool) → list_any test cells.new.items ≡ true →
         (list_any test cells.old.items ≡ true) ⊎ (test cell ≡ true) }
 {
     if cells.is_empty() {
-        *cells = vec![in *cells.allocator(); cell; CELLS]?;
+        *cells = vec![in *cells.allocator(); cell; FIRST_CELLS]?;
         return Ok(());
     }
+    if cells.len() < MOST_CELLS && reached > cells.len() / 4 {
+        double_cells(cells)?;
+    }
+    Ok(())
+}
+
+// Keeps a cell at a spot.
+fn put_cell(cells: &mut Vec<Cell>, spot: usize, cell: Cell)
+    ensures { (test : Cell → Bool) → list_any test cells.new.items ≡ true →
+        (list_any test cells.old.items ≡ true) ⊎ (test cell ≡ true) }
+{
     if spot < cells.len() {
         cells[spot] = cell;
     }
-    Ok(())
 }
 
 // Keeps the number of a line at a spot. Where there are none yet, it is kept at each.
@@ -142,29 +167,40 @@ impl Cell {
 }
 
 impl Line<'_> {
-    // Whether a line is that of states no worse.
+    // Whether a line is that of states no worse. The last one that is tells it of the next that asks.
     #[inline]
-    fn has_no_worse(&self, number: u32, state: &SmallState) -> bool
-        requires { IsLineOf self.now state.now }
-        ensures { result ≡ true → has_no_worse_of self.now.marks.now.lines number state.now ≡ true }
+    fn has_no_worse(&mut self, number: u32, state: &SmallState) -> bool
+        requires { IsLineOf self.old state.now }
+        ensures line { IsLineOf self.new state.now }
+        ensures marks { self.new.marks ≡ self.old.marks }
+        ensures told { result ≡ true → has_no_worse_of self.old.marks.now.lines number state.now ≡ true }
     {
-        self.number == Some(number) || self.marks.has_no_worse(number, state)
+        if self.number == Some(number) {
+            return true;
+        }
+        if !self.marks.has_no_worse(number, state) {
+            return false;
+        }
+        self.number = Some(number);
+        true
     }
 
     /// Whether a state no worse than that of the line at a place and with a fitness was reached at a lower cost, as far
     /// as that is remembered. No memory is taken.
     #[inline]
     pub fn is_outdone(
-        &self,
+        &mut self,
         state: &SmallState,
         place: Place,
         fitness: Option<u8>,
         cost: i128,
     ) -> bool
-        requires { IsLineOf self.now state.now }
-        ensures { result ≡ true → is_marked self.now.marks.now (along state.now place fitness) cost ≡ true }
+        requires { IsLineOf self.old state.now }
+        ensures line { IsLineOf self.new state.now }
+        ensures marks { self.new.marks ≡ self.old.marks }
+        ensures told { result ≡ true → is_marked self.old.marks.now (along state.now place fitness) cost ≡ true }
     {
-        match self.marks.cell_at(spot_of(self.seed, place)) {
+        match self.marks.cell_at(spot_of(self.seed, place, self.mask)) {
             None => false,
             Some(cell) => {
                 cell.is_lower(place, fitness, cost) && self.has_no_worse(cell.line, state)
@@ -191,11 +227,11 @@ impl PageMarks {
         has_no_worse(self.lines.as_slice(), number, state)
     }
 
-    // The number of a line no worse than that of a state, where it is found.
-    fn number_of(&self, state: &SmallState) -> Option<u32>
+    // The number of a line no worse than that of a state with this hash of its key, where it is found.
+    fn number_of(&self, seed: u64, state: &SmallState) -> Option<u32>
         ensures { IfSome result (λ number. has_no_worse_of self.now.lines number state.now ≡ true) }
     {
-        let number = *self.numbers.get(line_spot_of(state))?;
+        let number = *self.numbers.get(line_spot_of(seed, state))?;
         if !has_no_worse(self.lines.as_slice(), number, state) {
             return None;
         }
@@ -207,18 +243,20 @@ impl PageMarks {
         ensures marks { result.marks.now ≡ self.now }
         ensures line { IsLineOf result state.now }
     {
+        let seed = state.key_hash();
         Line {
             marks: self,
-            number: self.number_of(state),
-            seed: state.key_hash(),
+            number: self.number_of(seed, state),
+            seed,
+            mask: self.mask,
         }
     }
 
-    // The number of a line no better than that of a state, where it is found.
-    fn number_behind(&self, state: &SmallState) -> Option<u32>
+    // The number of a line no better than that of a state with this hash of its key, where it is found.
+    fn number_behind(&self, seed: u64, state: &SmallState) -> Option<u32>
         ensures { IfSome result (λ number. has_no_better_of self.now.lines number state.now ≡ true) }
     {
-        let number = *self.numbers.get(line_spot_of(state))?;
+        let number = *self.numbers.get(line_spot_of(seed, state))?;
         if !has_no_better(self.lines.as_slice(), number, state) {
             return None;
         }
@@ -236,38 +274,42 @@ impl PageMarks {
         }
     }
 
-    // Adds the line of a state.
-    fn add_line(&mut self, state: &SmallState) -> Result<u32, AllocError>
+    // Adds the line of a state with this hash of its key.
+    fn add_line(&mut self, seed: u64, state: &SmallState) -> Result<u32, AllocError>
         requires { length self.old.lines < 2 ^ 12 }
         ensures line { IfOk result (λ number. has_no_better_of self.new.lines number state.now ≡ true) }
         ensures kept { (v : State) (c : ℤ) → is_marked self.new v c ≡ true → is_marked self.old v c ≡ true }
     {
         let number = self.lines.len() as u32;
         let line = state.copy(*self.lines.allocator())?;
-        keep_number(&mut self.numbers, line_spot_of(state), number)?;
+        keep_number(&mut self.numbers, line_spot_of(seed, state), number)?;
         self.lines.push(line)?;
         Ok(number)
     }
 
-    // The number of a line no better than that of a state, which is added where it is not found.
-    fn find_line(&mut self, state: &SmallState) -> Result<u32, AllocError>
+    // The number of a line no better than that of a state with this hash of its key, which is added where it is not found.
+    fn find_line(&mut self, seed: u64, state: &SmallState) -> Result<u32, AllocError>
         ensures line { IfOk result (λ number. has_no_better_of self.new.lines number state.now ≡ true) }
         ensures kept { (v : State) (c : ℤ) → is_marked self.new v c ≡ true → is_marked self.old v c ≡ true }
     {
-        if let Some(number) = self.number_behind(state) {
+        if let Some(number) = self.number_behind(seed, state) {
             return Ok(number);
         }
         self.make_room();
-        self.add_line(state)
+        self.add_line(seed, state)
     }
 
-    // Remembers that the state was reached that a cell tells of.
-    fn keep(&mut self, spot: usize, cell: Cell) -> Result<(), AllocError>
+    // Remembers that a state with this hash of its key was reached, of which a cell tells.
+    fn keep(&mut self, seed: u64, cell: Cell) -> Result<(), AllocError>
         requires { cell.line < length self.old.lines }
         ensures { (v : State) (c : ℤ) → is_marked self.new v c ≡ true →
             (is_marked self.old v c ≡ true) ⊎ (tells self.old.lines v c cell ≡ true) }
     {
-        keep_cell(&mut self.cells, spot, cell)
+        make_cells(&mut self.cells, self.reached, cell)?;
+        self.mask = self.cells.len().wrapping_sub(1);
+        let spot = spot_of(seed, cell.place, self.mask);
+        put_cell(&mut self.cells, spot, cell);
+        Ok(())
     }
 }
 
@@ -285,19 +327,21 @@ impl Marking<SmallState> for PageMarks {
             lines: Vec::new(alloc),
             numbers: Vec::new(alloc),
             cells: Vec::new(alloc),
+            mask: 0,
             reached: 0,
         }
     }
 
     fn mark(&mut self, state: &SmallState, cost: i128) -> Result<(), AllocError> {
+        self.reached = self.reached.saturating_add(1);
         if self.reached < REACHED_BEFORE {
-            self.reached += 1;
             return Ok(());
         }
         let Ok(cost) = i64::try_from(cost) else {
             return Ok(());
         };
-        let line = self.find_line(state)?;
+        let seed = state.key_hash();
+        let line = self.find_line(seed, state)?;
         let place = state.place();
         let cell = Cell {
             cost,
@@ -305,7 +349,7 @@ impl Marking<SmallState> for PageMarks {
             line,
             fitness: state.fitness(),
         };
-        self.keep(spot_of(state.key_hash(), place), cell)?;
+        self.keep(seed, cell)?;
         Ok(())
     }
 }

@@ -3,6 +3,7 @@ use Rattle.std.specs.Prelude.{ℤ, nat_abs}
 use Rattle.std.proofs.lemmas.Int.{to_z-of_z}
 use mir.Syntax.{w128}
 use mir.Val.{SFits, of_z, to_z}
+use Rattle.pg_small.specs.Parts.{whole}
 use Rattle.pg_moves.proofs.Built.{behind_is}
 use Rattle.pg_moves.proofs.behind.first_behind.Goals as goal
 
@@ -10,7 +11,7 @@ pub returns-clause-behind : goal.returns-clause-behind
 returns-clause-behind g c =
     let fits : SFits w128 c.page_price-page.result = search rules in
     behind_is c.args.sources.now.style.now c.args.state.now c.args.laid.now c.args.settled.now
-    c.args.state.now.place None c.in_ok-next.next c.in_ok-small.small
+    c.args.state.now.place None (whole c.parts_behind-next.result) c.in_ok-small.small
     (to_z w128 (of_z w128 c.page_price-page.result)) c.tail_of-tail.result c.reached_at-reached.result
     (search rules) (search rules)
     (subst (λ (page : ℤ). nat_abs page ≤ 2 ^ 52) (sym (to_z-of_z w128 c.page_price-page.result fits))

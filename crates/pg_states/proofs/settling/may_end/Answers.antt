@@ -1,4 +1,4 @@
-use Rattle.std.proofs.Common.{◌≡◌, ◌∙◌, ap, Bool}
+use Rattle.std.proofs.Common.{◌≡◌, ◌∙◌, ap}
 use Rattle.std.specs.Prelude.{◌&&◌}
 use Rattle.law_moves.specs.Listed.{calls_all, flushes_all, may_begin}
 use Rattle.pg_sources.specs.Document.{doc_of}

@@ -1,9 +1,9 @@
 use Rattle.std.proofs.Common.{length}
-use Rattle.pg_moves.specs.Outdone.{AreLeft}
+use Rattle.pg_moves.specs.Outdone.{IsSkipping}
 use Rattle.pg_moves.proofs.behind.Behind.skip_outdone.Given as goal
 
 abbrev pub invariant-ends : goal.invariant-ends
-invariant-ends l = AreLeft l.style l.state l.self l.ends l.rest
+invariant-ends l = IsSkipping l.style l.state l.self l.ends l.reached l.rest
 
 abbrev pub decreases-ends : goal.decreases-ends
 decreases-ends l = length l.rest
