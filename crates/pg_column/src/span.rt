@@ -132,16 +132,6 @@ fn names_variants(galley: &Galley, from: Place, picks: &[u32]) -> bool
     are_named(from_block(blocks_of(galley), from), picks)
 }
 
-// Whether the text from a place to another fits.
-fn fits_at(galley: &Galley, from: Place, picks: &[u32], to: Place) -> bool
-    ensures { result ≡ does_fit_from galley.now.blocks from picks.now to }
-{
-    if !names_variants(galley, from, picks) {
-        return false;
-    }
-    leads(galley, from, picks, to)
-}
-
 /// Whether the text from a place to another fits a galley with these picks: the second place follows the first, and
 /// there is a pick for each choice that begins between them, which names a variant of it.
 ///
@@ -151,7 +141,10 @@ pub fn fits_from(galley: &Galley, from: Place, picks: &[u32], to: Place) -> bool
     ensures column { (it : ColumnContext) → it.document.blocks ≡ galley.now.blocks → it.column.from ≡ from →
         it.column.to ≡ to → it.column.picks ≡ picks.now → result ≡ does_fit it }
 {
-    fits_at(galley, from, picks, to)
+    if !names_variants(galley, from, picks) {
+        return false;
+    }
+    leads(galley, from, picks, to)
 }
 
 /// `fits_from` of a span.
@@ -160,5 +153,5 @@ pub fn fits(galley: &Galley, span: &Span) -> bool
     ensures column { (it : ColumnContext) → it.document.blocks ≡ galley.now.blocks → HasSpan it span.now →
         result ≡ does_fit it }
 {
-    fits_at(galley, span.from, span.picks.as_slice(), span.to)
+    fits_from(galley, span.from, span.picks.as_slice(), span.to)
 }

@@ -44,7 +44,8 @@ pub record IsLowered (NoWorse : State → State → Type 0) (labels : List Label
   pub no_worse : NoWorse label.state state
   pub cheaper : label.cost <ℤ cost
 
--- of each state that is remembered there is a label that is no worse and costs less
+-- of each state that is remembered there is a label that is no worse and costs less; it speaks of a list and of the
+-- trait's own relation, so that the law of the space comes in once, where moves are offered
 pub record AreMarksOf (NoWorse : State → State → Type 0) (labels : List Label) (outdone : State → ℤ → Bool) : Type 0 where
   pub known : (state : State) (cost : ℤ) → outdone state cost ≡ true → IsLowered NoWorse labels state cost
 

@@ -177,14 +177,6 @@ fn split_lines<'a>(alloc: Global, text: &'a [u8]) -> Result<Vec<&'a [u8]>, Alloc
     Ok(lines)
 }
 
-// The drawing of a text.
-fn read_text(alloc: Global, text: &[u8]) -> Result<Drawing, AllocError>
-    ensures { IfOk result (λ drawing. drawing ≡ drawing_of text.now) }
-{
-    let lines = split_lines(alloc, text)?;
-    read_lines(alloc, lines.as_slice())
-}
-
 /// The drawing of a page text: of each page its columns, and of each area a mark for each item line, in order, from its
 /// top on without gaps. It is the drawing of any bytes; what is no line of a page text has no part in it. The only
 /// refusal is for want of memory.
@@ -192,5 +184,6 @@ pub fn read_drawing(alloc: Global, text: &[u8]) -> Result<Drawing, AllocError>
     ensures drawing { IfOk result (λ drawing. drawing ≡ drawing_of text.now) }
     ensures faithful { IfOk result IsFaithfulDrawing }
 {
-    read_text(alloc, text)
+    let lines = split_lines(alloc, text)?;
+    read_lines(alloc, lines.as_slice())
 }

@@ -85,18 +85,11 @@ fn is_total(sum: &Sum, total: &i64) -> bool
         })
 }
 
-// Whether the marks of a text add up to this total.
-fn has_total(marks: &[Mark], total: &i64) -> bool
-    ensures { result ≡ adds_up_so marks.now total.now }
-{
-    is_total(&sum_of(marks), total)
-}
-
 /// Whether the marks of a text add up to this total, whatever depth is allowed below the last. It takes each total that
 /// some limit of the depth makes.
 pub fn adds_up(marks: &[Mark], total: &i64) -> bool
     ensures value { result ≡ adds_up_so marks.now total.now }
     ensures takes { IsTotal marks.now total.now → result ≡ true }
 {
-    has_total(marks, total)
+    is_total(&sum_of(marks), total)
 }

@@ -30,20 +30,13 @@ fn entry(counts: &Counts, slot: usize) -> usize
     }
 }
 
-fn summed(callouts: &[Callout]) -> u64
-    requires { length callouts.now ≤ 2 ^ 16 }
-    ensures { result ≡ sizes_together callouts.now }
-{
-    callouts.iter().map(|callout| callout.size as u64).sum()
-}
-
 fn together(callouts: &[Callout]) -> u64
     requires range { AllByRecursion IsInRange callouts.now }
     requires few { length callouts.now ≤ 2 ^ 16 }
     ensures value { result ≡ sizes_together callouts.now }
     ensures size { result ≤ 2 ^ 30 * length callouts.now }
 {
-    summed(callouts)
+    callouts.iter().map(|callout| callout.size as u64).sum()
 }
 
 // The next floats of a class. None where it has not so many.

@@ -85,7 +85,8 @@ module _ (g : GalleyValue) (s : StyleValue) (range : AreInRange g s) where
         ((e : Entry State PageMove) → slice_get es at ≡ Some e → RunOf es e ms) → Begins g s es at (plan_of s ms)
     begins at ms of e is = begins_of e ms (contains_at es at e is) (of e is)
 
-    -- each beginning ends where some label stands
+    -- each beginning ends where some label stands; no list in order is needed: the best run betters it, a label covers that
+    -- one, and no worse is at the same place
     reaches : (plan : Pagination) → Prefix g s plan →
         (e : Entry State PageMove) × (Contains es e × (e.state.place ≡ (state_of g s plan).place))
     reaches plan prefix =

@@ -101,6 +101,7 @@ impl Sums {
     }
 
     /// Takes other totals, as those of so many more items.
+    // `bounded` is a condition: the body owes the invariant, which a premise of a clause does not serve.
     pub fn take_totals(&mut self, totals: Totals, more: u32)
         requires few { self.old.count + more ≤ 2 ^ 20 }
         requires bounded { IsBounded totals (self.old.count + more) }
