@@ -10,3 +10,4 @@ pub mod TooLow
 pub mod Ordered
 pub mod Handed
 pub mod Plain
+pub mod Alone

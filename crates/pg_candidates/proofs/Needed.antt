@@ -21,10 +21,11 @@ use Rattle.law_walk.proofs.Complete.{among_left, among_right}
 use Rattle.law_walk.proofs.Ends.{kept_listed, kept_of}
 use Rattle.pg_column.specs.declared.cost.TextRoom.{TextRoom}
 use Rattle.pg_candidates.specs.Nears.{IsWithin, AreNear, IsHopelessFrom, IsNear, IsNearIn, IsServedFrom, IsWorst, NearValue, NearsValue, Suffice, is_needed, kind_at, needed_in, needed_of, one_at}
-use Rattle.pg_candidates.specs.Seen.{AreSeen, AreServed, HasServer, IsLeading}
+use Rattle.pg_candidates.specs.Seen.{AreSeen, AreServed, AreServedBefore, HasServer, IsLeading}
 use Rattle.pg_candidates.specs.View.{candidate_of}
 use Rattle.pg_candidates.specs.declared.candidate.Candidate.{Candidate as CandidateParts}
-use Rattle.pg_candidates.specs.declared.making.First.{First}
+use Rattle.pg_candidates.specs.declared.until.First.{First}
+use Rattle.pg_candidates.proofs.Ordered.{one_added}
 
 -- ---- the best of those that suffice
 
@@ -309,16 +310,47 @@ best_of_near doc most room cs it bs near within best =
     (subst (λ (ds : List Candidate). AllByRecursion (IsNearIn doc most ds) it.nears →
     AreBest (text_ends doc room (needed_in room.size ds it.nears)) bs) near.same best near.right)
 
--- made of slices that hold these
-pub near_made : (doc : Document) (most : ℤ) (cs : List Candidate) (ps qs : List CandidateParts) (order is : List ℕ)
-    (nears : List NearValue) → map candidate_of ps ≡ cs → map candidate_of qs ≡ cs → is ≡ order →
-    ((i : ℕ) → i < length ps → IsAmong i order) → AreServed doc most (map candidate_of qs) is nears →
+-- one after another, as they stand
+pub none_served : (doc : Document) (most : ℤ) (cs : List Candidate) → AreServedBefore doc most cs 0 []
+none_served doc most cs = record {
+  seen = [];
+  all = λ i less. absurd (omega (arith, less));
+  are = record { right = tt; served = λ i c room gives a there keeps. absurd a };
+}
+
+seen_up_to : (seen : List ℕ) (n : ℕ) → ((i : ℕ) → i < n → IsAmong i seen) → (i : ℕ) → i < n + 1 →
+    IsAmong i (seen ++ n ∷ [])
+seen_up_to seen n all = one_added seen (seen ++ n ∷ []) n all (record {
+  there = among_right n seen (n ∷ []) (inl refl);
+  stay = λ k m. among_left k seen (n ∷ []) m;
+})
+
+module _ (doc : Document) (most : ℤ) (cs : List Candidate) (n : ℕ) (nears : List NearValue)
+    (h : AreServedBefore doc most cs n nears) where
+  pub served_missing : slice_get cs n ≡ None → AreServedBefore doc most cs (n + 1) nears
+  served_missing none = record {
+    seen = h.seen ++ n ∷ [];
+    all = seen_up_to h.seen n h.all;
+    are = served_none doc most cs h.seen nears n h.are none;
+  }
+
+  pub served_next : (near : NearValue) → near.at ≡ n → (c : Candidate) → slice_get cs n ≡ Some c →
+      IsNear doc most c near → IfSome near.until (IsHopelessFrom doc most c) →
+      AreServedBefore doc most cs (n + 1) (nears ++ near ∷ [])
+  served_next near at_is c there is until =
+      let own : First = record { at = n; kind = kind_at doc.blocks c.to; worst = None } in
+      let seen = seen_first doc most cs h.seen nears n None (record { served = h.are; leading = tt }) near at_is c there own refl
+      refl tt is until in
+      record { seen = h.seen ++ n ∷ []; all = seen_up_to h.seen n h.all; are = seen.served }
+
+-- made of a slice that holds these
+pub near_made : (doc : Document) (most : ℤ) (cs : List Candidate) (ps : List CandidateParts) (nears : List NearValue) →
+    map candidate_of ps ≡ cs → AreServedBefore doc most (map candidate_of ps) (length ps) nears →
     AreNear doc most cs (record { candidates = cs; nears = nears })
-near_made doc most cs ps qs order is nears p q e all are =
-    near_all doc most cs order nears
-    (λ i less. all i (subst (λ (n : ℕ). i < n) (sym (ap length p) ∙ length-map ps candidate_of) less))
-    (subst (λ (xs : List Candidate). AreServed doc most xs order nears) q
-    (subst (λ (js : List ℕ). AreServed doc most (map candidate_of qs) js nears) e are))
+near_made doc most cs ps nears p h =
+    near_all doc most cs h.seen nears
+    (λ i less. h.all i (subst (λ (n : ℕ). i < n) (sym (ap length p) ∙ length-map ps candidate_of) less))
+    (subst (λ (xs : List Candidate). AreServed doc most xs h.seen nears) p h.are)
 
 -- one more of a list, whatever stands for what is not there
 pub next_at : {X : Type 0} (xs : List X) (k : ℕ) (d : X) → k < length xs → take (k + 1) xs ≡ take k xs ++ get_or xs k d ∷ []

@@ -1,6 +1,6 @@
 -- What is too short for one room is too short for each greater one.
-use Rattle.std.proofs.Common.{◌≡◌, refl, sym, ap, ◌∙◌, ℕ, ◌+◌, ◌*◌, ◌≤◌, ◌<◌, arith, Bool, true, false, Option, Some, None, ℤ, pos, negsuc, ◌≤ℤ◌, ◌<ℤ◌, ◌+ℤ◌, ◌-ℤ◌}
-use Rattle.std.specs.Prelude.{◌/◌, ◌==◌, ◌&&◌, ◌||◌, not, if◌then◌else◌, int_le, int_lt, nat_le, nat_lt, unwrap_or}
+use Rattle.std.proofs.Common.{◌≡◌, refl, sym, ap, ◌∙◌, ℕ, ◌+◌, ◌*◌, ◌≤◌, ◌<◌, arith, Bool, true, false, Option, Some, None, IfSome, ℤ, pos, negsuc, ◌≤ℤ◌, ◌<ℤ◌, ◌+ℤ◌, ◌-ℤ◌, ◌^◌}
+use Rattle.std.specs.Prelude.{◌/◌, ◌==◌, ◌&&◌, ◌||◌, not, if◌then◌else◌, int_le, int_lt, nat_abs, nat_le, nat_lt, unwrap_or}
 use Rattle.std.proofs.lemmas.Int.{ints}
 use Rattle.std.proofs.lemmas.Nat.{le-div, mul-le}
 use Rattle.std.proofs.Math.Nat.{div-mul-le_self, mul-le-mul_left}
@@ -9,6 +9,7 @@ use Rattle.pg_column.specs.Numbers.{badness_for, give_by, goal_by, most_room}
 use Rattle.pg_column.specs.declared.cost.TextRoom.{TextRoom}
 use Rattle.pg_notes.specs.NotesValue.{skips}
 use Rattle.pg_style.specs.Values.{StyleValue}
+use Rattle.pg_style.specs.declared.style.Give.{Give}
 use Rattle.pg_column.specs.Passed.{fits}
 use Rattle.pg_list.specs.Badness.{badness, cubed, is_over, ratio}
 use Rattle.pg_lemmas.proofs.Bools.{if_false, if_true}
@@ -16,7 +17,7 @@ use Rattle.pg_rules.specs.Room.{Document}
 use Rattle.pg_sums.specs.Step.{badness_by, has_infinite}
 use Rattle.pg_sums.specs.declared.totals.Totals.{Totals}
 use Rattle.law_walk.specs.Candidates.{Candidate, cost_in, is_over_in, keeps_text}
-use Rattle.pg_candidates.specs.Nears.{IsWithin, IsWorst}
+use Rattle.pg_candidates.specs.Nears.{IsWithin, IsWorst, IsWorstGoal}
 
 -- ---- the badness
 
@@ -211,3 +212,10 @@ no_end_in doc most room c le forced spent strict w =
     spoilt (place_forced doc.blocks c.to) _ (not (is_over_in doc.style room c.passed))
     (fits c.passed.bound (most_room room)) forced
     (ap (λ (n : ℕ). nat_le n doc.style.tolerance) here ∙ none)
+
+-- ---- a goal at which it is the worst
+
+pub goal_small : (style : StyleValue) (most : ℤ) (totals : Totals) (given : Give) (o : Option ℤ) →
+    IfSome o (IsWorstGoal style most totals given) → IfSome o (λ (goal : ℤ). nat_abs goal < 2 ^ 52)
+goal_small style most totals given None w = tt
+goal_small style most totals given (Some goal) w = w.size

@@ -1,5 +1,5 @@
 -- The least room for a column to a candidate's end.
-use Rattle.std.proofs.Common.{◌≡◌, refl, sym, ap, ◌∙◌, subst, List, [], ◌∷◌, ◌++◌, arith, Bool, true, false, Option, Some, None, ℤ, ◌<ℤ◌}
+use Rattle.std.proofs.Common.{◌≡◌, refl, sym, ap, ◌∙◌, subst, List, [], ◌∷◌, ◌++◌, arith, Bool, true, false, Option, Some, None, ℤ, ◌<ℤ◌, ◌≤ℤ◌}
 use Rattle.std.specs.Prelude.{◌&&◌, ◌||◌, not, if◌then◌else◌, int_le, nat_le, slice_get}
 use Rattle.std.proofs.lemmas.Int.{ints}
 use Rattle.pg_breaks.specs.Near.{place_forced}
@@ -10,7 +10,7 @@ use Rattle.pg_column.proofs.Passing.{fits_raised, over_least}
 use Rattle.pg_column.specs.declared.end.End.{End}
 use Rattle.pg_hops.specs.Needs.{AreNeeds}
 use Rattle.pg_hops.specs.declared.needs.Needs.{Needs}
-use Rattle.pg_lemmas.proofs.Bools.{if_false}
+use Rattle.pg_lemmas.proofs.Bools.{both_of, if_false}
 use Rattle.pg_rules.specs.Room.{Document}
 use Rattle.law_walk.specs.Best.{AreBest}
 use Rattle.law_walk.specs.Candidates.{Candidate, cost_in, has_text, is_over_in, keeps_text, kept_ends, text_ends}
@@ -39,6 +39,18 @@ least_is doc c least own is whole room =
 bound_both : (o : Option ℤ) (least own : ℤ) → raised o least ≡ Some own → (z : ℤ) →
     int_le own z ≡ (fits o z && int_le least z)
 bound_both o least own e z = ap (λ (p : Option ℤ). fits p z) (sym e) ∙ fits_raised o least z
+
+-- a raised bound is not below either
+module _ (o : Option ℤ) (least own : ℤ) (e : raised o least ≡ Some own) where
+  not_below : (fits o own && int_le least own) ≡ true
+  not_below = let same : int_le own own ≡ true = grind (arith, ints) in sym (bound_both o least own e own) ∙ same
+
+  pub raised_fits : fits o own ≡ true
+  raised_fits = (both_of (fits o own) (int_le least own) not_below).0
+
+  pub raised_above : least ≤ℤ own
+  raised_above = let up : int_le least own ≡ true = (both_of (fits o own) (int_le least own) not_below).1 in
+      grind (arith, ints, up)
 
 -- the bound past a break at its end
 pub needs_least : (doc : Document) (c : Candidate) (needs : Needs) → AreNeeds doc.style c.passed needs →

@@ -5,3 +5,4 @@ pub mod Nears
 pub mod Seen
 pub mod Groups
 pub mod Taken
+pub mod Alone

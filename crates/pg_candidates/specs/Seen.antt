@@ -1,12 +1,12 @@
 -- What is known of candidates while they are gone through one after another.
-use Rattle.std.specs.Prelude.{◌≡◌, ℕ, true, List, Option, Some, IfSome, ℤ, slice_get}
+use Rattle.std.specs.Prelude.{◌≡◌, ◌<◌, ℕ, true, List, Option, Some, IfSome, ℤ, slice_get}
 use Rattle.std.specs.List.{AllByRecursion}
 use Rattle.pg_rules.specs.Room.{Document}
 use Rattle.pg_column.specs.declared.cost.TextRoom.{TextRoom}
 use Rattle.law_walk.specs.Best.{IsAmong}
 use Rattle.law_walk.specs.Candidates.{Candidate, keeps_text}
 use Rattle.pg_candidates.specs.Nears.{IsNearIn, IsWithin, IsWorst, NearValue, Serves, kind_at, needed_in}
-use Rattle.pg_candidates.specs.declared.making.First.{First}
+use Rattle.pg_candidates.specs.declared.until.First.{First}
 
 -- one of the candidates serves for this one
 pub record HasServer (doc : Document) (room : TextRoom) (cs : List Candidate) (c : Candidate) : Type 0 where
@@ -19,6 +19,12 @@ pub record AreServed (doc : Document) (most : ℤ) (cs : List Candidate) (seen :
   pub right : AllByRecursion (IsNearIn doc most cs) nears
   pub served : (i : ℕ) (c : Candidate) (room : TextRoom) → IsWithin most room → IsAmong i seen →
       slice_get cs i ≡ Some c → keeps_text doc room c ≡ true → HasServer doc room (needed_in room.size cs nears) c
+
+-- so it is for all that stand before an index
+pub record AreServedBefore (doc : Document) (most : ℤ) (cs : List Candidate) (n : ℕ) (nears : List NearValue) : Type 0 where
+  pub seen : List ℕ
+  pub all : (i : ℕ) → i < n → IsAmong i seen
+  pub are : AreServed doc most cs seen nears
 
 -- the first candidate of a place, with a size of a room in which its badness is the worst; it is needed in each room where
 -- it keeps the rules on its text

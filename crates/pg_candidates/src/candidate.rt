@@ -1,8 +1,8 @@
 //! A candidate, and a list of them.
 ghost use Rattle.std.specs.Prelude.{◌≡◌, ◌++◌, ◌∷◌, [], IfOk, OnOk, map};
-ghost use Rattle.pg_candidates.specs.View.{candidate_of};
+ghost use Rattle.pg_candidates.specs.View.{candidate_of, end_of};
 
-use crate::taking::TakesEnds;
+use crate::taking::{TakesEnds, WalkEnd};
 use pg_hops::{Needs, Passed};
 use pg_list::Place;
 use pg_plan::Picks;
@@ -22,6 +22,20 @@ pub struct Candidate {
     pub picks: Rc<Picks>,
     pub passed: Passed,
     pub pick_demerits: i64,
+}
+
+impl Candidate {
+    /// The end of which it was made.
+    pub(crate) fn as_end(&self) -> WalkEnd<'_>
+        ensures { end_of result ≡ candidate_of self.now }
+    {
+        WalkEnd {
+            to: self.to,
+            passed: &self.passed,
+            picks: &self.picks,
+            demerits: self.pick_demerits,
+        }
+    }
 }
 
 /// Candidates from one place.
@@ -88,20 +102,12 @@ impl TakesEnds for CandidateList {
     }
 
     #[inline(always)]
-    fn take(
-        &mut self,
-        _style: &Style,
-        to: Place,
-        passed: &Passed,
-        _needs: &Needs,
-        picks: &Rc<Picks>,
-        demerits: i64,
-    ) -> Result<(), AllocError> {
+    fn take(&mut self, _style: &Style, _needs: &Needs, end: &WalkEnd) -> Result<(), AllocError> {
         self.push(Candidate {
-            to,
-            picks: Rc::clone(picks)?,
-            passed: *passed,
-            pick_demerits: demerits,
+            to: end.to,
+            picks: Rc::clone(end.picks)?,
+            passed: *end.passed,
+            pick_demerits: end.demerits,
         })
     }
 

@@ -35,21 +35,14 @@ fn penalty_of(item: Option<&Item>) -> i32
     }
 }
 
-// Whether the break at a place is forced, where its item may force one. Few do.
-#[inline(never)]
-fn forces(galley: &Galley, at: Place) -> bool
-    ensures { result ≡ place_forced galley.now.blocks at }
-{
-    is_forced(galley, at)
-}
-
 // Whether the break at a place with this item is forced. Few items force one, and the others tell it alone.
+#[inline(always)]
 fn is_forced_by(galley: &Galley, at: Place, item: Option<&Item>) -> bool
     requires { option_copied item ≡ item_at_of galley.now.blocks at }
     ensures { result ≡ place_forced galley.now.blocks at }
 {
     match item {
-        Some(item) => is_forcing(item) && forces(galley, at),
+        Some(item) => is_forcing(item) && is_forced(galley, at),
         None => true,
     }
 }

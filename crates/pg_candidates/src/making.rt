@@ -1,35 +1,29 @@
 //! What no room changes, worked out candidate by candidate: also the numbers, but for the goal, of an end that is far too
 //! short.
-ghost use Rattle.std.specs.Prelude.{◌≡◌, ◌++◌, ◌∷◌, ◌<◌, ◌≤◌, ◌^◌, [], IfOk, IfSome, List, Some, map, nat_abs, slice_get, true, ℕ};
+ghost use Rattle.std.specs.Prelude.{◌≡◌, ◌+◌, ◌++◌, ◌∷◌, ◌<◌, ◌≤◌, ◌^◌, [], IfOk, IfSome, List, OnOk, Some, length, map, nat_abs, slice_get, true, ℕ, ℤ};
 ghost use Rattle.pg_list.specs.GalleyValue.{GalleyValue};
-ghost use Rattle.pg_notes.specs.NotesValue.{skips};
+ghost use Rattle.pg_style.specs.Values.{StyleValue};
+ghost use Rattle.pg_hops.specs.Needs.{AreNeeds};
+ghost use Rattle.pg_hops.specs.View.{view};
 ghost use Rattle.pg_rules.specs.Legal.{document};
 ghost use Rattle.law_walk.specs.Candidates.{Candidate as ACandidate};
-ghost use Rattle.pg_candidates.specs.Nears.{IsHopelessFrom, IsNear, IsServedFrom, IsWorst, IsWorstCost, IsWorstGoal, kind_at as kind_at_of};
-ghost use Rattle.pg_candidates.specs.Seen.{AreSeen, AreServed};
-ghost use Rattle.pg_candidates.specs.View.{candidate_of};
+ghost use Rattle.pg_candidates.specs.Nears.{IsHopelessFrom, IsNear, IsServedFrom, IsWellKept, IsWorst, IsWorstCost, IsWorstGoal, kind_at as kind_at_of};
+ghost use Rattle.pg_candidates.specs.Seen.{AreSeen, AreServed, AreServedBefore};
+ghost use Rattle.pg_candidates.specs.View.{candidate_of, end_of};
 
 use crate::candidate::Candidate;
 use crate::kind::{EndKind, kind_at};
-use crate::least::least_of;
 use crate::near::Near;
-use crate::order::Ranked;
-use crate::until::{room_for, until_alone, until_beside, worst_goal};
+use crate::order::{Ranked, are_rising, in_order};
+use crate::taking::WalkEnd;
+use crate::until::{First, room_for, until_alone, until_beside, worst_goal};
 use pg_column::{TextCost, cost_for};
+use pg_hops::Needs;
 use pg_list::{Galley, Place};
 use pg_scaled::plus;
 use pg_style::{Give, Style};
 use pg_sums::Sums;
 use std::alloc::{AllocError, Global};
-
-// The first candidate of a place, the kind of its end, which all ends there share, and a room in which its badness is the
-// worst, if one was found.
-#[derive(Clone, Copy)]
-struct First {
-    at: usize,
-    kind: EndKind,
-    worst: Option<i64>,
-}
 
 // Whether a candidate's end is at a place.
 fn is_at(candidate: &Candidate, place: Place) -> bool
@@ -52,35 +46,34 @@ fn first_beside(candidates: &[Candidate], first: Option<First>, to: Place) -> Op
     }
 }
 
-// What no room changes of a candidate with the number `at`, whose end is of this kind, not needed from a room on, and has
-// these numbers at a goal at which its badness is the worst.
+// What no room changes of a candidate with the number `at` and these needs, whose end is of this kind, not needed from a room
+// on, and has these numbers at a goal at which its badness is the worst.
 fn near_of(
-    style: &Style,
-    most: &Give,
     at: usize,
     kind: EndKind,
     until: Option<i64>,
     worst: Option<TextCost>,
-    candidate: &Candidate,
+    end: &WalkEnd,
+    needs: &Needs,
 ) -> Near
-    requires { IfSome worst (IsWorstCost style.now most.now.stretch kind candidate.now.passed.sums.totals
-        (skips style.now.classes candidate.now.passed.notes.sums)) }
+    requires { IsWellKept needs.now.notes needs.now.give }
     ensures at { result.at ≡ at }
-    ensures near { (g : GalleyValue) → kind ≡ kind_at_of g.blocks candidate.now.to →
-        IsNear (document g style.now) most.now.stretch (candidate_of candidate.now) result }
+    ensures near { (g : GalleyValue) (style : StyleValue) (most : ℤ) → kind ≡ kind_at_of g.blocks end.now.to →
+        AreNeeds style (view end.now.passed.now) needs.now →
+        IfSome worst (IsWorstCost style most kind end.now.passed.now.sums.totals needs.now.give) →
+        IsNear (document g style) most (end_of end.now) result }
     ensures until { result.until ≡ until }
 {
-    let passed = &candidate.passed;
     Near {
         at,
-        to: candidate.to,
-        sums: passed.sums,
-        notes: passed.notes.height(style),
-        give: passed.notes.give(style),
-        pick_demerits: candidate.pick_demerits,
+        to: end.to,
+        sums: end.passed.sums,
+        notes: needs.notes,
+        give: needs.give,
+        pick_demerits: end.demerits,
         kind,
         until,
-        least: least_of(style, passed),
+        least: needs.bound,
         worst,
     }
 }
@@ -112,47 +105,53 @@ fn worst_cost(
     }
 }
 
-// Of a candidate that is the first of its place, with a goal at which its badness is the worst, if one was found.
+// Of a candidate that is the first of its place, with a goal at which its badness is the worst, if one was found. Where its end
+// is not needed from there on, no numbers are worked out for that.
 fn near_first(
     style: &Style,
     most: &Give,
     first: First,
     goal: Option<i64>,
-    give: &Give,
-    candidate: &Candidate,
+    end: &WalkEnd,
+    needs: &Needs,
 ) -> Near
-    requires goal { IfSome goal (IsWorstGoal style.now most.now.stretch candidate.now.passed.sums.totals give.now) }
-    requires give { give.now ≡ skips style.now.classes candidate.now.passed.notes.sums }
+    requires goal { IfSome goal (IsWorstGoal style.now most.now.stretch end.now.passed.now.sums.totals needs.now.give) }
+    requires needs { AreNeeds style.now (view end.now.passed.now) needs.now }
     requires most { nat_abs most.now.stretch < 2 ^ 40 }
-    requires few { nat_abs give.now.stretch ≤ 2 ^ 34 }
     ensures at { result.at ≡ first.at }
-    ensures near { (g : GalleyValue) → first.kind ≡ kind_at_of g.blocks candidate.now.to →
-        IsNear (document g style.now) most.now.stretch (candidate_of candidate.now) result }
-    ensures until { (g : GalleyValue) → first.kind ≡ kind_at_of g.blocks candidate.now.to →
-        IfSome first.worst (IsWorst style.now most.now.stretch (candidate_of candidate.now)) →
-        IfSome result.until (IsHopelessFrom (document g style.now) most.now.stretch (candidate_of candidate.now)) }
+    ensures near { (g : GalleyValue) → first.kind ≡ kind_at_of g.blocks end.now.to →
+        IsNear (document g style.now) most.now.stretch (end_of end.now) result }
+    ensures until { (g : GalleyValue) → first.kind ≡ kind_at_of g.blocks end.now.to →
+        IfSome first.worst (IsWorst style.now most.now.stretch (end_of end.now)) →
+        IfSome result.until (IsHopelessFrom (document g style.now) most.now.stretch (end_of end.now)) }
 {
     let until = until_alone(style, first.kind, first.worst);
-    let worst = worst_cost(style, most, first.kind, goal, &candidate.passed.sums, give);
-    near_of(style, most, first.at, first.kind, until, worst, candidate)
+    if until.is_some() {
+        return near_of(first.at, first.kind, until, None, end, needs);
+    }
+    let worst = worst_cost(style, most, first.kind, goal, &end.passed.sums, &needs.give);
+    near_of(first.at, first.kind, until, worst, end, needs)
 }
 
-// The room from which on the end of a candidate is not needed beside the first one of its place, if one was found.
+// The room from which on the end of a candidate, of which these are the needs, is not needed beside the first one of its place,
+// if one was found.
 fn until_behind(
     style: &Style,
     most: &Give,
     candidates: &[Candidate],
     first: First,
     candidate: &Candidate,
+    needs: &Needs,
 ) -> Option<i64>
-    requires { nat_abs most.now.stretch < 2 ^ 40 }
+    requires most { nat_abs most.now.stretch < 2 ^ 40 }
+    requires needs { AreNeeds style.now (view candidate.now.passed) needs.now }
     ensures { (g : GalleyValue) (one : ACandidate) → slice_get (map candidate_of candidates.now) first.at ≡ Some one →
         one.to ≡ candidate.now.to → first.kind ≡ kind_at_of g.blocks candidate.now.to →
         IfSome first.worst (IsWorst style.now most.now.stretch one) →
         IfSome result (IsServedFrom (document g style.now) most.now.stretch one (candidate_of candidate.now)) }
 {
     let one = candidates.get(first.at)?;
-    until_beside(style, most, first.kind, first.worst, one, candidate)
+    until_beside(style, most, first, one, candidate, needs)
 }
 
 // Of a candidate behind the first one of its place. Few rooms ask for it where its badness is the worst, so that no numbers
@@ -175,8 +174,9 @@ fn near_behind(
         IfSome first.worst (IsWorst style.now most.now.stretch one) →
         IfSome result.until (IsServedFrom (document g style.now) most.now.stretch one (candidate_of candidate.now)) }
 {
-    let until = until_behind(style, most, candidates, first, candidate);
-    near_of(style, most, at, first.kind, until, None, candidate)
+    let needs = Needs::of(style, &candidate.passed);
+    let until = until_behind(style, most, candidates, first, candidate, &needs);
+    near_of(at, first.kind, until, None, &candidate.as_end(), &needs)
 }
 
 // Whether more than one room may be asked for at a place: the runs, or floats, make rooms of their own.
@@ -186,38 +186,61 @@ fn rooms_vary(style: &Style) -> bool {
 
 // A goal at which the badness of a candidate is the worst, if one is asked for and was found. Where there is one room, nothing
 // else is asked of it.
-fn goal_for(
-    style: &Style,
-    most: &Give,
-    vary: bool,
-    candidate: &Candidate,
-    give: &Give,
-) -> Option<i64>
+fn goal_for(style: &Style, most: &Give, sums: &Sums, give: &Give) -> Option<i64>
     requires most { nat_abs most.now.stretch < 2 ^ 40 }
     requires give { nat_abs give.now.stretch ≤ 2 ^ 34 }
-    ensures { IfSome result (IsWorstGoal style.now most.now.stretch candidate.now.passed.sums.totals give.now) }
+    ensures { IfSome result (IsWorstGoal style.now most.now.stretch sums.now.totals give.now) }
 {
-    if vary {
-        worst_goal(style, most, &candidate.passed.sums, give)
+    if rooms_vary(style) {
+        worst_goal(style, most, sums, give)
     } else {
         None
     }
 }
 
-// The kind of the end of a candidate. A call takes less here than to find it on the spot.
+// The kind of an end. A call takes less here than to find it on the spot.
 #[inline(never)]
-fn kind_of(galley: &Galley, candidate: &Candidate) -> EndKind
-    ensures { result ≡ kind_at_of galley.now.blocks candidate.now.to }
+fn kind_of(galley: &Galley, end: &WalkEnd) -> EndKind
+    ensures { result ≡ kind_at_of galley.now.blocks end.now.to }
 {
-    kind_at(galley, candidate.to)
+    kind_at(galley, end.to)
 }
 
-// The first candidate of its place and what no room changes of it.
-fn first_near(
+// The first candidate of its place, to an end with these needs, and what no room changes of it.
+#[inline(always)]
+pub(crate) fn first_near(
     galley: &Galley,
     style: &Style,
     most: &Give,
-    vary: bool,
+    at: usize,
+    end: &WalkEnd,
+    needs: &Needs,
+) -> (First, Near)
+    requires most { nat_abs most.now.stretch < 2 ^ 40 }
+    requires needs { AreNeeds style.now (view end.now.passed.now) needs.now }
+    ensures first { result.0.at ≡ at }
+    ensures kind { result.0.kind ≡ kind_at_of galley.now.blocks end.now.to }
+    ensures worst { IfSome result.0.worst (IsWorst style.now most.now.stretch (end_of end.now)) }
+    ensures at { result.1.at ≡ at }
+    ensures near { IsNear (document galley.now style.now) most.now.stretch (end_of end.now) result.1 }
+    ensures until { IfSome result.1.until (IsHopelessFrom (document galley.now style.now) most.now.stretch
+        (end_of end.now)) }
+{
+    let goal = goal_for(style, most, &end.passed.sums, &needs.give);
+    let first = First {
+        at,
+        kind: kind_of(galley, end),
+        worst: room_for(needs.notes, goal),
+    };
+    let near = near_first(style, most, first, goal, end, needs);
+    (first, near)
+}
+
+// The first candidate of its place and what no room changes of it.
+fn first_of(
+    galley: &Galley,
+    style: &Style,
+    most: &Give,
     at: usize,
     candidate: &Candidate,
 ) -> (First, Near)
@@ -230,49 +253,49 @@ fn first_near(
     ensures until { IfSome result.1.until (IsHopelessFrom (document galley.now style.now) most.now.stretch
         (candidate_of candidate.now)) }
 {
-    let give = candidate.passed.notes.give(style);
-    let goal = goal_for(style, most, vary, candidate, &give);
-    let first = First {
-        at,
-        kind: kind_of(galley, candidate),
-        worst: room_for(style, most, candidate, goal),
-    };
-    let near = near_first(style, most, first, goal, &give, candidate);
-    (first, near)
+    let needs = Needs::of(style, &candidate.passed);
+    first_near(galley, style, most, at, &candidate.as_end(), &needs)
 }
 
-// Adds what no room changes of the candidate that is told, and answers which is the first of its place.
+// What no room changes of the candidates so far, and the first one of the last place.
+#[derive(Drop)]
+struct Made {
+    nears: Vec<Near>,
+    first: Option<First>,
+}
+
+// Adds what no room changes of the candidate with this number.
 fn add_near(
     galley: &Galley,
     style: &Style,
     most: &Give,
     candidates: &[Candidate],
-    it: &Ranked,
-    first: Option<First>,
-    vary: bool,
-    nears: &mut Vec<Near>,
-) -> Result<Option<First>, AllocError>
+    at: usize,
+    made: &mut Made,
+) -> Result<(), AllocError>
     requires { nat_abs most.now.stretch < 2 ^ 40 }
-    ensures { IfOk result (λ next. (seen : List ℕ) →
-        AreSeen (document galley.now style.now) most.now.stretch (map candidate_of candidates.now) seen first
-        nears.old.items →
+    ensures { OnOk result ((seen : List ℕ) →
+        AreSeen (document galley.now style.now) most.now.stretch (map candidate_of candidates.now) seen made.old.first
+        made.old.nears.items →
         AreSeen (document galley.now style.now) most.now.stretch (map candidate_of candidates.now)
-        (seen ++ it.now.at ∷ []) next nears.new.items) }
+        (seen ++ at ∷ []) made.new.first made.new.nears.items) }
 {
-    let Some(candidate) = candidates.get(it.at) else {
-        return Ok(first);
+    let Some(candidate) = candidates.get(at) else {
+        return Ok(());
     };
-    if let Some(same) = first_beside(candidates, first, candidate.to) {
-        nears.push(near_behind(style, most, candidates, same, it.at, candidate))?;
-        return Ok(Some(same));
+    if let Some(same) = first_beside(candidates, made.first, candidate.to) {
+        made.nears
+            .push(near_behind(style, most, candidates, same, at, candidate))?;
+        return Ok(());
     }
-    let (own, near) = first_near(galley, style, most, vary, it.at, candidate);
-    nears.push(near)?;
-    Ok(Some(own))
+    let (own, near) = first_of(galley, style, most, at, candidate);
+    made.nears.push(near)?;
+    made.first = Some(own);
+    Ok(())
 }
 
 // What no room changes of the candidates in this order, in which those of one place follow one another.
-pub(crate) fn nears_of(
+fn nears_in(
     alloc: Global,
     galley: &Galley,
     style: &Style,
@@ -284,11 +307,76 @@ pub(crate) fn nears_of(
     ensures { IfOk result (λ nears. AreServed (document galley.now style.now) most.now.stretch
         (map candidate_of candidates.now) (map (λ it. it.at) order.now) nears.items) }
 {
-    let mut nears = Vec::with_capacity(alloc, order.len())?;
-    let mut first = None;
-    let vary = rooms_vary(style);
+    let mut made = Made {
+        nears: Vec::with_capacity(alloc, order.len())?,
+        first: None,
+    };
     'each: for it in order {
-        first = add_near(galley, style, most, candidates, it, first, vary, &mut nears)?;
+        add_near(galley, style, most, candidates, it.at, &mut made)?;
+    }
+    Ok(made.nears)
+}
+
+// Adds what no room changes of the candidate at an index, the only one of its place.
+#[inline]
+fn add_alone(
+    galley: &Galley,
+    style: &Style,
+    most: &Give,
+    candidates: &[Candidate],
+    at: usize,
+    nears: &mut Vec<Near>,
+) -> Result<(), AllocError>
+    requires { nat_abs most.now.stretch < 2 ^ 40 }
+    ensures { OnOk result (
+        AreServedBefore (document galley.now style.now) most.now.stretch (map candidate_of candidates.now) at
+        nears.old.items →
+        AreServedBefore (document galley.now style.now) most.now.stretch (map candidate_of candidates.now) (at + 1)
+        nears.new.items) }
+{
+    let Some(candidate) = candidates.get(at) else {
+        return Ok(());
+    };
+    let (_, near) = first_of(galley, style, most, at, candidate);
+    nears.push(near)?;
+    Ok(())
+}
+
+// What no room changes of the candidates as they stand, each the only one of its place.
+fn nears_alone(
+    alloc: Global,
+    galley: &Galley,
+    style: &Style,
+    most: &Give,
+    candidates: &[Candidate],
+) -> Result<Vec<Near>, AllocError>
+    requires { nat_abs most.now.stretch < 2 ^ 40 }
+    ensures { IfOk result (λ nears. AreServedBefore (document galley.now style.now) most.now.stretch
+        (map candidate_of candidates.now) (length candidates.now) nears.items) }
+{
+    let count = candidates.len();
+    let mut nears = Vec::with_capacity(alloc, count)?;
+    for at in 0..count {
+        add_alone(galley, style, most, candidates, at, &mut nears)?;
     }
     Ok(nears)
+}
+
+// What no room changes of the candidates, in an order in which their ends may stand.
+pub(crate) fn nears_of(
+    alloc: Global,
+    galley: &Galley,
+    style: &Style,
+    most: &Give,
+    candidates: &[Candidate],
+) -> Result<Vec<Near>, AllocError>
+    requires { nat_abs most.now.stretch < 2 ^ 40 }
+    ensures { IfOk result (λ nears. AreServedBefore (document galley.now style.now) most.now.stretch
+        (map candidate_of candidates.now) (length candidates.now) nears.items) }
+{
+    if are_rising(candidates) {
+        return nears_alone(alloc, galley, style, most, candidates);
+    }
+    let order = in_order(alloc, candidates)?;
+    nears_in(alloc, galley, style, most, candidates, order.as_slice())
 }

@@ -8,7 +8,7 @@ use crate::best::keep_best;
 use crate::kind::{EndKind, kind_at};
 use crate::room::is_tolerable;
 use crate::room_end::RoomEnd;
-use crate::taking::TakesEnds;
+use crate::taking::{TakesEnds, WalkEnd};
 use pg_column::{TextCost, TextRoom, cost_for};
 use pg_hops::{Needs, Passed};
 use pg_list::{Galley, Place};
@@ -90,31 +90,23 @@ impl TakesEnds for OneRoom<'_> {
     }
 
     #[inline(always)]
-    fn take(
-        &mut self,
-        style: &Style,
-        to: Place,
-        passed: &Passed,
-        needs: &Needs,
-        _picks: &Rc<Picks>,
-        _demerits: i64,
-    ) -> Result<(), AllocError> {
+    fn take(&mut self, style: &Style, needs: &Needs, end: &WalkEnd) -> Result<(), AllocError> {
         let room = &self.room;
         if is_too_low(room, needs.bound) {
             return Ok(());
         }
-        let kind = kind_at(self.galley, to);
-        let cost = cost_in(style, room, kind, passed, needs);
+        let kind = kind_at(self.galley, end.to);
+        let cost = cost_in(style, room, kind, end.passed, needs);
         if !is_tolerable(style, kind, cost.badness) {
             return Ok(());
         }
-        let end = RoomEnd {
-            to,
+        let kept = RoomEnd {
+            to: end.to,
             at: 0,
             cost,
             pick_demerits: 0,
         };
-        keep_best(&[], &mut self.ends, end)
+        keep_best(&[], &mut self.ends, kept)
     }
 
     ghost none_taken = { none_in };

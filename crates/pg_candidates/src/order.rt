@@ -210,7 +210,7 @@ fn joined(alloc: Global, groups: &[Group], count: usize) -> Result<Vec<Ranked>, 
 }
 
 // Whether each candidate stands at a place behind that of the one before it, so that each place has one.
-fn are_rising(candidates: &[Candidate]) -> bool {
+pub(crate) fn are_rising(candidates: &[Candidate]) -> bool {
     let mut last = 0;
     for candidate in candidates {
         let rank = rank_of(candidate.to);
@@ -222,38 +222,12 @@ fn are_rising(candidates: &[Candidate]) -> bool {
     true
 }
 
-// Adds a candidate behind others.
-#[inline]
-fn add_behind(order: &mut Vec<Ranked>, it: Ranked) -> Result<(), AllocError>
-    ensures { OnOk result (IsAdded it.at (map (λ it. it.at) order.old.items) (map (λ it. it.at) order.new.items)) }
-{
-    order.push(it)?;
-    Ok(())
-}
-
-// The candidates as they stand.
-fn as_they_stand(alloc: Global, candidates: &[Candidate]) -> Result<Vec<Ranked>, AllocError>
-    ensures { IfOk result (λ order. (i : ℕ) → i < length candidates.now →
-        IsAmong i (map (λ it. it.at) order.items)) }
-{
-    let count = candidates.len();
-    let mut order = Vec::with_capacity(alloc, count)?;
-    for at in 0..count {
-        let it = with_rank(&candidates[at], at);
-        add_behind(&mut order, it)?;
-    }
-    Ok(order)
-}
-
 // The candidates in the order in which their ends stand: by place, and at one place the cheapest first. That all are there
 // is proved; in another order they would only be slower to go through.
 pub(crate) fn in_order(alloc: Global, candidates: &[Candidate]) -> Result<Vec<Ranked>, AllocError>
     ensures { IfOk result (λ order. (i : ℕ) → i < length candidates.now →
         IsAmong i (map (λ it. it.at) order.items)) }
 {
-    if are_rising(candidates) {
-        return as_they_stand(alloc, candidates);
-    }
     let groups = grouped(alloc, candidates)?;
     joined(alloc, groups.as_slice(), candidates.len())
 }

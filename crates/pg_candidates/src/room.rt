@@ -5,20 +5,22 @@ ghost use Rattle.pg_list.specs.GalleyValue.{GalleyValue};
 ghost use Rattle.pg_list.specs.declared.galley.Place.{Place as APlace};
 ghost use Rattle.pg_column.specs.Numbers.{IsRoom, cost_for as cost_for_goal, most_room};
 ghost use Rattle.pg_style.specs.Plain.{plus_give};
+ghost use Rattle.pg_style.specs.Values.{StyleValue};
 ghost use Rattle.pg_column.specs.Ends.{AreEnds};
 ghost use Rattle.pg_rules.specs.Legal.{document};
 ghost use Rattle.law_walk.specs.Best.{AreBest};
 ghost use Rattle.law_walk.specs.Candidates.{AreCandidates, Candidate as ACandidate, has_text as has_text_of, kept_ends, text_ends};
+ghost use Rattle.pg_candidates.specs.Alone.{AreTaken};
 ghost use Rattle.pg_candidates.specs.Nears.{AreNear, IsNear, IsNearIn, IsWithin, IsWorstCost, needed_in, needed_of};
 ghost use Rattle.pg_candidates.specs.RoomEnds.{end_by, ends_of, picks_at};
 ghost use Rattle.pg_candidates.specs.View.{candidate_of};
 
+use crate::all_rooms::AllRooms;
 use crate::best::keep_best;
 use crate::candidate::{Candidate, CandidateList};
 use crate::kind::EndKind;
 use crate::making::nears_of;
 use crate::near::{Near, NearList};
-use crate::order::in_order;
 use crate::room_end::{RoomEnd, all_with_picks};
 use law_walk::laws::candidates_give_ends;
 use pg_column::{EndList, TextCost, TextRoom, cost_for};
@@ -249,18 +251,23 @@ impl CandidateList {
         requires { nat_abs most.now.stretch < 2 ^ 40 }
         ensures { IfOk result (AreNear (document galley.now style.now) most.now.stretch self) }
     {
-        let order = in_order(alloc, self.as_slice())?;
-        let nears = nears_of(
-            alloc,
-            galley,
-            style,
-            most,
-            self.as_slice(),
-            order.as_slice(),
-        )?;
+        let nears = nears_of(alloc, galley, style, most, self.as_slice())?;
         Ok(NearList {
             candidates: self,
             nears,
         })
+    }
+}
+
+impl AllRooms<'_> {
+    /// The candidates that were taken, with what no room changes of each.
+    pub fn into_near(self) -> NearList
+        ensures { (style : StyleValue) → AreTaken style self.entry →
+            AreNear (document self.entry.galley.now style) self.entry.most.stretch self.entry.candidates result }
+    {
+        NearList {
+            candidates: self.candidates,
+            nears: self.nears,
+        }
     }
 }

@@ -12,6 +12,15 @@ use pg_style::Style;
 use std::alloc::AllocError;
 use std::rc::Rc;
 
+/// An end to which a walk comes: its place, what was passed before it, and the picks on the way with their demerits.
+#[derive(Clone, Copy)]
+pub struct WalkEnd<'a> {
+    pub to: Place,
+    pub passed: &'a Passed,
+    pub picks: &'a Rc<Picks>,
+    pub demerits: i64,
+}
+
 /// Takes the ends to which a walk along a stretch comes, one after another.
 pub trait TakesEnds {
     /// From the one value to the other these ends were taken, under this style.
@@ -21,24 +30,16 @@ pub trait TakesEnds {
     fn share(&self, picks: &Picks) -> Result<Rc<Picks>, AllocError>
         ensures { IfOk result (λ shared. shared.value ≡ picks.now) };
 
-    /// Takes an end at a place, behind what was passed, with these picks at these demerits.
+    /// Takes an end of a walk under a style.
     ///
-    /// Condition: the needs are those of the place behind what was passed.
-    fn take(
-        &mut self,
-        style: &Style,
-        to: Place,
-        passed: &Passed,
-        needs: &Needs,
-        picks: &Rc<Picks>,
-        demerits: i64,
-    ) -> Result<(), AllocError>
-        requires { AreNeeds style.now (view passed.now) needs.now }
+    /// Condition: the needs are those of its place behind what was passed.
+    fn take(&mut self, style: &Style, needs: &Needs, end: &WalkEnd) -> Result<(), AllocError>
+        requires { AreNeeds style.now (view end.now.passed.now) needs.now }
         ensures { OnOk result (Took style.now self.old self.new (record {
-          to = to;
-          picks = picks.now.value;
-          passed = view passed.now;
-          pick_demerits = demerits;
+          to = end.now.to;
+          picks = end.now.picks.now.value;
+          passed = view end.now.passed.now;
+          pick_demerits = end.now.demerits;
         } ∷ [])) };
 
     /// Where nothing is taken, all stays.

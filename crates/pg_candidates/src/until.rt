@@ -1,10 +1,12 @@
 //! The room from which on the end of a candidate is not needed.
-ghost use Rattle.std.specs.Prelude.{◌≡◌, ◌<◌, ◌≤◌, ◌^◌, ◌≤ℤ◌, ◌<ℤ◌, ◌&&◌, IfSome, false, int_le, nat_abs, pos, true, ℤ};
+ghost use Rattle.std.specs.Prelude.{◌≡◌, ◌<◌, ◌≤◌, ◌^◌, ◌≤ℤ◌, ◌<ℤ◌, IfSome, false, nat_abs, pos, true, ℤ};
 ghost use Rattle.pg_breaks.specs.Near.{place_spent};
-ghost use Rattle.pg_column.specs.Passed.{fits};
 ghost use Rattle.pg_list.specs.GalleyValue.{GalleyValue};
 ghost use Rattle.pg_rules.specs.Legal.{document};
-ghost use Rattle.pg_notes.specs.NotesValue.{skips};
+ghost use Rattle.pg_notes.specs.NotesValue.{heights, skips};
+ghost use Rattle.pg_style.specs.Values.{StyleValue};
+ghost use Rattle.pg_hops.specs.Needs.{AreNeeds};
+ghost use Rattle.pg_hops.specs.View.{view};
 ghost use Rattle.pg_sums.specs.Step.{badness_by};
 ghost use Rattle.law_walk.specs.Best.{IsCheaper};
 ghost use Rattle.law_walk.specs.Candidates.{Candidate as ACandidate};
@@ -13,11 +15,21 @@ ghost use Rattle.pg_candidates.specs.View.{candidate_of};
 
 use crate::candidate::Candidate;
 use crate::kind::EndKind;
+use pg_hops::{Needs, raised};
 use pg_plan::compare_picks;
 use pg_scaled::{plus, wide};
 use pg_style::{Give, Style};
 use pg_sums::Sums;
 use std::cmp::Ordering;
+
+/// The first candidate of a place, the kind of its end, which all ends there share, and a room in which its badness is the
+/// worst, if one was found.
+#[derive(Clone, Copy)]
+pub(crate) struct First {
+    pub(crate) at: usize,
+    pub(crate) kind: EndKind,
+    pub(crate) worst: Option<i64>,
+}
 
 // Whether a number is below 2^40 in size.
 fn is_small(number: i64) -> bool
@@ -82,32 +94,29 @@ pub(crate) fn worst_goal(style: &Style, most: &Give, sums: &Sums, give: &Give) -
     }
 }
 
-// The size of a room that leaves what was passed such a goal, if there is one. In each greater room the badness is the worst
-// too.
-pub(crate) fn room_for(
-    style: &Style,
-    most: &Give,
-    candidate: &Candidate,
-    goal: Option<i64>,
-) -> Option<i64>
-    requires { IfSome goal (IsWorstGoal style.now most.now.stretch candidate.now.passed.sums.totals
-        (skips style.now.classes candidate.now.passed.notes.sums)) }
-    ensures { IfSome result (IsWorst style.now most.now.stretch (candidate_of candidate.now)) }
+// The size of a room that leaves what was passed such a goal, if there is one, where its notes take so much. In each greater
+// room the badness is the worst too.
+pub(crate) fn room_for(notes: i64, goal: Option<i64>) -> Option<i64>
+    requires notes { nat_abs notes < 2 ^ 51 }
+    requires goal { IfSome goal (λ least. nat_abs least < 2 ^ 52) }
+    ensures { (style : StyleValue) (most : ℤ) (c : ACandidate) → notes ≡ pos (heights style.classes c.passed.notes) →
+        IfSome goal (IsWorstGoal style most c.passed.totals (skips style.classes c.passed.notes)) →
+        IfSome result (IsWorst style most c) }
 {
     match goal {
-        Some(least) => Some(plus(least, candidate.passed.notes.height(style))),
+        Some(least) => Some(plus(least, notes)),
         None => None,
     }
 }
 
 // The size of a room in which what was passed is so far below its goal that the badness is the worst, if one was found.
-fn worst_from(style: &Style, most: &Give, candidate: &Candidate) -> Option<i64>
-    requires { nat_abs most.now.stretch < 2 ^ 40 }
+fn worst_from(style: &Style, most: &Give, candidate: &Candidate, needs: &Needs) -> Option<i64>
+    requires most { nat_abs most.now.stretch < 2 ^ 40 }
+    requires needs { AreNeeds style.now (view candidate.now.passed) needs.now }
     ensures { IfSome result (IsWorst style.now most.now.stretch (candidate_of candidate.now)) }
 {
-    let give = candidate.passed.notes.give(style);
-    let goal = worst_goal(style, most, &candidate.passed.sums, &give);
-    room_for(style, most, candidate, goal)
+    let goal = worst_goal(style, most, &candidate.passed.sums, &needs.give);
+    room_for(needs.notes, goal)
 }
 
 // Whether the worst badness is no end of this kind: it is neither forced nor spent, and the tolerance is below that.
@@ -148,36 +157,25 @@ fn is_cheaper(one: &Candidate, other: &Candidate) -> bool
 }
 
 // The greater of two rooms.
-pub(crate) fn greater(a: i64, b: i64) -> i64
+fn greater(a: i64, b: i64) -> i64
     ensures first { a ≤ℤ result }
     ensures second { b ≤ℤ result }
-    ensures both { (z : ℤ) → int_le result z ≡ (int_le a z && int_le b z) }
 {
     if a < b { b } else { a }
 }
 
-// The least room that is not below another, and not below a bound.
-pub(crate) fn raised(bound: Option<i64>, room: i64) -> i64
-    ensures room { room ≤ℤ result }
-    ensures fits { fits bound result ≡ true }
-    ensures both { (z : ℤ) → int_le result z ≡ (fits bound z && int_le room z) }
-{
-    match bound {
-        Some(least) => greater(least, room),
-        None => room,
-    }
-}
-
-// The room from which on a candidate has the same numbers as another of its place that is cheaper and suits too, if one
-// was found, with a room in which the other's badness is the worst.
+// The room from which on a candidate, of whose end these are the needs, has the same numbers as another of its place that is
+// cheaper and suits too, if one was found, with a room in which the other's badness is the worst.
 fn until_cheaper(
     style: &Style,
     most: &Give,
     worst: Option<i64>,
     one: &Candidate,
     other: &Candidate,
+    needs: &Needs,
 ) -> Option<i64>
-    requires { nat_abs most.now.stretch < 2 ^ 40 }
+    requires most { nat_abs most.now.stretch < 2 ^ 40 }
+    requires needs { AreNeeds style.now (view other.now.passed) needs.now }
     ensures { (g : GalleyValue) → one.now.to ≡ other.now.to → place_spent g.blocks other.now.to ≡ false →
         IfSome worst (IsWorst style.now most.now.stretch (candidate_of one.now)) →
         IfSome result (IsServedFrom (document g style.now) most.now.stretch (candidate_of one.now)
@@ -188,31 +186,32 @@ fn until_cheaper(
     if !is_cheaper(one, other) {
         return None;
     }
-    let room = greater(own, worst_from(style, most, other)?);
+    let room = greater(own, worst_from(style, most, other, needs)?);
     Some(raised(one.passed.bound, room))
 }
 
-// The room from which on the end of a candidate is not needed beside that of another of its place, if one was found: no
-// column to it keeps the rules from there on, or the other serves for it.
+// The room from which on the end of a candidate, of which these are the needs, is not needed beside that of another one, the
+// first of their place, if one was found: no column to it keeps the rules from there on, or the other serves for it.
 pub(crate) fn until_beside(
     style: &Style,
     most: &Give,
-    kind: EndKind,
-    worst: Option<i64>,
+    first: First,
     one: &Candidate,
     other: &Candidate,
+    needs: &Needs,
 ) -> Option<i64>
-    requires { nat_abs most.now.stretch < 2 ^ 40 }
-    ensures { (g : GalleyValue) → one.now.to ≡ other.now.to → kind ≡ kind_at g.blocks other.now.to →
-        IfSome worst (IsWorst style.now most.now.stretch (candidate_of one.now)) →
+    requires most { nat_abs most.now.stretch < 2 ^ 40 }
+    requires needs { AreNeeds style.now (view other.now.passed) needs.now }
+    ensures { (g : GalleyValue) → one.now.to ≡ other.now.to → first.kind ≡ kind_at g.blocks other.now.to →
+        IfSome first.worst (IsWorst style.now most.now.stretch (candidate_of one.now)) →
         IfSome result (IsServedFrom (document g style.now) most.now.stretch (candidate_of one.now)
         (candidate_of other.now)) }
 {
-    if kind.is_spent {
+    if first.kind.is_spent {
         return None;
     }
-    if is_refused(style, kind) {
-        return until_alone(style, kind, worst_from(style, most, other));
+    if is_refused(style, first.kind) {
+        return until_alone(style, first.kind, worst_from(style, most, other, needs));
     }
-    until_cheaper(style, most, worst, one, other)
+    until_cheaper(style, most, first.worst, one, other, needs)
 }

@@ -16,7 +16,7 @@ use crate::hop::Hop;
 use crate::index::BreakIndex;
 use crate::needs::Needs;
 use crate::{Cursor, Passed};
-use pg_list::{Galley, Item, Place};
+use pg_list::{Galley, Item};
 use pg_style::Style;
 
 /// The hop from a cursor, where one is kept and a box was passed.
@@ -29,25 +29,6 @@ pub fn hop_ahead<'a>(index: &'a BreakIndex, passed: &Passed, at: Cursor) -> Opti
     } else {
         None
     }
-}
-
-/// Whether the next item's place is a break behind a box; it is where a hop leads on from it.
-///
-/// Conditions: the item is the cursor's next one, and the place is the cursor's.
-pub(crate) fn is_end_ahead(
-    galley: &Galley,
-    passed: &Passed,
-    at: Cursor,
-    here: Place,
-    item: &Item,
-    hop: Option<&Hop>,
-) -> bool
-    requires item { item_ahead galley.now.blocks at ≡ Some item.now }
-    requires place { here ≡ place_ahead at }
-    requires hop { (maxdepth : ℤ) × MayHop galley.now.blocks maxdepth (view passed.now) at (option_copied hop) }
-    ensures { result ≡ is_end_here galley.now.blocks (view passed.now) here }
-{
-    hop.is_some() || passed.ends_at(galley, at, here, item)
 }
 
 /// Past the items of a way.
@@ -113,6 +94,7 @@ pub fn hop_on(
     requires few { (passed.old.sums.count + length (items_ahead galley.now.blocks at) ≤ 2 ^ 20)
         × (passed.old.notes.count + length (items_ahead galley.now.blocks at) ≤ 2 ^ 20) }
     ensures goes { Goes (document galley.now style.now) at result (view passed.old) (view passed.new) }
+    ensures notes { passed.new.notes.sums ≡ passed.old.notes.sums }
     ensures style { IsFor style.now passed.new }
     ensures counts { Counts galley.now.blocks at result passed.old.sums.count passed.new.sums.count
         × Counts galley.now.blocks at result passed.old.notes.count passed.new.notes.count }
@@ -123,25 +105,55 @@ pub fn hop_on(
     hop.to()
 }
 
-/// One step from a cursor: past all items of a hop from it, or past its next item. Answers where the step leads; none where
-/// the break at its place is forced, and nothing more is passed then.
+/// One step from a cursor, past its next item. Answers where the step leads; none where the break at its place is forced, and
+/// nothing more is passed then.
 ///
-/// Conditions: the item is the cursor's next one, the place is the cursor's, it is told whether that is a break behind a box,
-/// and with the items ahead at most 2^20 are counted.
+/// Conditions: the item is the cursor's next one, it is told whether its place is a break behind a box, and with the items
+/// ahead at most 2^20 are counted.
 pub fn go(
     galley: &Galley,
     style: &Style,
     at: Cursor,
-    here: Place,
     is_end: bool,
+    item: &Item,
+    passed: &mut Passed,
+) -> Option<Cursor>
+    requires style { IsFor style.now passed.old }
+    requires item { item_ahead galley.now.blocks at ≡ Some item.now }
+    requires end { is_end ≡ is_end_here galley.now.blocks (view passed.old) (place_ahead at) }
+    requires few { (passed.old.sums.count + length (items_ahead galley.now.blocks at) ≤ 2 ^ 20)
+        × (passed.old.notes.count + length (items_ahead galley.now.blocks at) ≤ 2 ^ 20) }
+    ensures goes { IfSome result (λ to. Goes (document galley.now style.now) at to (view passed.old) (view passed.new)) }
+    ensures stops { IfNone result (Stops (document galley.now style.now) at (view passed.old)) }
+    ensures same { IfNone result (passed.new ≡ passed.old) }
+    ensures style { IsFor style.now passed.new }
+    ensures counts { IfSome result (λ to.
+        Counts galley.now.blocks at to passed.old.sums.count passed.new.sums.count
+        × Counts galley.now.blocks at to passed.old.notes.count passed.new.notes.count) }
+{
+    // The blocks keep their shape.
+    let _shape = galley.blocks().as_slice();
+    if passed.pass(galley, style, at.place(), is_end, item) {
+        Some(at.next(galley))
+    } else {
+        None
+    }
+}
+
+/// One step from a cursor: past all items of the hop from it, where one is told, or past its next item. Answers where the
+/// step leads; none where the break at its place is forced, and nothing more is passed then.
+///
+/// Conditions: the item is the cursor's next one, and with the items ahead at most 2^20 are counted.
+pub(crate) fn go_by(
+    galley: &Galley,
+    style: &Style,
+    at: Cursor,
     item: &Item,
     hop: Option<&Hop>,
     passed: &mut Passed,
 ) -> Option<Cursor>
     requires style { IsFor style.now passed.old }
     requires item { item_ahead galley.now.blocks at ≡ Some item.now }
-    requires place { here ≡ place_ahead at }
-    requires end { is_end ≡ is_end_here galley.now.blocks (view passed.old) here }
     requires hop { MayHop galley.now.blocks style.now.maxdepth (view passed.old) at (option_copied hop) }
     requires few { (passed.old.sums.count + length (items_ahead galley.now.blocks at) ≤ 2 ^ 20)
         × (passed.old.notes.count + length (items_ahead galley.now.blocks at) ≤ 2 ^ 20) }
@@ -161,11 +173,8 @@ pub fn go(
             Some(hop.to())
         }
         None => {
-            if passed.pass(galley, style, here, is_end, item) {
-                Some(at.next(galley))
-            } else {
-                None
-            }
+            let is_end = passed.ends_at(galley, at, at.place(), item);
+            go(galley, style, at, is_end, item, passed)
         }
     }
 }

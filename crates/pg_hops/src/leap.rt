@@ -51,8 +51,8 @@ impl Leap {
     }
 }
 
-/// The greater of what was asked so far and of one amount more.
-pub(crate) fn raised(most: Option<i64>, more: i64) -> i64
+/// The greater of what was asked so far, if anything was, and of one amount more.
+pub fn raised(most: Option<i64>, more: i64) -> i64
     ensures { Some result ≡ raised_of most more }
 {
     match most {

@@ -6,8 +6,8 @@
 //! its place is a break, of most from the item alone (`specs/Told`); `Passed::pass` goes past one item, and past the
 //! break before it, as `specs/Passed` of pg_column says. Where the notes passed take no room (`specs/Quiet`), a walk
 //! without notes goes the same way. `Needs` tells at once what a place asks of a room, for who looks at an end there and
-//! who goes past it (`specs/Needs`). `Added` sums what items behind a box or rule add, and shifts totals by it
-//! (`specs/Shift`).
+//! who goes past it; what the notes passed add to it, `Noted`, is the same until a note is passed (`specs/Needs`).
+//! `Added` sums what items behind a box or rule add, and shifts totals by it (`specs/Shift`).
 //!
 //! A `Hop` leads past items of which the first alone is a break, and tells what they add (`specs/Hop`); each hop that a
 //! `BreakIndex` keeps leads on in its galley (`specs/Index`), also behind an edit, for which it is mended from the
@@ -27,6 +27,7 @@ mod index;
 mod leap;
 mod leaping;
 mod needs;
+mod noted;
 mod passed;
 mod passing;
 mod shift;
@@ -37,7 +38,9 @@ pub use cursor::Cursor;
 pub use going::{go, hop_ahead, hop_on};
 pub use hop::Hop;
 pub use index::BreakIndex;
+pub use leap::raised;
 pub use needs::Needs;
+pub use noted::Noted;
 pub use passed::Passed;
 pub use passing::{Passing, pass_on};
 pub use shift::Shift;

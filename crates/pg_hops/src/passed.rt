@@ -11,6 +11,7 @@ ghost use Rattle.pg_hops.specs.Quiet.{is_quiet as is_quiet_of};
 ghost use Rattle.pg_hops.specs.View.{IsFor, view};
 
 use crate::cursor::Cursor;
+use crate::leap::raised;
 use crate::needs::Needs;
 use pg_breaks::{break_cost, is_forced};
 use pg_list::{Galley, Item, Place};
@@ -26,23 +27,6 @@ pub struct Passed {
     pub sums: Sums,
     pub notes: NoteSums,
     pub bound: Option<i64>,
-}
-
-// The higher of the bound and one more room to be kept.
-fn higher(bound: Option<i64>, least: i64) -> i64
-    ensures { raised_of bound least ≡ Some result }
-{
-    match bound {
-        Some(other) => { if other < least { least } else { other } }
-        None => least,
-    }
-}
-
-// The bound with one more room to be kept.
-fn raised(bound: Option<i64>, least: i64) -> Option<i64>
-    ensures { result ≡ raised_of bound least }
-{
-    Some(higher(bound, least))
 }
 
 impl Passed {
@@ -82,15 +66,19 @@ impl Passed {
     // The bound past a break here, where the notes passed take so much, their skips shrunk.
     pub(crate) fn bound_with(&self, notes: i64) -> i64
         requires { nat_abs notes < 2 ^ 52 }
-        ensures { raised_of self.now.bound (least_by (view self.now) notes) ≡ Some result }
+        ensures { Some result ≡ raised_of self.now.bound (least_by (view self.now) notes) }
     {
-        higher(self.bound, self.least_with(notes))
+        raised(self.bound, self.least_with(notes))
     }
 
-    /// Whether no class of notes is above its limit.
+    /// Whether no class of notes is above its limit. A style without classes has no limits, and no notes are looked at.
+    #[inline]
     pub fn is_within_limits(&self, style: &Style) -> bool
         ensures { result ≡ are_within_of style.now (view self.now) }
     {
+        if style.classes.as_slice().is_empty() {
+            return true;
+        }
         self.notes.first_over(style).is_none()
     }
 
@@ -137,7 +125,7 @@ impl Passed {
         ensures counts { (self.new.sums.count ≡ self.old.sums.count) × (self.new.notes.count ≡ self.old.notes.count) }
     {
         let least = self.least_room(style);
-        self.bound = raised(self.bound, least);
+        self.bound = Some(raised(self.bound, least));
     }
 
     /// The same, where the needs of its place are at hand.

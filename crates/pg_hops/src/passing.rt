@@ -8,7 +8,7 @@ ghost use Rattle.pg_hops.specs.Ahead.{IsSettled, front_ahead, items_ahead};
 ghost use Rattle.pg_hops.specs.View.{IsFor, view, views};
 ghost use Rattle.pg_hops.specs.Index.{AreHops};
 
-use crate::going::{go, hop_ahead, is_end_ahead};
+use crate::going::{go_by, hop_ahead};
 use crate::index::BreakIndex;
 use crate::leaping::leap_over;
 use crate::{Cursor, Passed};
@@ -71,8 +71,7 @@ pub fn pass_on(
         let here = at.place();
         greatest = greater(greatest, here.block);
         let hop = hop_ahead(index, &passed, at);
-        let is_end = is_end_ahead(galley, &passed, at, here, item, hop);
-        let Some(next) = go(galley, style, at, here, is_end, item, hop, &mut passed) else {
+        let Some(next) = go_by(galley, style, at, item, hop, &mut passed) else {
             return Passing {
                 passed: None,
                 front: here.block,

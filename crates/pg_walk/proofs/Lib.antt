@@ -12,3 +12,4 @@ pub mod Standing
 pub mod Behind
 pub mod Moved
 pub mod InRoom
+pub mod ForRooms

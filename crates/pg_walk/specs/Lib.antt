@@ -1,3 +1,4 @@
+pub mod Bases
 pub mod Meaning
 pub mod Reaching
 pub mod WalkLawful

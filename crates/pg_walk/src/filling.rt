@@ -1,15 +1,13 @@
 //! The table of the walk.
 ghost use Rattle.std.specs.Prelude.{◌≡◌, ◌≤◌, ◌^◌, IfOk, length};
-ghost use Rattle.pg_hops.specs.Index.{AreHops};
 ghost use Rattle.pg_rules.specs.Legal.{document};
 ghost use Rattle.pg_table.specs.Label.{IsTable};
+ghost use Rattle.pg_walk.specs.Bases.{IsBasis, doc_of};
 ghost use Rattle.pg_walk.specs.Meaning.{IsOwn, space_meaning};
 ghost use Rattle.pg_walk.specs.Collected.{AreSmall};
 
-use crate::{Key, WalkSpace};
-use pg_hops::{BreakIndex, State};
-use pg_list::Galley;
-use pg_style::Style;
+use crate::{Basis, Key, WalkSpace};
+use pg_hops::State;
 use pg_table::{Steps, Table};
 use std::alloc::{AllocError, Global};
 use std::marker::Brand;
@@ -36,22 +34,23 @@ fn filled<L: Ledger>(
 /// The filled table of the walk from a state.
 ///
 /// Condition: the state is one of the walk. The one refusal is want of memory.
-pub fn filled_from(
-    alloc: Global,
-    galley: &Galley,
-    style: &Style,
-    index: &BreakIndex,
-    top: i64,
-    start: State,
-) -> Result<Table<State, u32, Key>, AllocError>
-    requires hops { AreHops galley.now.blocks style.now.maxdepth index.now }
-    requires own { IsOwn (document galley.now style.now) top start }
-    ensures table { IfOk result (IsTable (space_meaning (document galley.now style.now) top start)) }
-    ensures small { IfOk result (AreSmall (document galley.now style.now) top) }
-    ensures few { length galley.now.blocks ≤ 2 ^ 20 }
+pub fn filled_from(basis: &Basis, start: State) -> Result<Table<State, u32, Key>, AllocError>
+    requires basis { IsBasis basis.now }
+    requires own { IsOwn (doc_of basis.now) basis.now.top start }
+    ensures table { IfOk result (IsTable (space_meaning (doc_of basis.now) basis.now.top start)) }
+    ensures small { IfOk result (AreSmall (doc_of basis.now) basis.now.top) }
+    ensures few { length basis.now.galley.now.blocks ≤ 2 ^ 20 }
 {
+    let style = basis.style;
     style.stays_in_range();
-    let _ = galley.blocks().as_slice();
-    let space = WalkSpace::new(alloc, galley, style, index, top, start);
-    filled::<Brand>(alloc, &space, Blank::new(1))
+    let _ = basis.galley.blocks().as_slice();
+    let space = WalkSpace::new(
+        basis.alloc,
+        basis.galley,
+        style,
+        basis.index,
+        basis.top,
+        start,
+    );
+    filled::<Brand>(basis.alloc, &space, Blank::new(1))
 }

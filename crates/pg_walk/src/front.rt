@@ -9,10 +9,10 @@ ghost use Rattle.pg_walk.specs.Fronts.{FrontsServe, IsFrontWalk, ReachesServe, i
 ghost use Rattle.pg_walk.specs.Meaning.{IsOwn, state_of};
 ghost use Rattle.pg_walk.specs.Moved.{IsMoved};
 
-use crate::collect;
 use crate::give::areas_give;
 use crate::reach::tallest;
 use crate::space::no_worse_than;
+use crate::{Basis, collect};
 use law_walk::laws::{walk_is_a_space, walk_tells_reach};
 use pg_candidates::{CandidateList, NearList};
 use pg_hops::{BreakIndex, Passed, State};
@@ -128,13 +128,19 @@ pub fn walk_behind(
     ensures right { IfOk result (IsFrontWalk (document galley.now style.now)) }
 {
     let mut found = CandidateList::with_room(alloc)?;
-    let top = tallest(style);
+    let basis = Basis {
+        alloc,
+        galley,
+        style,
+        index,
+        top: tallest(style),
+    };
     // A copy, field by field: a state that is passed on whole is no longer there to be told.
     let start = State {
         block: base.block,
         passed: base.passed,
     };
-    collect(alloc, galley, style, index, top, start, &mut found)?;
+    collect(&basis, start, &mut found)?;
     let near = found.into_near(alloc, galley, style, &areas_give(style))?;
     Ok(FrontWalk { base, near })
 }

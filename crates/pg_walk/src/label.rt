@@ -1,16 +1,14 @@
 //! The ends along the picks of one label.
 ghost use Rattle.std.specs.Prelude.{◌≡◌, ◌<◌, ◌++◌, ◌+ℤ◌, ◌^◌, ◌≤◌, ℤ, pos, length, nat_abs, OnOk};
-ghost use Rattle.pg_hops.specs.Index.{AreHops};
-ghost use Rattle.pg_rules.specs.Legal.{document};
+ghost use Rattle.pg_walk.specs.Bases.{IsBasis, doc_of};
 ghost use Rattle.pg_walk.specs.Meaning.{IsOwn, state_of};
 ghost use Rattle.pg_walk.specs.Collected.{label_ends, pick_ends};
 
-use crate::{is_loose_enough, variants_at};
-use pg_candidates::{CandidateList, ends_on};
-use pg_hops::{BreakIndex, Cursor, State};
-use pg_list::{Galley, Variant};
+use crate::{Basis, is_loose_enough, variants_at};
+use pg_candidates::{CandidateList, Start, walk_on};
+use pg_hops::{Cursor, State};
+use pg_list::Variant;
 use pg_plan::Picks;
-use pg_style::Style;
 use pg_table::Entry;
 use std::alloc::AllocError;
 
@@ -24,39 +22,39 @@ fn price(cost: i128, variant: &Variant) -> i64
 
 // Adds the ends along the stretch of a pick, where its variant is loose enough.
 fn add_pick(
-    galley: &Galley,
-    style: &Style,
-    index: &BreakIndex,
-    top: i64,
+    basis: &Basis,
     label: &Entry<State, u32>,
     picks: &Picks,
     pick: u32,
     variant: &Variant,
     found: &mut CandidateList,
 ) -> Result<(), AllocError>
-    requires hops { AreHops galley.now.blocks style.now.maxdepth index.now }
-    requires few { length galley.now.blocks ≤ 2 ^ 20 }
-    requires own { IsOwn (document galley.now style.now) top label.now.state }
+    requires basis { IsBasis basis.now }
+    requires few { length basis.now.galley.now.blocks ≤ 2 ^ 20 }
+    requires own { IsOwn (doc_of basis.now) basis.now.top label.now.state }
     requires small { nat_abs label.now.cost < 2 ^ 62 }
-    ensures { OnOk result (found.new ≡ found.old ++ pick_ends (document galley.now style.now) top
+    ensures { OnOk result (found.new ≡ found.old ++ pick_ends (doc_of basis.now) basis.now.top
         (state_of label.now.state) label.now.cost picks.now pick variant.now) }
 {
-    if !is_loose_enough(style, variant) {
+    if !is_loose_enough(basis.style, variant) {
         return Ok(());
     }
     let mut own = picks.copy()?;
     own.push(pick)?;
-    let ahead = Cursor::picked(galley, label.state.block, pick);
+    let ahead = Cursor::picked(basis.galley, label.state.block, pick);
     let demerits = price(label.cost, variant);
-    ends_on(
-        galley,
-        style,
-        index,
-        top,
-        ahead,
-        label.state.passed,
-        &own,
+    let start = Start {
+        at: ahead,
+        passed: label.state.passed,
+        picks: &own,
         demerits,
+    };
+    walk_on(
+        basis.galley,
+        basis.style,
+        basis.index,
+        basis.top,
+        &start,
         found,
     )?;
     Ok(())
@@ -64,27 +62,22 @@ fn add_pick(
 
 /// Adds the ends along the stretches of all picks at a label's front, behind the picks of its run.
 pub fn add_label(
-    galley: &Galley,
-    style: &Style,
-    index: &BreakIndex,
-    top: i64,
+    basis: &Basis,
     label: &Entry<State, u32>,
     picks: &Picks,
     found: &mut CandidateList,
 ) -> Result<(), AllocError>
-    requires hops { AreHops galley.now.blocks style.now.maxdepth index.now }
-    requires few { length galley.now.blocks ≤ 2 ^ 20 }
-    requires own { IsOwn (document galley.now style.now) top label.now.state }
+    requires basis { IsBasis basis.now }
+    requires few { length basis.now.galley.now.blocks ≤ 2 ^ 20 }
+    requires own { IsOwn (doc_of basis.now) basis.now.top label.now.state }
     requires small { nat_abs label.now.cost < 2 ^ 62 }
     ensures { OnOk result (found.new ≡ found.old
-        ++ label_ends (document galley.now style.now) top label.now picks.now) }
+        ++ label_ends (doc_of basis.now) basis.now.top label.now picks.now) }
 {
-    let mut left = variants_at(galley, label.state.block);
+    let mut left = variants_at(basis.galley, label.state.block);
     let mut pick = 0u32;
     'picks: while let [variant, after @ ..] = left {
-        add_pick(
-            galley, style, index, top, label, picks, pick, variant, found,
-        )?;
+        add_pick(basis, label, picks, pick, variant, found)?;
         left = after;
         pick += 1;
     }

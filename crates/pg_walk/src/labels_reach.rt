@@ -1,20 +1,19 @@
 //! How far the picks of the labels of a filled table go.
 ghost use Rattle.std.specs.Prelude.{◌≡◌, ◌+◌, IfOk, length, ℤ};
-ghost use Rattle.pg_hops.specs.Index.{AreHops};
 ghost use Rattle.pg_rules.specs.Legal.{document};
 ghost use Rattle.pg_style.specs.Values.{StyleValue};
 ghost use Rattle.law_walk.specs.Reached.{greatest_from};
 ghost use Rattle.law_walk.specs.Walk.{variants_at as variants_at_of};
+ghost use Rattle.pg_walk.specs.Bases.{IsBasis, doc_of};
 ghost use Rattle.pg_walk.specs.Meaning.{IsOwn, greatest_behind, reach_by, state_of};
 ghost use Rattle.pg_walk.specs.Furthest.{AreTold, GoesTo, IsFurthest};
 
 use crate::filling::filled_from;
-use crate::variants_at;
-use pg_hops::{BreakIndex, State};
+use crate::{Basis, variants_at};
+use pg_hops::State;
 use pg_list::Galley;
-use pg_style::Style;
 use pg_table::Entry;
-use std::alloc::{AllocError, Global};
+use std::alloc::AllocError;
 
 // The greatest of a block and of those along the stretches of the picks at a label's front, which its reach tells.
 fn reach_of_label(galley: &Galley, label: &Entry<State, u32>, least: u32) -> u32
@@ -47,19 +46,11 @@ fn reach_of_labels(galley: &Galley, labels: &[Entry<State, u32>], least: u32) ->
 /// which those with equal sums at one front are one.
 ///
 /// Condition: the state is one of the walk. The one refusal is want of memory.
-pub fn furthest(
-    alloc: Global,
-    galley: &Galley,
-    style: &Style,
-    index: &BreakIndex,
-    top: i64,
-    start: State,
-    least: u32,
-) -> Result<u32, AllocError>
-    requires hops { AreHops galley.now.blocks style.now.maxdepth index.now }
-    requires own { IsOwn (document galley.now style.now) top start }
-    ensures { IfOk result (GoesTo (document galley.now style.now) top start least) }
+pub fn furthest(basis: &Basis, start: State, least: u32) -> Result<u32, AllocError>
+    requires basis { IsBasis basis.now }
+    requires own { IsOwn (doc_of basis.now) basis.now.top start }
+    ensures { IfOk result (GoesTo (doc_of basis.now) basis.now.top start least) }
 {
-    let table = filled_from(alloc, galley, style, index, top, start)?;
-    Ok(reach_of_labels(galley, table.labels(), least))
+    let table = filled_from(basis, start)?;
+    Ok(reach_of_labels(basis.galley, table.labels(), least))
 }

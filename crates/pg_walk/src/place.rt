@@ -7,6 +7,7 @@ ghost use Rattle.pg_rules.specs.Reach.{IsReach};
 ghost use Rattle.pg_candidates.specs.Nears.{AreNearFrom, AreNearOnPages};
 ghost use Rattle.law_walk.specs.Reached.{tallest as tallest_of};
 ghost use Rattle.law_walk.specs.Space.{first_ends};
+ghost use Rattle.pg_walk.specs.Bases.{IsBasis, doc_of};
 ghost use Rattle.pg_walk.specs.Blocks.{HasStart, TellsAlone};
 ghost use Rattle.pg_walk.specs.Fronts.{ComesTo, IsAhead};
 ghost use Rattle.pg_walk.specs.Straight.{TellsAll};
@@ -17,10 +18,10 @@ use crate::reach::{quiet_state, reach_told, tallest};
 use crate::straight::{
     StraightEnds, StraightWalk, comes_to_choice, has_one_room, straight_walk, tallest_room,
 };
-use crate::variants_at;
 use crate::walking::{candidates, collect_behind, first_stretch, quiet_greatest, state_behind};
+use crate::{Basis, variants_at};
 use law_walk::laws::walk_is_a_space;
-use pg_candidates::{CandidateList, NearList};
+use pg_candidates::{AllRooms, CandidateList, NearList};
 use pg_hops::{BreakIndex, State};
 use pg_list::{Galley, Place};
 use pg_style::{Give, Style};
@@ -53,28 +54,30 @@ pub(crate) fn near_from(
 
 // What a walk from a place tells, by what its first stretch tells, of which these are the ends.
 fn walk_on_from(
-    alloc: Global,
-    galley: &Galley,
-    style: &Style,
-    index: &BreakIndex,
+    basis: &Basis,
     from: Place,
     start: Option<State>,
     told: Option<u32>,
     first: CandidateList,
 ) -> Result<PlaceWalk, AllocError>
-    requires hops { AreHops galley.now.blocks style.now.maxdepth index.now }
-    requires place { IsPlace galley.now.blocks from }
-    requires ends { first ≡ first_ends (document galley.now style.now) (tallest_of style.now) from }
-    requires start { HasStart (document galley.now style.now) (tallest_of style.now) from start }
-    requires told { TellsAlone (document galley.now style.now) (tallest_of style.now) from start told }
-    ensures near { IfOk result (λ walk. AreNearOnPages (document galley.now style.now) from walk.near) }
-    ensures reach { IfOk result (λ walk. IsReach (document galley.now style.now) from walk.reach) }
+    requires basis { IsBasis basis.now }
+    requires top { basis.now.top ≡ tallest_of basis.now.style.now }
+    requires place { IsPlace basis.now.galley.now.blocks from }
+    requires ends { first ≡ first_ends (doc_of basis.now) basis.now.top from }
+    requires start { HasStart (doc_of basis.now) basis.now.top from start }
+    requires told { TellsAlone (doc_of basis.now) basis.now.top from start told }
+    ensures near { IfOk result (λ walk. AreNearOnPages (doc_of basis.now) from walk.near) }
+    ensures reach { IfOk result (λ walk. IsReach (doc_of basis.now) from walk.reach) }
 {
+    let Basis {
+        alloc,
+        galley,
+        style,
+        index,
+        ..
+    } = *basis;
     let mut found = first;
-    let top = tallest(style);
-    let told = collect_behind(
-        alloc, galley, style, index, from, top, start, told, &mut found,
-    )?;
+    let told = collect_behind(basis, from, start, told, &mut found)?;
     let reach = reach_told(alloc, galley, style, index, from, told)?;
     let near = found.into_near(alloc, galley, style, &areas_give(style))?;
     Ok(PlaceWalk { near, reach })
@@ -97,11 +100,17 @@ pub fn walk_from(
     ensures reach { IfOk result (λ walk. IsReach (document galley.now style.now) from walk.reach) }
 {
     let mut found = CandidateList::with_room(alloc)?;
-    let top = tallest(style);
-    let walked = first_stretch(alloc, galley, style, index, from, top, &mut found)?;
+    let basis = Basis {
+        alloc,
+        galley,
+        style,
+        index,
+        top: tallest(style),
+    };
+    let walked = first_stretch(&basis, from, &mut found)?;
     let start = state_behind(&walked);
     let told = quiet_greatest(&walked);
-    walk_on_from(alloc, galley, style, index, from, start, told, found)
+    walk_on_from(&basis, from, start, told, found)
 }
 
 /// What the first stretch from a place tells, up to the first choice: where columns may end along it, with what no room
@@ -200,14 +209,30 @@ fn walk_for_rooms(
     ensures front { IfOk result (λ it.
         IfSome it.front (λ front. ComesTo (document galley.now style.now) from it front.value)) }
 {
-    let mut found = CandidateList::with_room(alloc)?;
-    let top = tallest(style);
-    let walked = first_stretch(alloc, galley, style, index, from, top, &mut found)?;
+    let _ = galley.blocks().as_slice();
+    walk_is_a_space(galley, style);
+    let mut found = AllRooms::new(alloc, galley, areas_give(style))?;
+    let basis = Basis {
+        alloc,
+        galley,
+        style,
+        index,
+        top: tallest(style),
+    };
+    let walked = first_stretch(&basis, from, &mut found)?;
+    let told = quiet_greatest(&walked);
+    if !comes_to_choice(galley, state_behind(&walked)) {
+        let reach = reach_told(alloc, galley, style, index, from, told)?;
+        return Ok(FirstWalk {
+            near: found.into_near(),
+            straight: None,
+            front: None,
+            reach,
+        });
+    }
     let front = front_behind(alloc, galley, style, index, from, state_behind(&walked));
     let Some(front) = front else {
-        let start = state_behind(&walked);
-        let told = quiet_greatest(&walked);
-        let walk = walk_on_from(alloc, galley, style, index, from, start, told, found)?;
+        let walk = walk_from(alloc, galley, style, index, from)?;
         return Ok(FirstWalk {
             near: walk.near,
             straight: None,
@@ -216,7 +241,7 @@ fn walk_for_rooms(
         });
     };
     let reach = front.start.block;
-    let near = found.into_near(alloc, galley, style, &areas_give(style))?;
+    let near = found.into_near();
     Ok(FirstWalk {
         near,
         straight: None,

@@ -5,11 +5,12 @@ ghost use Rattle.pg_rules.specs.IsState.{IsPlace};
 ghost use Rattle.pg_rules.specs.Legal.{document};
 ghost use Rattle.pg_rules.specs.Reach.{IsReach, greatest_extra as greatest_extra_of};
 ghost use Rattle.law_walk.specs.Reached.{quiet, tallest as tallest_of};
+ghost use Rattle.pg_walk.specs.Bases.{IsBasis, doc_of};
 ghost use Rattle.pg_walk.specs.Blocks.{IsAlone, IsBegun, IsGreatestFrom, state};
 ghost use Rattle.pg_walk.specs.Fronts.{IsReachBehind};
 
 use crate::give::greatest_shrink;
-use crate::{furthest, variants_at};
+use crate::{Basis, furthest, variants_at};
 use law_walk::laws::walk_tells_reach;
 use pg_hops::{BreakIndex, Cursor, Passed, State, pass_on};
 use pg_list::{Galley, Place};
@@ -108,29 +109,30 @@ fn state_at(block: u32, passed: Option<Passed>) -> Option<State>
 
 // The greatest block that columns of text from a place come to, whatever they pick, up to breaks that no room up to the
 // greatest one lets pass.
-fn greatest_block(
-    alloc: Global,
-    galley: &Galley,
-    style: &Style,
-    index: &BreakIndex,
-    top: i64,
-    from: Place,
-) -> Result<u32, AllocError>
-    requires hops { AreHops galley.now.blocks style.now.maxdepth index.now }
-    requires place { IsPlace galley.now.blocks from }
-    ensures { IfOk result (IsGreatestFrom (document galley.now style.now) top from) }
+fn greatest_block(basis: &Basis, from: Place) -> Result<u32, AllocError>
+    requires basis { IsBasis basis.now }
+    requires place { IsPlace basis.now.galley.now.blocks from }
+    ensures { IfOk result (IsGreatestFrom (doc_of basis.now) basis.now.top from) }
 {
-    let _ = galley.blocks().as_slice();
-    let ahead = Cursor::first(galley, from);
-    let passing = pass_on(galley, style, index, top, ahead, Passed::nothing(style));
+    let style = basis.style;
+    let _ = basis.galley.blocks().as_slice();
+    let ahead = Cursor::first(basis.galley, from);
+    let passing = pass_on(
+        basis.galley,
+        style,
+        basis.index,
+        basis.top,
+        ahead,
+        Passed::nothing(style),
+    );
     let first = passing.greatest;
     let Some(start) = state_at(passing.front, passing.passed) else {
         return Ok(first);
     };
-    if variants_at(galley, start.block).is_empty() {
+    if variants_at(basis.galley, start.block).is_empty() {
         return Ok(first);
     }
-    furthest(alloc, galley, style, index, top, start, first)
+    furthest(basis, start, first)
 }
 
 // One more than the greatest block that columns without notes come to in the tallest room.
@@ -159,7 +161,14 @@ fn reach_by(
     ensures { IfOk result (IsReach (document galley.now style.now) from) }
 {
     let quiet = quiet_style(alloc, style);
-    let block = greatest_block(alloc, galley, &quiet, index, tallest(style), from)?;
+    let basis = Basis {
+        alloc,
+        galley,
+        style: &quiet,
+        index,
+        top: tallest(style),
+    };
+    let block = greatest_block(&basis, from)?;
     Ok(one_more(galley, style, from, block))
 }
 
@@ -234,9 +243,15 @@ pub fn reach_behind(
     ensures { IfOk result (IsReachBehind (document galley.now style.now) start) }
 {
     let quiet = quiet_style(alloc, style);
-    let top = tallest(style);
+    let basis = Basis {
+        alloc,
+        galley,
+        style: &quiet,
+        index,
+        top: tallest(style),
+    };
     let front = start.block;
-    let block = furthest(alloc, galley, &quiet, index, top, start, front)?;
+    let block = furthest(&basis, start, front)?;
     Ok(one_more(galley, style, from, block))
 }
 

@@ -9,8 +9,8 @@ ghost use Rattle.pg_walk.specs.Blocks.{HasWalked, IsLast};
 ghost use Rattle.pg_walk.specs.Straight.{AreStraight, tallest_room as tallest_room_of};
 
 use crate::reach::{tallest, tallest_run};
-use crate::variants_at;
 use crate::walking::first_stretch;
+use crate::{Basis, variants_at};
 use pg_candidates::{OneRoom, RoomEnd, Walked};
 use pg_column::TextRoom;
 use pg_hops::{BreakIndex, State};
@@ -71,8 +71,14 @@ pub(crate) fn straight_walk(
     ensures walked { IfOk result (λ it. HasWalked (document galley.now style.now) (tallest_of style.now) from it.walked) }
 {
     let mut one = OneRoom::new(alloc, galley, room)?;
-    let top = tallest(style);
-    let walked = first_stretch(alloc, galley, style, index, from, top, &mut one)?;
+    let basis = Basis {
+        alloc,
+        galley,
+        style,
+        index,
+        top: tallest(style),
+    };
+    let walked = first_stretch(&basis, from, &mut one)?;
     let room = one.room;
     let ends = one.ends;
     Ok(StraightWalk {

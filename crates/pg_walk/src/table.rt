@@ -1,43 +1,37 @@
 //! The ends of the labels of a filled table, one label after another.
 ghost use Rattle.std.specs.Prelude.{◌≡◌, ◌<◌, ◌≤◌, ◌^◌, Contains, OnOk, length, nat_abs, ℕ};
-ghost use Rattle.pg_hops.specs.Index.{AreHops};
-ghost use Rattle.pg_rules.specs.Legal.{document};
 ghost use Rattle.pg_hops.specs.declared.state.State.{State as AState};
 ghost use Rattle.pg_table.specs.Label.{Grounded};
 ghost use Rattle.pg_table.specs.declared.table.Entry.{Entry as AnEntry};
+ghost use Rattle.pg_walk.specs.Bases.{IsBasis, doc_of};
 ghost use Rattle.pg_walk.specs.Meaning.{IsOwn};
 ghost use Rattle.pg_walk.specs.Collected.{AreSmall, Collects, HasEnds};
 
+use crate::Basis;
 use crate::filling::filled_from;
 use crate::label::add_label;
 use crate::runs::picks_of;
 use pg_candidates::CandidateList;
-use pg_hops::{BreakIndex, State};
-use pg_list::Galley;
-use pg_style::Style;
+use pg_hops::State;
 use pg_table::Entry;
-use std::alloc::{AllocError, Global};
+use std::alloc::AllocError;
 
 // Adds the ends of each label.
 fn add_labels(
-    alloc: Global,
-    galley: &Galley,
-    style: &Style,
-    index: &BreakIndex,
-    top: i64,
+    basis: &Basis,
     labels: &[Entry<State, u32>],
     found: &mut CandidateList,
 ) -> Result<(), AllocError>
-    requires hops { AreHops galley.now.blocks style.now.maxdepth index.now }
-    requires few { length galley.now.blocks ≤ 2 ^ 20 }
+    requires basis { IsBasis basis.now }
+    requires few { length basis.now.galley.now.blocks ≤ 2 ^ 20 }
     requires grounded { Grounded labels.now }
-    requires small { AreSmall (document galley.now style.now) top labels.now }
-    ensures { OnOk result (HasEnds (document galley.now style.now) top labels.now labels.now found.old found.new) }
+    requires small { AreSmall (doc_of basis.now) basis.now.top labels.now }
+    ensures { OnOk result (HasEnds (doc_of basis.now) basis.now.top labels.now labels.now found.old found.new) }
 {
     let mut at = 0usize;
     'labels: while at < labels.len() {
-        let picks = picks_of(alloc, labels, at)?;
-        add_label(galley, style, index, top, &labels[at], &picks, found)?;
+        let picks = picks_of(basis.alloc, labels, at)?;
+        add_label(basis, &labels[at], &picks, found)?;
         at += 1;
     }
     Ok(())
@@ -48,19 +42,11 @@ fn add_labels(
 /// ends along the stretch of the pick, behind the picks of the label.
 ///
 /// Condition: the state is one of the walk. The one refusal is want of memory.
-pub fn collect(
-    alloc: Global,
-    galley: &Galley,
-    style: &Style,
-    index: &BreakIndex,
-    top: i64,
-    start: State,
-    found: &mut CandidateList,
-) -> Result<(), AllocError>
-    requires hops { AreHops galley.now.blocks style.now.maxdepth index.now }
-    requires own { IsOwn (document galley.now style.now) top start }
-    ensures { OnOk result (Collects (document galley.now style.now) top start found.old found.new) }
+pub fn collect(basis: &Basis, start: State, found: &mut CandidateList) -> Result<(), AllocError>
+    requires basis { IsBasis basis.now }
+    requires own { IsOwn (doc_of basis.now) basis.now.top start }
+    ensures { OnOk result (Collects (doc_of basis.now) basis.now.top start found.old found.new) }
 {
-    let table = filled_from(alloc, galley, style, index, top, start)?;
-    add_labels(alloc, galley, style, index, top, table.labels(), found)
+    let table = filled_from(basis, start)?;
+    add_labels(basis, table.labels(), found)
 }

@@ -2,18 +2,18 @@
 ghost use Rattle.std.specs.Prelude.{◌≡◌, [], if◌then◌else◌, None, Some, IfOk, IfSome, OnOk};
 ghost use Rattle.std.specs.List.{AllByRecursion};
 ghost use Rattle.pg_style.specs.Ranges.{IsClass};
-ghost use Rattle.pg_hops.specs.Index.{AreHops};
 ghost use Rattle.pg_rules.specs.IsState.{IsPlace};
 ghost use Rattle.pg_rules.specs.Legal.{document};
 ghost use Rattle.pg_column.specs.Passed.{nothing};
 ghost use Rattle.law_walk.specs.Candidates.{AreCandidates};
 ghost use Rattle.law_walk.specs.Reached.{quiet};
 ghost use Rattle.law_walk.specs.Space.{first_ends};
+ghost use Rattle.pg_walk.specs.Bases.{IsBasis, doc_of};
 ghost use Rattle.pg_walk.specs.Blocks.{HasStart, HasWalked, IsAlone, TellsAlone};
 
-use crate::{collect, variants_at};
+use crate::{Basis, collect, variants_at};
 use law_walk::laws::walk_is_a_space;
-use pg_candidates::{CandidateList, TakesEnds, Walked, walk_on};
+use pg_candidates::{CandidateList, Start, TakesEnds, Walked, walk_on};
 use pg_hops::{BreakIndex, Cursor, Passed, State};
 use pg_list::{Galley, Place};
 use pg_plan::Picks;
@@ -30,32 +30,31 @@ fn has_classes(style: &Style)
 /// Hands on the ends along the first stretch, and answers what the walk along it tells; where the notes passed take no room,
 /// it tells of a walk without notes.
 pub(crate) fn first_stretch<T: TakesEnds>(
-    alloc: Global,
-    galley: &Galley,
-    style: &Style,
-    index: &BreakIndex,
+    basis: &Basis,
     from: Place,
-    top: i64,
     found: &mut T,
 ) -> Result<Walked, AllocError>
-    requires hops { AreHops galley.now.blocks style.now.maxdepth index.now }
-    requires place { IsPlace galley.now.blocks from }
-    ensures ends { OnOk result (T.Took style.now found.old found.new (first_ends (document galley.now style.now) top from)) }
-    ensures walked { IfOk result (HasWalked (document galley.now style.now) top from) }
+    requires basis { IsBasis basis.now }
+    requires place { IsPlace basis.now.galley.now.blocks from }
+    ensures ends { OnOk result (T.Took basis.now.style.now found.old found.new (first_ends (doc_of basis.now) basis.now.top from)) }
+    ensures walked { IfOk result (HasWalked (doc_of basis.now) basis.now.top from) }
 {
-    has_classes(style);
-    let _ = galley.blocks().as_slice();
-    let ahead = Cursor::first(galley, from);
-    let picks = Picks::new(alloc);
+    has_classes(basis.style);
+    let _ = basis.galley.blocks().as_slice();
+    let ahead = Cursor::first(basis.galley, from);
+    let picks = Picks::new(basis.alloc);
+    let start = Start {
+        at: ahead,
+        passed: Passed::nothing(basis.style),
+        picks: &picks,
+        demerits: 0,
+    };
     walk_on(
-        galley,
-        style,
-        index,
-        top,
-        ahead,
-        Passed::nothing(style),
-        &picks,
-        0,
+        basis.galley,
+        basis.style,
+        basis.index,
+        basis.top,
+        &start,
         found,
     )
 }
@@ -81,57 +80,49 @@ pub(crate) fn state_behind(walked: &Walked) -> Option<State>
 // Adds the ends behind the first stretch to those along it, and answers the greatest block of columns without notes, where
 // the first stretch is all there is and that block is told.
 pub(crate) fn collect_behind(
-    alloc: Global,
-    galley: &Galley,
-    style: &Style,
-    index: &BreakIndex,
+    basis: &Basis,
     from: Place,
-    top: i64,
     start: Option<State>,
     told: Option<u32>,
     found: &mut CandidateList,
 ) -> Result<Option<u32>, AllocError>
-    requires hops { AreHops galley.now.blocks style.now.maxdepth index.now }
-    requires place { IsPlace galley.now.blocks from }
-    requires ends { found.old ≡ first_ends (document galley.now style.now) top from }
-    requires start { HasStart (document galley.now style.now) top from start }
-    requires told { TellsAlone (document galley.now style.now) top from start told }
-    ensures found { OnOk result (AreCandidates (document galley.now style.now) from top found.new) }
-    ensures told { IfOk result (λ told. IfSome told (IsAlone (quiet (document galley.now style.now)) top from)) }
+    requires basis { IsBasis basis.now }
+    requires place { IsPlace basis.now.galley.now.blocks from }
+    requires ends { found.old ≡ first_ends (doc_of basis.now) basis.now.top from }
+    requires start { HasStart (doc_of basis.now) basis.now.top from start }
+    requires told { TellsAlone (doc_of basis.now) basis.now.top from start told }
+    ensures found { OnOk result (AreCandidates (doc_of basis.now) from basis.now.top found.new) }
+    ensures told { IfOk result (λ told. IfSome told (IsAlone (quiet (doc_of basis.now)) basis.now.top from)) }
 {
-    let _ = galley.blocks().as_slice();
-    walk_is_a_space(galley, style);
+    let _ = basis.galley.blocks().as_slice();
+    walk_is_a_space(basis.galley, basis.style);
     let Some(start) = start else {
         return Ok(told);
     };
-    if variants_at(galley, start.block).is_empty() {
+    if variants_at(basis.galley, start.block).is_empty() {
         return Ok(told);
     }
-    collect(alloc, galley, style, index, top, start, found)?;
+    collect(basis, start, found)?;
     Ok(None)
 }
 
 // Finds the candidates of a place, and answers the greatest block of columns without notes, where the first stretch is
 // all there is and tells it.
 pub(crate) fn collect_from(
-    alloc: Global,
-    galley: &Galley,
-    style: &Style,
-    index: &BreakIndex,
+    basis: &Basis,
     from: Place,
-    top: i64,
     found: &mut CandidateList,
 ) -> Result<Option<u32>, AllocError>
-    requires hops { AreHops galley.now.blocks style.now.maxdepth index.now }
-    requires place { IsPlace galley.now.blocks from }
+    requires basis { IsBasis basis.now }
+    requires place { IsPlace basis.now.galley.now.blocks from }
     requires none { found.old ≡ [] }
-    ensures found { OnOk result (AreCandidates (document galley.now style.now) from top found.new) }
-    ensures told { IfOk result (λ told. IfSome told (IsAlone (quiet (document galley.now style.now)) top from)) }
+    ensures found { OnOk result (AreCandidates (doc_of basis.now) from basis.now.top found.new) }
+    ensures told { IfOk result (λ told. IfSome told (IsAlone (quiet (doc_of basis.now)) basis.now.top from)) }
 {
-    let walked = first_stretch(alloc, galley, style, index, from, top, found)?;
+    let walked = first_stretch(basis, from, found)?;
     let start = state_behind(&walked);
     let told = quiet_greatest(&walked);
-    collect_behind(alloc, galley, style, index, from, top, start, told, found)
+    collect_behind(basis, from, start, told, found)
 }
 
 /// Where columns of text from a place may end in some room up to a greatest one, in scaled points, with what they pass
@@ -150,7 +141,14 @@ pub fn candidates(
     ensures { IfOk result (AreCandidates (document galley.now style.now) from top) }
 {
     let index = BreakIndex::empty(alloc);
+    let basis = Basis {
+        alloc,
+        galley,
+        style,
+        index: &index,
+        top,
+    };
     let mut found = CandidateList::with_room(alloc)?;
-    collect_from(alloc, galley, style, &index, from, top, &mut found)?;
+    collect_from(&basis, from, &mut found)?;
     Ok(found)
 }

@@ -1,10 +1,7 @@
 use Rattle.std.proofs.Common.{◌∙◌, ap, map, refl, sym}
-use Rattle.std.specs.List.{insert}
-use Rattle.std.specs.Prelude.{slice_set}
 use Rattle.pg_candidates.specs.RoomEnds.{ends_of}
 use Rattle.pg_candidates.specs.View.{candidate_of}
 use Rattle.pg_candidates.specs.declared.best.Spot.TheVariants.{Before, Instead, Nowhere}
-use Rattle.pg_candidates.specs.declared.room_end.RoomEnd.{RoomEnd}
 use Rattle.pg_candidates.proofs.Putting.{put_found}
 use Rattle.pg_candidates.proofs.best.put_in.Goals as goal
 

@@ -1,22 +1,21 @@
-use Rattle.std.proofs.Common.{◌∙◌, refl, rules, subst, sym, w64, IfSome}
+use Rattle.std.proofs.Common.{◌∙◌, arith, refl, rules, subst, sym, w64}
 use Rattle.std.proofs.lemmas.Int.{to_z-of_z}
 use Rattle.pg_rules.specs.Legal.{document}
-use Rattle.pg_style.specs.declared.style.Give.{Give}
-use Rattle.pg_candidates.specs.Nears.{IsLeastRoom, IsWorstCost}
-use Rattle.pg_candidates.specs.View.{candidate_of}
+use Rattle.pg_candidates.specs.Nears.{IsLeastRoom}
+use Rattle.pg_candidates.specs.View.{end_of}
+use Rattle.pg_candidates.proofs.TooLow.{needs_least}
 use Rattle.pg_candidates.proofs.making.near_of.Goals as goal
 
 pub returns-clause-near : goal.returns-clause-near
-returns-clause-near c = λ g kind. record {
+returns-clause-near c = λ g style most kind are worst. record {
   to = refl;
   totals = refl;
-  notes = to_z-of_z w64 c.height.result (record { sfits = search rules }) ∙ c.height.ensures.value;
-  give = c.give.ensures.value;
-  pick_demerits = to_z-of_z w64 c.args.candidate.now.pick_demerits (record { sfits = search rules });
+  notes = to_z-of_z w64 c.args.needs.now.notes (record { sfits = omega (arith, c.requires.small) }) ∙ are.notes;
+  give = are.give;
+  pick_demerits = to_z-of_z w64 c.args.end.now.demerits (record { sfits = search rules });
   kind = kind;
-  least = subst (IsLeastRoom (document g c.args.style.now) (candidate_of c.args.candidate.now))
-      (sym (to_z-of_z w64 c.least_of.result (record { sfits = search rules }))) (c.least_of.ensures g c.args.candidate.now.to c.args.candidate.now.picks.value
-      c.args.candidate.now.pick_demerits);
-  worst = subst (λ (given : Give). IfSome c.args.worst (IsWorstCost c.args.style.now c.args.most.now.stretch c.args.kind
-      c.args.candidate.now.passed.sums.totals given)) (sym c.give.ensures.value) c.requires;
+  least = subst (IsLeastRoom (document g style) (end_of c.args.end.now))
+      (sym (to_z-of_z w64 c.args.needs.now.bound (record { sfits = search rules })))
+      (needs_least (document g style) (end_of c.args.end.now) c.args.needs.now are);
+  worst = worst;
 }

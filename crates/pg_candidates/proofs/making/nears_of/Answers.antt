@@ -1,29 +1,21 @@
-use Rattle.std.proofs.Common.{ap, ◌∙◌, [], ◌∷◌, List, map, subst, sym, take, ℕ, pos}
-use Rattle.std.proofs.lemmas.List.{map-append, take_all}
+use Rattle.std.proofs.Common.{List, length, map, subst}
+use Rattle.std.proofs.lemmas.Result.{IfOk-weaker}
 use Rattle.pg_rules.specs.Legal.{document}
-use Rattle.pg_candidates.specs.Seen.{AreSeen, AreServed}
+use Rattle.pg_candidates.specs.Seen.{AreServed, AreServedBefore}
 use Rattle.pg_candidates.specs.View.{candidate_of}
 use Rattle.pg_candidates.specs.declared.order.Ranked.{Ranked}
-use Rattle.pg_candidates.proofs.Needed.{next_at}
 use Rattle.pg_candidates.proofs.making.nears_of.Goals as goal
-
-pub each-preserved : goal.each-preserved
-each-preserved c =
-    let at = λ (it : Ranked). it.at in
-    let done = take c.each.it-index c.args.order.now in
-    record {
-      seen = subst (λ (is : List ℕ). AreSeen (document c.args.galley.now c.args.style.now)
-          c.args.most.now.stretch
-          (map candidate_of c.args.candidates.now) is c.in_ok-first.first c.add_near.new.nears.items)
-          (sym (ap (map at) (next_at c.args.order.now c.each.it-index
-          (record { rank = 0; pick_demerits = pos 0; at = 0 }) c.each-test.true)
-          ∙ map-append at done (_ ∷ [])))
-          (c.in_ok-first.ensures (map at done) c.each.invariant.seen);
-    }
 
 pub returns : goal.returns
 returns c =
-    subst (λ (its : List Ranked). AreServed (document c.args.galley.now c.args.style.now)
-    c.args.most.now.stretch
-    (map candidate_of c.args.candidates.now) (map (λ (it : Ranked). it.at) its) c.each.nears.items)
-    (take_all c.each.it-index c.args.order.now c.each-test.false) c.each.invariant.seen.served
+    let at = λ (it : Ranked). it.at in
+    let doc = document c.args.galley.now c.args.style.now in
+    let most = c.args.most.now.stretch in
+    let cs = map candidate_of c.args.candidates.now in
+    IfOk-weaker c.nears_in.result (λ nears. AreServed doc most cs (map at c.as_slice.result.now) nears.items)
+    (λ nears. AreServedBefore doc most cs (length c.args.candidates.now) nears.items)
+    (λ nears are. record {
+      seen = map at c.in_ok-order.order.items;
+      all = c.in_ok-order.ensures;
+      are = subst (λ (its : List Ranked). AreServed doc most cs (map at its) nears.items) c.as_slice.ensures.value are;
+    }) c.nears_in.ensures

@@ -12,4 +12,4 @@ returns-then-is_refused c = λ g same is worst.
 
 pub returns : goal.returns
 returns c = λ g same is worst.
-    c.until_cheaper.ensures g same (sym (ap (λ (k : EndKind). k.is_spent) is) ∙ c.if-kind.false) worst
+    c.until_cheaper.ensures g same (sym (ap (λ (k : EndKind). k.is_spent) is) ∙ c.if-first.false) worst

@@ -43,3 +43,6 @@ returns-clause-counts c =
 
 pub returns-clause-style : goal.returns-clause-style
 returns-clause-style c = c.hop_with.ensures.style c.args.style.now c.requires.style
+
+pub returns-clause-notes : goal.returns-clause-notes
+returns-clause-notes c = ap (λ (p : Passed). p.notes) (c.hop_with.ensures.value c.args.style.now c.requires.needs)

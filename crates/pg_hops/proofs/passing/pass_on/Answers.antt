@@ -11,20 +11,17 @@ use Rattle.pg_hops.specs.Goes.{Goes, Stops}
 use Rattle.pg_hops.proofs.Stepped.{over_past, over_reach, step_past, step_reach, stop_reach}
 use Rattle.pg_hops.proofs.passing.pass_on.Goals as goal
 
-pub is_end_ahead-is_end-requires-clause-hop : goal.is_end_ahead-is_end-requires-clause-hop
-is_end_ahead-is_end-requires-clause-hop c = (
-  c.args.style.now.maxdepth,
-  c.hop_ahead-hop.ensures c.args.galley.now.blocks c.args.style.now.maxdepth c.requires.hops,
-)
+pub go_by-requires-clause-hop : goal.go_by-requires-clause-hop
+go_by-requires-clause-hop c = c.hop_ahead-hop.ensures c.args.galley.now.blocks c.args.style.now.maxdepth c.requires.hops
 
-pub returns-in_default-go-clause-reach : goal.returns-in_default-go-clause-reach
-returns-in_default-go-clause-reach c =
+pub returns-in_default-go_by-clause-reach : goal.returns-in_default-go_by-clause-reach
+returns-in_default-go_by-clause-reach c =
     let f0 : SFits w64 c.args.top = search rules in
     let doc = document c.args.galley.now c.args.style.now in
     let same = c.in_default-leap_over.ensures.same in
     stop_reach c.ahead.at c.place-here.result c.place-here.ensures c.ahead.greatest c.greater-greatest.result
     c.greater-greatest.ensures doc c.args.top (view c.ahead.passed)
-    (subst (λ (p : Passed). Stops doc c.ahead.at (view p)) same c.in_default-go.ensures.stops)
+    (subst (λ (p : Passed). Stops doc c.ahead.at (view p)) same c.in_default-go_by.ensures.stops)
     (front_ahead c.args.galley.now.blocks c.ahead.at)
     ∙ (simp to_z-of_z at c.ahead.invariant.reach)
 
@@ -32,11 +29,11 @@ pub returns-then-not-fits-clause-past : goal.returns-then-not-fits-clause-past
 returns-then-not-fits-clause-past c =
     let f0 : SFits w64 c.args.top = search rules in
     let doc = document c.args.galley.now c.args.style.now in
-    let went = subst (λ (p : Passed). Goes doc c.ahead.at c.in-Some-go.next (view p) (view c.go.new.passed))
-    c.in_default-leap_over.ensures.same c.in-Some-go.ensures.goes in
-    over_past doc c.args.top c.ahead.at c.in-Some-go.next (view c.ahead.passed) (view c.go.new.passed)
+    let went = subst (λ (p : Passed). Goes doc c.ahead.at c.in-Some-go_by.next (view p) (view c.go_by.new.passed))
+    c.in_default-leap_over.ensures.same c.in-Some-go_by.ensures.goes in
+    over_past doc c.args.top c.ahead.at c.in-Some-go_by.next (view c.ahead.passed) (view c.go_by.new.passed)
     went
-    (sym (c.fits.ensures ∙ ap (fits c.go.new.passed.bound) (to_z-of_z w64 c.args.top (record { sfits = search rules })))
+    (sym (c.fits.ensures ∙ ap (fits c.go_by.new.passed.bound) (to_z-of_z w64 c.args.top (record { sfits = search rules })))
     ∙ c.if-not-fits.true)
     ∙ (simp to_z-of_z at c.ahead.invariant.past)
 
@@ -44,12 +41,12 @@ pub returns-then-not-fits-clause-reach : goal.returns-then-not-fits-clause-reach
 returns-then-not-fits-clause-reach c =
     let f0 : SFits w64 c.args.top = search rules in
     let doc = document c.args.galley.now c.args.style.now in
-    let went = subst (λ (p : Passed). Goes doc c.ahead.at c.in-Some-go.next (view p) (view c.go.new.passed))
-    c.in_default-leap_over.ensures.same c.in-Some-go.ensures.goes in
+    let went = subst (λ (p : Passed). Goes doc c.ahead.at c.in-Some-go_by.next (view p) (view c.go_by.new.passed))
+    c.in_default-leap_over.ensures.same c.in-Some-go_by.ensures.goes in
     over_reach c.ahead.at c.place-here.result c.place-here.ensures c.ahead.greatest c.greater-greatest.result
-    c.greater-greatest.ensures doc c.args.top c.in-Some-go.next (view c.ahead.passed) (view c.go.new.passed)
+    c.greater-greatest.ensures doc c.args.top c.in-Some-go_by.next (view c.ahead.passed) (view c.go_by.new.passed)
     went
-    (sym (c.fits.ensures ∙ ap (fits c.go.new.passed.bound) (to_z-of_z w64 c.args.top (record { sfits = search rules })))
+    (sym (c.fits.ensures ∙ ap (fits c.go_by.new.passed.bound) (to_z-of_z w64 c.args.top (record { sfits = search rules })))
     ∙ c.if-not-fits.true)
     ∙ (simp to_z-of_z at c.ahead.invariant.reach)
 
@@ -58,14 +55,14 @@ ahead-preserved c =
     let doc = document c.args.galley.now c.args.style.now in
     let top = to_z w64 (of_z w64 c.args.top) in
     let same = c.in_default-leap_over.ensures.same in
-    let went = subst (λ (p : Passed). Goes doc c.ahead.at c.in-Some-go.next (view p) (view c.go.new.passed))
-    c.in_default-leap_over.ensures.same c.in-Some-go.ensures.goes in
-    let counts = c.in-Some-go.ensures.counts in
+    let went = subst (λ (p : Passed). Goes doc c.ahead.at c.in-Some-go_by.next (view p) (view c.go_by.new.passed))
+    c.in_default-leap_over.ensures.same c.in-Some-go_by.ensures.goes in
+    let counts = c.in-Some-go_by.ensures.counts in
     let bound = sym c.fits.ensures ∙ c.if-not-fits.false in
     record {
       settled = went.settled;
       front = went.front ∙ c.ahead.invariant.front;
-      style = c.go.ensures.style;
+      style = c.go_by.ensures.style;
       bound = bound;
       sums = counts.0.passed
           ∙ (ap (λ (p : Passed). p.sums.count + length (items_ahead doc.blocks c.ahead.at)) same
@@ -73,11 +70,11 @@ ahead-preserved c =
       notes = counts.1.passed
           ∙ (ap (λ (p : Passed). p.notes.count + length (items_ahead doc.blocks c.ahead.at)) same
           ∙ c.ahead.invariant.notes);
-      past = step_past doc top c.ahead.at c.in-Some-go.next (view c.ahead.passed) (view c.go.new.passed) went bound
+      past = step_past doc top c.ahead.at c.in-Some-go_by.next (view c.ahead.passed) (view c.go_by.new.passed) went bound
           ∙ c.ahead.invariant.past;
       reach = step_reach c.ahead.at c.place-here.result c.place-here.ensures c.ahead.greatest
-          c.greater-greatest.result c.greater-greatest.ensures doc top c.in-Some-go.next (view c.ahead.passed)
-          (view c.go.new.passed) went bound
+          c.greater-greatest.result c.greater-greatest.ensures doc top c.in-Some-go_by.next (view c.ahead.passed)
+          (view c.go_by.new.passed) went bound
           ∙ c.ahead.invariant.reach;
     }
 

@@ -12,13 +12,13 @@ use Rattle.pg_walk.proofs.front.walk_behind.Goals as goal
 
 pub collect-requires-clause-own : goal.collect-requires-clause-own
 collect-requires-clause-own c =
-    let top = to_z-of_z w64 c.tallest-top.result (record { sfits = search rules }) ∙ c.tallest-top.ensures in
+    let top = to_z-of_z w64 c.tallest.result (record { sfits = search rules }) ∙ c.tallest.ensures in
     subst (λ (z : ℤ). IsOwn (document c.args.galley.now c.args.style.now) z c.args.base) (sym top) c.requires.own
 
 pub returns-clause-right : goal.returns-clause-right
 returns-clause-right c =
     let doc = document c.args.galley.now c.args.style.now in
-    let top = to_z-of_z w64 c.tallest-top.result (record { sfits = search rules }) ∙ c.tallest-top.ensures in
+    let top = to_z-of_z w64 c.tallest.result (record { sfits = search rules }) ∙ c.tallest.ensures in
     let near = subst (λ (most : ℤ). AreNear doc most c.collect.new.found c.in_ok-near.near)
     c.areas_give.ensures.stretch c.in_ok-near.ensures in
     record {

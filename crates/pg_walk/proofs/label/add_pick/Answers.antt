@@ -5,8 +5,8 @@ use Rattle.pg_walk.proofs.label.add_pick.Goals as goal
 pub picked-ahead-requires : goal.picked-ahead-requires
 picked-ahead-requires c = omega (arith, c.requires.few, c.requires.own.block)
 
-pub ends_on-requires-clause-few : goal.ends_on-requires-clause-few
-ends_on-requires-clause-few c =
-    let left = picked_left c.args.galley.now.blocks c.args.label.now.state.block c.args.pick in
+pub walk_on-requires-clause-few : goal.walk_on-requires-clause-few
+walk_on-requires-clause-few c =
+    let left = picked_left c.args.basis.now.galley.now.blocks c.args.label.now.state.block c.args.pick in
     let same = ap length c.picked-ahead.ensures.items in
     (omega (arith, left, same, c.requires.own.sums), omega (arith, left, same, c.requires.own.notes))

@@ -11,13 +11,13 @@ returns-clause-room c = c.in_ok-walked.ensures.ends.room ∙ c.in_ok-one.ensures
 
 pub returns-clause-ends : goal.returns-clause-ends
 returns-clause-ends c =
-    let top = to_z-of_z w64 c.tallest-top.result (record { sfits = search rules }) ∙ c.tallest-top.ensures in
+    let top = to_z-of_z w64 c.tallest.result (record { sfits = search rules }) ∙ c.tallest.ensures in
     first_best c.args.galley.now c.args.style.now _ (tallest c.args.style.now) top c.args.from c.in_ok-one.one
     c.first_stretch.new.found c.in_ok-one.ensures.galley c.in_ok-one.ensures.ends
     c.in_ok-walked.ensures.ends
 
 pub returns-clause-walked : goal.returns-clause-walked
 returns-clause-walked c =
-    let top = to_z-of_z w64 c.tallest-top.result (record { sfits = search rules }) ∙ c.tallest-top.ensures in
+    let top = to_z-of_z w64 c.tallest.result (record { sfits = search rules }) ∙ c.tallest.ensures in
     subst (λ (z : ℤ). HasWalked (document c.args.galley.now c.args.style.now) z c.args.from c.in_ok-walked.walked) top
     c.in_ok-walked.ensures.walked

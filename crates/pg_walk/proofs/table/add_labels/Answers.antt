@@ -1,17 +1,13 @@
-use Rattle.std.proofs.Common.{rules, sym, subst, ℤ, w64, to_z, of_z, arith}
-use Rattle.std.proofs.lemmas.Int.{to_z-of_z}
-use Rattle.pg_rules.specs.Legal.{document}
-use Rattle.pg_walk.specs.Meaning.{IsOwn}
+use Rattle.std.proofs.Common.{arith}
 use Rattle.pg_walk.proofs.Labels.{contains_at, got_at, next_label}
+use Rattle.pg_walk.specs.Bases.{doc_of}
 use Rattle.pg_walk.proofs.table.add_labels.Goals as goal
 
 pub add_label-requires-clause-own : goal.add_label-requires-clause-own
 add_label-requires-clause-own c =
-    let top = to_z-of_z w64 c.args.top (record { sfits = search rules }) in
     let entry = c.index-labels-at.result in
-    subst (λ (z : ℤ). IsOwn (document c.args.galley.now c.args.style.now) z entry.state) (sym top)
-    (c.requires.small.own entry
-    (contains_at c.args.labels.now c.labels.at entry c.labels-test.true c.index-labels-at.is))
+    c.requires.small.own entry
+    (contains_at c.args.labels.now c.labels.at entry c.labels-test.true c.index-labels-at.is)
 
 pub labels-preserved : goal.labels-preserved
 labels-preserved c =
@@ -19,7 +15,7 @@ labels-preserved c =
     let entry = c.index-labels-at.result in
     record {
       within = omega (arith, c.labels-test.true);
-      ends = next_label (document c.args.galley.now c.args.style.now) (to_z w64 (of_z w64 c.args.top)) labels
+      ends = next_label (doc_of c.args.basis.now) c.args.basis.now.top labels
           c.labels.at entry c.in_ok-picks.picks c.args.found.now c.labels.found c.add_label.new.found
           c.labels-test.true c.index-labels-at.is c.labels.invariant.ends
           (c.in_ok-picks.ensures entry (got_at labels c.labels.at entry c.labels-test.true c.index-labels-at.is))
@@ -32,7 +28,7 @@ labels-preserved-in_ok-add_label c =
     let entry = c.index-labels-at.result in
     record {
       within = omega (arith, c.labels-test.true);
-      ends = next_label (document c.args.galley.now c.args.style.now) (to_z w64 (of_z w64 c.args.top)) labels
+      ends = next_label (doc_of c.args.basis.now) c.args.basis.now.top labels
           c.labels.at entry c.in_ok-picks.picks c.args.found.now c.labels.found c.add_label.new.found
           c.labels-test.true c.index-labels-at.is c.labels.invariant.ends
           (c.in_ok-picks.ensures entry (got_at labels c.labels.at entry c.labels-test.true c.index-labels-at.is))

@@ -25,8 +25,8 @@ returns-then-is_too_low c = record {
       let low : most_room room <ℤ c.args.needs.now.bound =
       grind (arith, ints, c.is_too_low.ensures, c.if-is_too_low.true) in
       subst (λ (x : Candidate). AreBest (text_ends doc room (cs ++ x ∷ [])) ends) (sym (plain_is _ plain.0))
-      (best_too_low doc room cs (plain_to c.args.to (view c.args.passed.now)) c.args.needs.now.bound ends low
-      (needs_least doc (plain_to c.args.to (view c.args.passed.now)) c.args.needs.now c.requires) best);
+      (best_too_low doc room cs (plain_to c.args.end.now.to (view c.args.end.now.passed.now)) c.args.needs.now.bound ends low
+      (needs_least doc (plain_to c.args.end.now.to (view c.args.end.now.passed.now)) c.args.needs.now c.requires) best);
 }
 
 pub returns-then-not-is_tolerable : goal.returns-then-not-is_tolerable
@@ -36,10 +36,10 @@ returns-then-not-is_tolerable c = record {
   best = λ plain cs best.
       let doc = document c.args.self.now.galley.now c.args.style.now in
       let room = c.args.self.now.room in
-      let it = plain_to c.args.to (view c.args.passed.now) in
+      let it = plain_to c.args.end.now.to (view c.args.end.now.passed.now) in
       let near = plain_value doc it c.kind_at-kind.result c.args.needs.now.bound in
       let is = plain_near doc room.give.stretch it c.kind_at-kind.result c.args.needs.now.bound c.kind_at-kind.ensures
-      (needs_least doc (plain_to c.args.to (view c.args.passed.now)) c.args.needs.now c.requires) in
+      (needs_least doc (plain_to c.args.end.now.to (view c.args.end.now.passed.now)) c.args.needs.now c.requires) in
       let high : int_lt (most_room room) c.args.needs.now.bound ≡ false =
       grind (arith, ints, c.is_too_low.ensures, c.if-is_too_low.false) in
       subst (λ (x : Candidate). AreBest (text_ends doc room (cs ++ x ∷ [])) (ends_of [] c.args.self.now.ends.items))
@@ -56,10 +56,10 @@ returns c = on_ok_weaker c.keep_best.result (λ added. record {
   best = λ plain cs best.
       let doc = document c.args.self.now.galley.now c.args.style.now in
       let room = c.args.self.now.room in
-      let it = plain_to c.args.to (view c.args.passed.now) in
+      let it = plain_to c.args.end.now.to (view c.args.end.now.passed.now) in
       let near = plain_value doc it c.kind_at-kind.result c.args.needs.now.bound in
       let is = plain_near doc room.give.stretch it c.kind_at-kind.result c.args.needs.now.bound c.kind_at-kind.ensures
-      (needs_least doc (plain_to c.args.to (view c.args.passed.now)) c.args.needs.now c.requires) in
+      (needs_least doc (plain_to c.args.end.now.to (view c.args.end.now.passed.now)) c.args.needs.now c.requires) in
       let high : int_lt (most_room room) c.args.needs.now.bound ≡ false =
       grind (arith, ints, c.is_too_low.ensures, c.if-is_too_low.false) in
       subst (λ (x : Candidate). AreBest (text_ends doc room (cs ++ x ∷ [])) (ends_of [] c.keep_best.new.ends.items))

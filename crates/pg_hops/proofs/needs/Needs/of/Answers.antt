@@ -9,7 +9,7 @@ use Rattle.pg_style.specs.declared.style.Give.{Give}
 use Rattle.pg_column.specs.Passed.{raised}
 use Rattle.pg_hops.specs.Needs.{least_by}
 use Rattle.pg_hops.specs.View.{view}
-use Rattle.pg_hops.proofs.Asking.{bound_alone, no_notes, no_skips, none_over}
+use Rattle.pg_hops.proofs.Asking.{bound_alone, no_notes, no_skips}
 use Rattle.pg_hops.proofs.needs.Needs.of.Goals as goal
 
 pub returns-then-is_empty : goal.returns-then-is_empty
@@ -22,8 +22,7 @@ returns-then-is_empty c =
     record {
       notes = no_notes style p none;
       give = c.none.ensures ∙ no_skips style p none;
-      within = none_over style p none;
-      bound = bound_alone style p none c.bound_with.result c.bound_with.ensures
+      bound = bound_alone style p none c.bound_with.result (sym c.bound_with.ensures)
           ∙ ap (λ (z : ℤ). Some z) (sym (to_z-of_z w64 c.bound_with.result (record { sfits = search rules })));
       small = omega arith;
       stretch = subst (λ (g : Give). nat_abs g.stretch ≤ 2 ^ 34) (sym c.none.ensures) (omega arith);
@@ -43,8 +42,7 @@ returns c =
     record {
       notes = high ∙ c.height-notes.ensures.value;
       give = c.give-give.ensures.value;
-      within = c.is_within_limits.ensures;
-      bound = ap (λ (z : ℤ). raised p.bound (least_by p z)) (sym smallest) ∙ (c.bound_with-2.ensures
+      bound = ap (λ (z : ℤ). raised p.bound (least_by p z)) (sym smallest) ∙ (sym c.bound_with-2.ensures
           ∙ ap (λ (z : ℤ). Some z) (sym (to_z-of_z w64 c.bound_with-2.result (record { sfits = search rules }))));
       small = subst (λ (z : ℤ). nat_abs z < 2 ^ 51) (sym high) c.height-notes.ensures.size;
       stretch = c.give-give.ensures.size.0;
