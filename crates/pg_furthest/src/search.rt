@@ -20,7 +20,7 @@ use pg_hops::BreakIndex;
 use pg_list::Galley;
 use pg_plan::{PageKey, Pagination};
 use pg_small::{SmallMove, SmallState};
-use pg_space::refill_pages;
+use pg_space::{Indexed, refill_pages};
 use pg_style::Style;
 use pg_table::{Entry, Steps, Table};
 use std::alloc::{AllocError, Global};
@@ -69,7 +69,13 @@ pub fn labels_of<L: Ledger>(
 {
     let index = BreakIndex::of(alloc, galley, style);
     let mut table = Table::new(alloc);
-    refill_pages(alloc, galley, style, floats, &index, &mut table, 0, steps)?;
+    let pages = Indexed {
+        galley,
+        style,
+        floats,
+        index: &index,
+    };
+    refill_pages(alloc, &pages, &mut table, 0, steps)?;
     Ok(table)
 }
 

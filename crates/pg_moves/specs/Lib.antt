@@ -1,3 +1,4 @@
 pub mod Stepping
 pub mod Thinned
 pub mod Outdone
+pub mod Columns

@@ -11,6 +11,7 @@
 #![tactic(auto)]
 
 mod behind;
+mod column;
 mod groups;
 mod opening;
 mod stays;

@@ -8,7 +8,7 @@ ghost use Rattle.law_space.specs.PageSpace.{page_meaning};
 ghost use Rattle.pg_table.specs.Space.{AreMoves, AreWanted};
 ghost use Rattle.pg_candidates.specs.Nears.{AreNearOnPages};
 ghost use Rattle.law_moves.specs.Listed.{listed_floats};
-ghost use Rattle.pg_sources.specs.Document.{doc_of};
+ghost use Rattle.pg_sources.specs.Document.{counts_of, doc_of};
 ghost use Rattle.pg_rooms.specs.KeptLaid.{AreLayouts};
 ghost use Rattle.pg_rooms.specs.PlaceEnds.{ArePlaceEnds};
 ghost use Rattle.pg_states.specs.Settling.{known_of};
@@ -88,6 +88,7 @@ pub fn open_by<W: Wants<State = SmallState, Marks = PageMarks>>(
 ) -> Result<Opened<SmallState, SmallMove>, AllocError>
     requires own { IsState (doc_of sources.now) state.now }
     requires reach { kept.old.walk.reach ≡ reach_at (doc_of sources.now) state.now.place }
+    requires counts { kept.old.counts ≡ counts_of (doc_of sources.now) state.now.place }
     requires layouts { AreLayouts (doc_of sources.now) layouts.old }
     ensures moves { IfOk result (λ it. ArePlaceEnds (doc_of sources.now) state.now.place kept.old →
         AreWanted (page_meaning (doc_of sources.now)) state.now (W.spares wants.now) it.steps) }
@@ -95,11 +96,12 @@ pub fn open_by<W: Wants<State = SmallState, Marks = PageMarks>>(
     ensures kept { OnOk result (ArePlaceEnds (doc_of sources.now) state.now.place kept.old →
         ArePlaceEnds (doc_of sources.now) state.now.place kept.new) }
     ensures walk { OnOk result (kept.new.walk ≡ kept.old.walk) }
+    ensures counts { OnOk result (kept.new.counts ≡ kept.old.counts) }
     ensures layouts { OnOk result (AreLayouts (doc_of sources.now) layouts.new) }
 {
     listed_steps_are_moves(sources.galley, sources.style);
     let reach = kept.walk.reach;
-    let waiting = known(sources, state)?;
+    let waiting = known(sources, state, &kept.counts)?;
     let mut steps = text_steps(sources, state, &waiting, layouts, kept, wants)?;
     add_floats(sources, state, &waiting, layouts, &mut steps)?;
     Ok(Opened { steps, reach })
@@ -116,7 +118,8 @@ pub fn open(
 {
     let index = BreakIndex::empty(sources.alloc);
     let walk = walk_place(sources, &index, state.place)?;
-    let mut kept = PlaceEnds::new(sources.alloc, walk, Calls::none(sources.alloc));
+    let counts = sources.counts_at(state.place, walk.reach)?;
+    let mut kept = PlaceEnds::new(sources.alloc, walk, Calls::none(sources.alloc), counts);
     open_by(
         sources,
         state,

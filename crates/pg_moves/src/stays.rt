@@ -1,7 +1,7 @@
 //! The steps of columns without text.
-ghost use Rattle.std.specs.Prelude.{◌≡◌, ◌≤◌, ◌<◌, ◌^◌, ◌++◌, ◌+ℤ◌, [], if◌then◌else◌, ◌&&◌, ◌||◌, is_some, int_le, nat_abs, pos, true, Contains, Some, length, IfOk, OnOk};
+ghost use Rattle.std.specs.Prelude.{◌≡◌, ◌≤◌, ◌<◌, ◌^◌, ◌++◌, ◌+ℤ◌, [], if◌then◌else◌, ◌&&◌, ◌||◌, is_some, int_le, nat_abs, nat_lt, pos, true, Contains, Some, length, IfOk, OnOk};
 ghost use Rattle.std.specs.List.{flat_map};
-ghost use Rattle.pg_rules.specs.Floats.{float_numbers};
+ghost use Rattle.pg_rules.specs.Floats.{float_numbers, total_count};
 ghost use Rattle.pg_rules.specs.IsState.{IsState};
 ghost use Rattle.pg_layouts.specs.Layouts.{move_of};
 ghost use Rattle.law_moves.specs.Listed.{listed_stay};
@@ -14,8 +14,9 @@ ghost use Rattle.pg_rooms.specs.declared.laid.Laid.{Laid as ALaid};
 ghost use Rattle.pg_plan.specs.declared.states.State.{State as AState};
 
 use crate::steps::{page_price, parts_behind};
-use pg_plan::{Picks, State};
-use pg_rooms::{Laid, has_floats};
+use pg_floats::count_floats;
+use pg_plan::State;
+use pg_rooms::Laid;
 use pg_scaled::{large_plus, plus};
 use pg_small::{SmallMove, SmallState};
 use pg_sources::Sources;
@@ -28,19 +29,7 @@ use std::alloc::{AllocError, Global};
 fn stay(alloc: Global, state: &State, laid: &Laid) -> Result<SmallMove, AllocError>
     ensures { IfOk result (λ it. it ≡ move_of state.now laid.now.layout state.now.place []) }
 {
-    let layout = &laid.layout;
-    let (top, bottom, wide) = (&layout.top, &layout.bottom, &layout.wide);
-    let none = Picks::new(alloc);
-    SmallMove::of(
-        alloc,
-        state.place,
-        state.place,
-        layout.run,
-        top,
-        bottom,
-        wide,
-        &none,
-    )
+    SmallMove::of(alloc, &laid.layout, state.place, state.place, &[])
 }
 
 // The fitness that the column behind one without text is compared with.
@@ -92,6 +81,14 @@ fn stands(style: &Style, room: i64, wide: Option<i64>, has_floats: bool) -> bool
     (has_floats || wide.is_some()) && 0 <= plus(room, last_gap(style, has_floats))
 }
 
+// Whether a layout has a float in its top area.
+fn has_top(sources: &Sources<'_>, laid: &Laid) -> bool
+    requires { length laid.now.layout.top ≡ length (float_numbers sources.now.style.now) }
+    ensures { result ≡ nat_lt 0 (total_count laid.now.layout.top) }
+{
+    count_floats(sources.slots(), laid.layout.top()) > 0
+}
+
 // Whether a column without text has a float or a wide area, and is no higher than its page.
 fn can_stand(sources: &Sources<'_>, laid: &Laid) -> bool
     requires size { IsRoom laid.now.room }
@@ -99,7 +96,7 @@ fn can_stand(sources: &Sources<'_>, laid: &Laid) -> bool
     ensures { (u : AState) → IsFloatLaid (doc_of sources.now) u laid.now →
         result ≡ can_stand (doc_of sources.now) u laid.now.layout }
 {
-    let has_floats = has_floats(sources, &laid.layout.top);
+    let has_floats = has_top(sources, laid);
     stands(sources.style, laid.room.size, laid.wide, has_floats)
 }
 

@@ -2,26 +2,24 @@
 ghost use Rattle.std.specs.Prelude.{◌≡◌, ◌≤◌, ◌^◌, ◌++◌, ◌∷◌, [], ◌==◌, if◌then◌else◌, Some, nat_abs, pos, slice_get, ◌+ℤ◌, IfOk, OnOk};
 ghost use Rattle.std.specs.List.{AllByRecursion};
 ghost use Rattle.std.specs.Option.{option_map_or};
+ghost use Rattle.pg_candidates.specs.RoomEnds.{picks_at};
 ghost use Rattle.pg_rules.specs.Cost.{run_demerits as run_demerits_of};
 ghost use Rattle.pg_rules.specs.Follow.{fills_page as fills_page_of, keeps_run, other_side as other_side_of};
 ghost use Rattle.pg_rules.specs.IsState.{IsState};
 ghost use Rattle.pg_layouts.specs.Layouts.{move_of};
 ghost use Rattle.pg_list.specs.Flat.{is_same_place};
-ghost use Rattle.pg_candidates.specs.RoomEnds.{ends_of, picks_at};
-ghost use Rattle.pg_candidates.specs.declared.room_end.RoomEnd.{RoomEnd as ARoomEnd};
-ghost use Rattle.law_moves.specs.Listed.{listed_with};
 ghost use Rattle.law_moves.specs.Steps.{fitness_cost as fitness_cost_of, kept_fitness as kept_fitness_of};
-ghost use Rattle.pg_sources.specs.Document.{doc_of};
-ghost use Rattle.pg_rooms.specs.Laid.{laid_of};
 ghost use Rattle.pg_small.specs.Parts.{whole};
+ghost use Rattle.pg_moves.specs.Columns.{IsBehindIt, IsLaid, MayEnd, doc_at, move_at, steps_to};
 ghost use Rattle.pg_moves.specs.Outdone.{AreSpared};
-ghost use Rattle.pg_moves.specs.Stepping.{IsBehind, IsOpenAt, page_price as page_price_of, state_behind as state_behind_of};
+ghost use Rattle.pg_moves.specs.Stepping.{page_price as page_price_of, state_behind as state_behind_of};
 ghost use Rattle.pg_moves.specs.Thinned.{Adds};
 
 use crate::behind::{Behind, first_behind};
-use pg_candidates::{NearList, RoomEnd};
+use crate::column::TextColumn;
+use pg_candidates::RoomEnd;
 use pg_list::Place;
-use pg_plan::{Ages, Picks, Side, State};
+use pg_plan::{Ages, Side, State};
 use pg_rooms::Laid;
 use pg_small::{SmallMove, SmallState, StateParts};
 use pg_sources::Sources;
@@ -118,7 +116,7 @@ pub fn parts_behind<'a>(
             place: to,
             column: 1,
             side: other_side(state.side),
-            run: kept_run(state.side, laid.layout.run),
+            run: kept_run(state.side, laid.layout.run()),
             wide: None,
             fitness,
             placed,
@@ -129,7 +127,7 @@ pub fn parts_behind<'a>(
             place: to,
             column: state.column + 1,
             side: state.side,
-            run: Some(laid.layout.run),
+            run: Some(laid.layout.run()),
             wide: laid.wide,
             fitness,
             placed,
@@ -138,44 +136,27 @@ pub fn parts_behind<'a>(
     }
 }
 
-// The column of text to a place, by these picks.
-fn move_by(
-    sources: &Sources<'_>,
-    state: &State,
-    laid: &Laid,
-    to: Place,
-    picks: &Picks,
-) -> Result<SmallMove, AllocError>
-    ensures { IfOk result (λ it. it ≡ move_of state.now laid.now.layout to picks.now) }
+// The picks of an end's candidate.
+fn picks_to<'a>(column: &TextColumn<'a>, end: &RoomEnd) -> &'a [u32]
+    ensures { result.now ≡ picks_at column.now.near.now.candidates end.now.at }
 {
-    let layout = &laid.layout;
-    SmallMove::of(
-        sources.alloc,
-        state.place,
-        to,
-        layout.run,
-        &layout.top,
-        &layout.bottom,
-        &layout.wide,
-        picks,
-    )
+    match column.near.picks_of(end.at) {
+        Some(picks) => picks.as_slice(),
+        None => &[],
+    }
 }
 
 // The column of text to an end, by the picks of its candidate.
-fn move_to(
-    sources: &Sources<'_>,
-    near: &NearList,
-    state: &State,
-    laid: &Laid,
-    end: &RoomEnd,
-) -> Result<SmallMove, AllocError>
-    ensures { IfOk result (λ it. it
-        ≡ move_of state.now laid.now.layout end.now.to (picks_at near.now.candidates end.now.at)) }
+fn move_to(column: &TextColumn<'_>, end: &RoomEnd) -> Result<SmallMove, AllocError>
+    ensures { IfOk result (λ it. it ≡ move_at column.now end.now) }
 {
-    match near.picks_of(end.at) {
-        Some(picks) => move_by(sources, state, laid, end.to, picks),
-        None => move_by(sources, state, laid, end.to, &Picks::new(sources.alloc)),
-    }
+    SmallMove::of(
+        column.sources.alloc,
+        &column.laid.layout,
+        column.state.place,
+        end.to,
+        picks_to(column, end),
+    )
 }
 
 /// What a column pays for its page's run and for its floats.
@@ -184,7 +165,7 @@ pub fn page_price(style: &Style, state: &State, laid: &Laid, price: u128) -> i12
     ensures value { result ≡ page_price_of style.now state.now laid.now price }
     ensures size { nat_abs result ≤ 2 ^ 52 }
 {
-    i128::from(run_price(style, state, laid.layout.run)) + price as i128
+    i128::from(run_price(style, state, laid.layout.run())) + price as i128
 }
 
 /// What the text of a column costs.
@@ -212,39 +193,13 @@ fn ends_here(state: &State, end: &RoomEnd) -> bool
     from.block == to.block && from.variant == to.variant && from.index == to.index
 }
 
-// The step to an end, by the picks of its candidate, behind which there is this state, at this cost.
-fn step_to(
-    sources: &Sources<'_>,
-    near: &NearList,
-    state: &State,
-    laid: &Laid,
-    end: &RoomEnd,
-    next: &SmallState,
-    cost: i128,
-) -> Result<Step<SmallState, SmallMove>, AllocError>
-    ensures { IfOk result (λ step. step ≡ record {
-      to = next.now;
-      by = move_of state.now laid.now.layout end.now.to (picks_at near.now.candidates end.now.at);
-      cost = cost;
-    }) }
-{
-    Ok(Step {
-        to: next.copy(sources.alloc)?,
-        by: move_to(sources, near, state, laid, end)?,
-        cost,
-    })
-}
-
 // Adds the step to an end, behind which there is this state, at this cost. Few steps that are asked about are made, and
 // the picks are asked for here alone: were this made part of the walk over the ends, each of them would pay for its
 // locals.
 #[cold]
 #[inline(never)]
 fn push_step(
-    sources: &Sources<'_>,
-    near: &NearList,
-    state: &State,
-    laid: &Laid,
+    column: &TextColumn<'_>,
     end: &RoomEnd,
     next: &SmallState,
     cost: i128,
@@ -252,84 +207,70 @@ fn push_step(
 ) -> Result<(), AllocError>
     ensures { OnOk result (steps.new ≡ steps.old ++ record {
       to = next.now;
-      by = move_of state.now laid.now.layout end.now.to (picks_at near.now.candidates end.now.at);
+      by = move_at column.now end.now;
       cost = cost;
     } ∷ []) }
 {
-    let step = step_to(sources, near, state, laid, end, next, cost)?;
+    let step = Step {
+        to: next.copy(column.sources.alloc)?,
+        by: move_to(column, end)?,
+        cost,
+    };
     steps.push(step)?;
     Ok(())
 }
 
 // Adds the step to an end before which the floats of a layout are called and no float is left too old, if it is wanted.
 fn add_end<W: Wants<State = SmallState, Marks = PageMarks>>(
-    sources: &Sources<'_>,
-    near: &NearList,
-    state: &State,
-    laid: &Laid,
+    column: &TextColumn<'_>,
     end: &RoomEnd,
     settled: &Settled,
     behind: &mut Behind<'_>,
     wants: &W,
     steps: &mut StepList<SmallState, SmallMove>,
 ) -> Result<(), AllocError>
-    requires laid { laid.now ≡ laid_of (doc_of sources.now) state.now laid.now.layout }
-    requires behind { IsBehind sources.now.style.now state.now laid.now settled.now behind.old }
+    requires laid { IsLaid column.now }
+    requires behind { IsBehindIt column.now settled.now behind.old }
     requires spared { AreSpared (W.spares wants.now) behind.old }
-    ensures behind { OnOk result (IsBehind sources.now.style.now state.now laid.now settled.now behind.new) }
+    ensures behind { OnOk result (IsBehindIt column.now settled.now behind.new) }
     ensures spared { OnOk result (AreSpared (W.spares wants.now) behind.new) }
-    ensures added { OnOk result (IsOpenAt (doc_of sources.now) state.now laid.now settled.now end.now.to →
-        Adds (W.spares wants.now) steps.old
-        (listed_with (doc_of sources.now) state.now (λ layout. ends_of near.now.candidates (end.now ∷ []))
-        laid.now.layout) steps.new) }
+    ensures added { OnOk result (MayEnd column.now settled.now end.now →
+        Adds (W.spares wants.now) steps.old (steps_to column.now (end.now ∷ [])) steps.new) }
 {
-    if ends_here(state, end) {
+    let style = column.sources.style;
+    if ends_here(column.state, end) {
         return Ok(());
     }
-    let cost = behind.cost_to(sources.style, state, end);
-    behind.end_at(sources.style, end);
+    let cost = behind.cost_to(style, column.state, end);
+    behind.end_at(style, end);
     if !wants.wants(&behind.state, behind.rank(), cost) {
         return Ok(());
     }
-    push_step(sources, near, state, laid, end, &behind.state, cost, steps)?;
+    push_step(column, end, &behind.state, cost, steps)?;
     Ok(())
 }
 
 /// Adds the steps that are wanted to ends before which the floats of a layout are called and no float is left too old.
 pub fn add_ends<W: Wants<State = SmallState, Marks = PageMarks>>(
-    sources: &Sources<'_>,
-    near: &NearList,
-    state: &State,
-    laid: &Laid,
+    column: &TextColumn<'_>,
     ends: &[RoomEnd],
     settled: &Settled,
     wants: &W,
     steps: &mut StepList<SmallState, SmallMove>,
 ) -> Result<(), AllocError>
-    requires own { IsState (doc_of sources.now) state.now }
-    requires laid { laid.now ≡ laid_of (doc_of sources.now) state.now laid.now.layout }
+    requires own { IsState (doc_at column.now) column.now.state.now }
+    requires laid { IsLaid column.now }
     requires price { settled.now.price ≤ 2 ^ 51 }
-    ensures { OnOk result (AllByRecursion (λ (end : ARoomEnd).
-        IsOpenAt (doc_of sources.now) state.now laid.now settled.now end.to) ends.now →
-        Adds (W.spares wants.now) steps.old
-        (listed_with (doc_of sources.now) state.now (λ layout. ends_of near.now.candidates ends.now) laid.now.layout)
-        steps.new) }
+    ensures { OnOk result (AllByRecursion (MayEnd column.now settled.now) ends.now →
+        Adds (W.spares wants.now) steps.old (steps_to column.now ends.now) steps.new) }
 {
-    let mut behind = first_behind(sources, state, laid, settled, wants)?;
-    let mut rest = behind.skip_outdone(sources.style, state, ends);
+    let style = column.sources.style;
+    let state = column.state;
+    let mut behind = first_behind(column.sources, state, column.laid, settled, wants)?;
+    let mut rest = behind.skip_outdone(style, state, ends);
     'ends: while let [end, after @ ..] = rest {
-        add_end(
-            sources,
-            near,
-            state,
-            laid,
-            end,
-            settled,
-            &mut behind,
-            wants,
-            steps,
-        )?;
-        rest = behind.skip_outdone(sources.style, state, after);
+        add_end(column, end, settled, &mut behind, wants, steps)?;
+        rest = behind.skip_outdone(style, state, after);
     }
     Ok(())
 }

@@ -1,27 +1,27 @@
 //! The steps of columns of text, layout by layout.
-ghost use Rattle.std.specs.Prelude.{◌≡◌, length, min, Contains, IfOk, List, OnOk, Some};
+ghost use Rattle.std.specs.Prelude.{◌≡◌, Contains, IfOk, List, OnOk, Some};
 ghost use Rattle.std.specs.List.{AllByRecursion, flat_map};
 ghost use Rattle.pg_column.specs.Numbers.{IsRoom};
 ghost use Rattle.law_moves.specs.Listed.{beyond};
-ghost use Rattle.law_space.specs.ReachAt.{reach_at};
 ghost use Rattle.pg_rules.specs.Floats.{called};
 ghost use Rattle.pg_rules.specs.IsState.{IsState};
 ghost use Rattle.law_walk.specs.Candidates.{Candidate};
-ghost use Rattle.pg_sources.specs.Document.{doc_of};
+ghost use Rattle.pg_sources.specs.Document.{counts_of, doc_of};
 ghost use Rattle.pg_rooms.specs.KeptLaid.{AreLayouts};
 ghost use Rattle.pg_rooms.specs.Laid.{laid_of};
-ghost use Rattle.pg_rooms.specs.PlaceEnds.{AreFrontEnds, ArePlaceEnds, AreRoomEnds};
+ghost use Rattle.pg_rooms.specs.PlaceEnds.{AreFrontEnds, ArePlaceEnds, AreRoomEnds, ends_in};
 ghost use Rattle.pg_states.specs.Settling.{known_of};
-ghost use Rattle.pg_moves.specs.Stepping.{AreTextSteps, all_steps_in, steps_at, steps_behind};
+ghost use Rattle.pg_moves.specs.Columns.{IsLaid, doc_at, steps_to};
+ghost use Rattle.pg_moves.specs.Stepping.{AreTextSteps, all_steps_in, steps_behind};
 ghost use Rattle.pg_moves.specs.Thinned.{Adds};
 ghost use Rattle.pg_rooms.specs.declared.laid.Laid.{Laid as ALaid};
 
+use crate::column::{Opening, TextColumn};
 use crate::groups::add_groups;
 use law_walk::laws::candidates_give_ends;
-use pg_candidates::{NearList, has_text};
+use pg_candidates::has_text;
 use pg_column::TextRoom;
-use pg_list::{Galley, Place};
-use pg_plan::{Counts, State};
+use pg_plan::State;
 use pg_rooms::{Behind, Laid, Layouts, PlaceEnds, RoomEnds, room_in};
 use pg_small::{SmallMove, SmallState};
 use pg_sources::Sources;
@@ -29,133 +29,110 @@ use pg_states::{Known, PageMarks};
 use pg_table::{StepList, Wants};
 use std::alloc::AllocError;
 
-// Adds the wanted steps to the ends of some candidates in a room, where a layout is that of the column.
+// Adds the wanted steps to the ends among the candidates of a column in a room.
 fn add_kept<W: Wants<State = SmallState, Marks = PageMarks>>(
-    sources: &Sources<'_>,
-    state: &State,
-    known: &Known,
-    laid: &Laid,
-    near: &NearList,
+    column: &TextColumn<'_>,
     rooms: &[RoomEnds],
     room: &TextRoom,
     wants: &W,
     steps: &mut StepList<SmallState, SmallMove>,
 ) -> Result<(), AllocError>
-    requires own { IsState (doc_of sources.now) state.now }
-    requires known { known.now ≡ known_of (doc_of sources.now) state.now }
-    requires laid { laid.now ≡ laid_of (doc_of sources.now) state.now laid.now.layout }
+    requires own { IsState (doc_at column.now) column.now.state.now }
+    requires known { column.now.known.now ≡ known_of (doc_at column.now) column.now.state.now }
+    requires laid { IsLaid column.now }
     ensures { OnOk result ((all : List Candidate) →
-        AllByRecursion (AreRoomEnds (doc_of sources.now) all near.now.candidates) rooms.now →
-        Adds (W.spares wants.now) steps.old
-        (steps_at (doc_of sources.now) state.now near.now.candidates rooms.now room.now laid.now) steps.new) }
+        AllByRecursion (AreRoomEnds (doc_at column.now) all column.now.near.now.candidates) rooms.now →
+        Adds (W.spares wants.now) steps.old (steps_to column.now (ends_in rooms.now room.now)) steps.new) }
 {
     let (groups, ends) = room_in(rooms, room);
-    add_groups(
-        sources, near, state, known, laid, groups, ends, wants, steps,
-    )
+    add_groups(column, groups, ends, wants, steps)
 }
 
 // Adds the wanted steps to the ends behind a front, in what the room of a layout leaves there.
 fn add_behind<W: Wants<State = SmallState, Marks = PageMarks>>(
-    sources: &Sources<'_>,
-    state: &State,
-    known: &Known,
+    opening: &Opening<'_>,
     laid: &Laid,
     behind: &Behind,
     wants: &W,
     steps: &mut StepList<SmallState, SmallMove>,
 ) -> Result<(), AllocError>
-    requires own { IsState (doc_of sources.now) state.now }
-    requires known { known.now ≡ known_of (doc_of sources.now) state.now }
-    requires laid { laid.now ≡ laid_of (doc_of sources.now) state.now laid.now.layout }
+    requires own { IsState (doc_of opening.now.sources.now) opening.now.state.now }
+    requires known { opening.now.known.now ≡ known_of (doc_of opening.now.sources.now) opening.now.state.now }
+    requires laid { laid.now ≡ laid_of (doc_of opening.now.sources.now) opening.now.state.now laid.now.layout }
     requires room { IsRoom laid.now.room }
-    ensures { OnOk result (AreFrontEnds (doc_of sources.now) behind.now.ends →
+    ensures { OnOk result (AreFrontEnds (doc_of opening.now.sources.now) behind.now.ends →
         Adds (W.spares wants.now) steps.old
-        (steps_behind (doc_of sources.now) state.now (Some behind.now) laid.now) steps.new) }
+        (steps_behind (doc_of opening.now.sources.now) opening.now.state.now (Some behind.now) laid.now) steps.new) }
 {
     let Some(left) = behind.room_behind(&laid.room) else {
         return Ok(());
     };
-    let near = &behind.ends.walk.near;
+    let column = TextColumn {
+        sources: opening.sources,
+        state: opening.state,
+        known: opening.known,
+        laid,
+        near: &behind.ends.walk.near,
+    };
     let rooms = behind.ends.rooms.as_slice();
-    add_kept(
-        sources, state, known, laid, near, rooms, &left, wants, steps,
-    )
+    add_kept(&column, rooms, &left, wants, steps)
 }
 
 // Adds the wanted steps to all ends in the room of a layout.
 fn add_laid<W: Wants<State = SmallState, Marks = PageMarks>>(
-    sources: &Sources<'_>,
-    state: &State,
-    known: &Known,
+    opening: &Opening<'_>,
     laid: &Laid,
     kept: &PlaceEnds,
     wants: &W,
     steps: &mut StepList<SmallState, SmallMove>,
 ) -> Result<(), AllocError>
-    requires own { IsState (doc_of sources.now) state.now }
-    requires known { known.now ≡ known_of (doc_of sources.now) state.now }
-    requires laid { laid.now ≡ laid_of (doc_of sources.now) state.now laid.now.layout }
+    requires own { IsState (doc_of opening.now.sources.now) opening.now.state.now }
+    requires known { opening.now.known.now ≡ known_of (doc_of opening.now.sources.now) opening.now.state.now }
+    requires laid { laid.now ≡ laid_of (doc_of opening.now.sources.now) opening.now.state.now laid.now.layout }
     requires room { IsRoom laid.now.room }
-    ensures { OnOk result (ArePlaceEnds (doc_of sources.now) state.now.place kept.now →
-        Adds (W.spares wants.now) steps.old (all_steps_in (doc_of sources.now) state.now kept.now laid.now) steps.new) }
+    ensures { OnOk result (ArePlaceEnds (doc_of opening.now.sources.now) opening.now.state.now.place kept.now →
+        Adds (W.spares wants.now) steps.old
+        (all_steps_in (doc_of opening.now.sources.now) opening.now.state.now kept.now laid.now) steps.new) }
 {
-    if !has_text(sources.style, &laid.room) {
+    if !has_text(opening.sources.style, &laid.room) {
         return Ok(());
     }
-    let near = &kept.walk.near;
+    let column = TextColumn {
+        sources: opening.sources,
+        state: opening.state,
+        known: opening.known,
+        laid,
+        near: &kept.walk.near,
+    };
     let rooms = kept.rooms.as_slice();
-    add_kept(
-        sources, state, known, laid, near, rooms, &laid.room, wants, steps,
-    )?;
+    add_kept(&column, rooms, &laid.room, wants, steps)?;
     match &kept.behind {
-        Some(behind) => add_behind(sources, state, known, laid, behind, wants, steps),
+        Some(behind) => add_behind(opening, laid, behind, wants, steps),
         None => Ok(()),
     }
 }
 
 /// Adds the wanted steps of columns of text in these layouts, by the ends in their rooms.
 pub fn add_all<W: Wants<State = SmallState, Marks = PageMarks>>(
-    sources: &Sources<'_>,
-    state: &State,
-    known: &Known,
+    opening: &Opening<'_>,
     laid: &[Laid],
     kept: &PlaceEnds,
     wants: &W,
     steps: &mut StepList<SmallState, SmallMove>,
 ) -> Result<(), AllocError>
-    requires own { IsState (doc_of sources.now) state.now }
-    requires known { known.now ≡ known_of (doc_of sources.now) state.now }
-    requires laid { (it : ALaid) → Contains laid.now it → it ≡ laid_of (doc_of sources.now) state.now it.layout }
+    requires own { IsState (doc_of opening.now.sources.now) opening.now.state.now }
+    requires known { opening.now.known.now ≡ known_of (doc_of opening.now.sources.now) opening.now.state.now }
+    requires laid { (it : ALaid) → Contains laid.now it →
+        it ≡ laid_of (doc_of opening.now.sources.now) opening.now.state.now it.layout }
     requires rooms { AllByRecursion (λ (it : ALaid). IsRoom it.room) laid.now }
-    ensures { OnOk result (ArePlaceEnds (doc_of sources.now) state.now.place kept.now →
+    ensures { OnOk result (ArePlaceEnds (doc_of opening.now.sources.now) opening.now.state.now.place kept.now →
         Adds (W.spares wants.now) steps.old
-        (flat_map (all_steps_in (doc_of sources.now) state.now kept.now) laid.now) steps.new) }
+        (flat_map (all_steps_in (doc_of opening.now.sources.now) opening.now.state.now kept.now) laid.now) steps.new) }
 {
     for it in laid {
-        add_laid(sources, state, known, it, kept, wants, steps)?;
+        add_laid(opening, it, kept, wants, steps)?;
     }
     Ok(())
-}
-
-// The lesser of a reach and the number of blocks.
-fn last_block(galley: &Galley, reach: u32) -> u32
-    ensures { result ≡ min reach (length galley.now.blocks) }
-{
-    (reach as usize).min(galley.blocks().as_slice().len()) as u32
-}
-
-// How many floats of each class are called before all blocks that a column from a place does not reach.
-fn ceiling(sources: &Sources<'_>, from: Place, reach: u32) -> Result<Counts, AllocError>
-    requires { reach ≡ reach_at (doc_of sources.now) from }
-    ensures { IfOk result (λ counts. counts
-        ≡ called sources.now.galley.now.blocks sources.now.style.now (beyond (doc_of sources.now) from)) }
-{
-    sources.called(Place {
-        block: last_block(sources.galley, reach),
-        variant: 0,
-        index: 0,
-    })
 }
 
 /// The wanted steps of the columns of text, from the layouts that are kept and from what is kept of the state's place: with
@@ -170,7 +147,7 @@ pub fn text_steps<W: Wants<State = SmallState, Marks = PageMarks>>(
 ) -> Result<StepList<SmallState, SmallMove>, AllocError>
     requires own { IsState (doc_of sources.now) state.now }
     requires known { known.now ≡ known_of (doc_of sources.now) state.now }
-    requires reach { kept.old.walk.reach ≡ reach_at (doc_of sources.now) state.now.place }
+    requires counts { kept.old.counts ≡ counts_of (doc_of sources.now) state.now.place }
     requires layouts { AreLayouts (doc_of sources.now) layouts.old }
     ensures steps { IfOk result (λ steps. ArePlaceEnds (doc_of sources.now) state.now.place kept.old →
         AreTextSteps (doc_of sources.now) state.now (called sources.now.galley.now.blocks sources.now.style.now
@@ -178,14 +155,19 @@ pub fn text_steps<W: Wants<State = SmallState, Marks = PageMarks>>(
     ensures kept { OnOk result (ArePlaceEnds (doc_of sources.now) state.now.place kept.old →
         ArePlaceEnds (doc_of sources.now) state.now.place kept.new) }
     ensures walk { OnOk result (kept.new.walk ≡ kept.old.walk) }
+    ensures counts { OnOk result (kept.new.counts ≡ kept.old.counts) }
     ensures layouts { OnOk result (AreLayouts (doc_of sources.now) layouts.new) }
 {
     candidates_give_ends(sources.galley, sources.style);
-    let most = ceiling(sources, state.place, kept.walk.reach)?;
-    let at = layouts.find_texts(sources, state, &most)?;
+    let at = layouts.find_texts(sources, state, &kept.counts.most)?;
     let laid = layouts.texts(at);
     kept.ask_all(sources, state.place, laid)?;
+    let opening = Opening {
+        sources,
+        state,
+        known,
+    };
     let mut steps = StepList::new(sources.alloc);
-    add_all(sources, state, known, laid, kept, wants, &mut steps)?;
+    add_all(&opening, laid, kept, wants, &mut steps)?;
     Ok(steps)
 }

@@ -129,20 +129,20 @@ room_is doc u layout wide before below full w t b by f h i j =
         ((f -ℤ w) -ℤ t) -ℤ b ≡ ((f' -ℤ w') -ℤ t') -ℤ b'
     left_is f w t b f' w' t' b' p q r s = cc
 
-pub laid_is : (doc : Document) (u : State) (layout : Layout) (wide : Option ℤ) (before below after : List ℕ) (room : TextRoom) →
+pub laid_is : (doc : Document) (u : State) (layout kept : Layout) (wide : Option ℤ) (before below after : List ℕ) (room : TextRoom) →
     IsLaidBy doc u layout wide before below → after ≡ plus_counts doc.style below layout.bottom →
-    room ≡ text_room doc u layout →
-    ◌≡◌ {A = Laid} (record { layout = layout; wide = wide; after = after; room = room }) (laid_of doc u layout)
-laid_is doc u layout wide before below after room by a r =
-    same wide _ after _ room _ by.wide_is
+    room ≡ text_room doc u layout → kept ≡ layout →
+    ◌≡◌ {A = Laid} (record { layout = kept; wide = wide; after = after; room = room }) (laid_of doc u layout)
+laid_is doc u layout kept wide before below after room by a r k =
+    same kept _ wide _ after _ room _ k by.wide_is
     (a ∙ (ap (λ (counts : List ℕ). plus_counts doc.style counts layout.bottom) by.below_is
     ∙ ap (λ (counts : List ℕ). plus_counts doc.style (plus_counts doc.style counts layout.top) layout.bottom)
     by.before_is)) r
   where
-    same : (w w' : Option ℤ) (a a' : List ℕ) (r r' : TextRoom) → w ≡ w' → a ≡ a' → r ≡ r' →
-        ◌≡◌ {A = Laid} (record { layout = layout; wide = w; after = a; room = r })
-        (record { layout = layout; wide = w'; after = a'; room = r' })
-    same w w' a a' r r' p q s = cc
+    same : (l l' : Layout) (w w' : Option ℤ) (a a' : List ℕ) (r r' : TextRoom) → l ≡ l' → w ≡ w' → a ≡ a' → r ≡ r' →
+        ◌≡◌ {A = Laid} (record { layout = l; wide = w; after = a; room = r })
+        (record { layout = l'; wide = w'; after = a'; room = r' })
+    same l l' w w' a a' r r' o p q s = cc
 
 -- one more layout behind those before it
 pub laid_more : (doc : Document) (u : State) (layouts : List Layout) (i : ℕ) (layout copy : Layout) (it : Laid)

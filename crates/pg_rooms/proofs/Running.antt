@@ -20,8 +20,9 @@ use Rattle.pg_layouts.specs.declared.layout.Layout.{Layout}
 use Rattle.pg_layouts.specs.Layouts.{float_layouts, layout_of, runs_of, takes_run, text_layouts, wides_of, with_bottoms, with_floats, with_tops, zeros}
 use Rattle.law_moves.specs.Listed.{placed_with}
 use Rattle.law_moves.specs.Steps.{text_give, wide_of}
+use Rattle.pg_small.specs.Parts.{with_run}
 use Rattle.pg_rooms.specs.Laid.{IsLaid, laid_of}
-use Rattle.pg_rooms.specs.Runs.{IsLow, first_run, full_in, laid_in, laid_in_all, laid_on, with_run}
+use Rattle.pg_rooms.specs.Runs.{IsLow, first_run, full_in, laid_in, laid_in_all, laid_on}
 use Rattle.pg_rooms.specs.declared.laid.Laid.{Laid}
 
 -- ---- layouts of a run are those of another, with that run
@@ -85,21 +86,19 @@ all_low [] low = tt
 all_low (it ∷ laid) low = (low.0.small, all_low laid low.1)
 
 -- a layout by its parts
-pub in_run_is : (style : StyleValue) (run : ℕ) (it : Laid) (wide top bottom after : List ℕ) (room : TextRoom) (more : ℤ) →
-    wide ≡ it.layout.wide → top ≡ it.layout.top → bottom ≡ it.layout.bottom → after ≡ it.after →
+pub in_run_is : (style : StyleValue) (run : ℕ) (it : Laid) (layout : Layout) (after : List ℕ) (room : TextRoom) (more : ℤ) →
+    layout ≡ with_run run it.layout → after ≡ it.after →
     more ≡ full_in style run -ℤ full_in style it.layout.run → room.size ≡ it.room.size +ℤ more →
     room.give ≡ it.room.give →
-    ◌≡◌ {A = Laid} (record { layout = layout_of run wide top bottom; wide = it.wide; after = after; room = room })
-    (laid_in style run it)
-in_run_is style run it wide top bottom after room more w t b a m s g =
-    same wide _ top _ bottom _ after _ room.size _ room.give _ w t b a
+    ◌≡◌ {A = Laid} (record { layout = layout; wide = it.wide; after = after; room = room }) (laid_in style run it)
+in_run_is style run it layout after room more l a m s g =
+    same layout _ after _ room.size _ room.give _ l a
     (s ∙ ap (λ (z : ℤ). it.room.size +ℤ z) m) g
   where
-    same : (w w' t t' b b' a a' : List ℕ) (s s' : ℤ) (g g' : Give) → w ≡ w' → t ≡ t' → b ≡ b' → a ≡ a' → s ≡ s' →
-        g ≡ g' → ◌≡◌ {A = Laid}
-        (record { layout = layout_of run w t b; wide = it.wide; after = a; room = record { size = s; give = g } })
-        (record { layout = layout_of run w' t' b'; wide = it.wide; after = a'; room = record { size = s'; give = g' } })
-    same w w' t t' b b' a a' s s' g g' p q r u v x = cc
+    same : (l l' : Layout) (a a' : List ℕ) (s s' : ℤ) (g g' : Give) → l ≡ l' → a ≡ a' → s ≡ s' → g ≡ g' → ◌≡◌ {A = Laid}
+        (record { layout = l; wide = it.wide; after = a; room = record { size = s; give = g } })
+        (record { layout = l'; wide = it.wide; after = a'; room = record { size = s'; give = g' } })
+    same l l' a a' s s' g g' p q r u = cc
 
 -- ---- and so is what they make of their pages
 

@@ -6,7 +6,7 @@ use Rattle.pg_style.specs.Values.{StyleValue}
 use Rattle.pg_rules.specs.Room.{extra}
 use Rattle.pg_column.specs.Numbers.{IsRoom}
 use Rattle.pg_column.specs.declared.cost.TextRoom.{TextRoom}
-use Rattle.pg_layouts.specs.declared.layout.Layout.{Layout}
+use Rattle.pg_small.specs.Parts.{with_run}
 use Rattle.pg_rooms.specs.declared.laid.Laid.{Laid}
 
 -- a room so small that it is one on a page of any run
@@ -22,11 +22,7 @@ first_run u = record u { run = Some (unwrap_or u.run 0) }
 abbrev pub full_in : StyleValue → ℕ → ℤ
 full_in style run = style.height +ℤ extra style run
 
--- the same layout on a page of another run
-abbrev pub with_run : ℕ → Layout → Layout
-with_run run it = record it { run = run }
-
--- the same with what it makes of its page
+-- the same layout on a page of another run, with what it makes of its page
 abbrev pub laid_in : StyleValue → ℕ → Laid → Laid
 laid_in style run it = record it {
   layout = with_run run it.layout;

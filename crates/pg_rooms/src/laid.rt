@@ -18,6 +18,7 @@ use pg_floats::{checked_area, checked_give, count_floats, full_height};
 use pg_layouts::{Layout, plus_counts};
 use pg_plan::{Counts, State};
 use pg_scaled::minus;
+use pg_small::SmallLayout;
 use pg_sources::Sources;
 use pg_style::{AreaRule, Give};
 use std::alloc::AllocError;
@@ -25,7 +26,7 @@ use std::alloc::AllocError;
 /// A layout, the height of its page's wide area, the floats that are placed behind it, and the room of a text in it.
 #[derive(Drop)]
 pub struct Laid {
-    pub layout: Layout,
+    pub layout: SmallLayout,
     pub wide: Option<i64>,
     pub after: Counts,
     pub room: TextRoom,
@@ -222,7 +223,7 @@ pub fn lay(sources: &Sources<'_>, state: &State, layout: Layout) -> Result<Laid,
     let wide = wide_height(sources, state, &layout.wide);
     let room = room(sources, wide, &before, &below, &layout);
     Ok(Laid {
-        layout,
+        layout: SmallLayout::of(sources.alloc, layout)?,
         wide,
         after,
         room,

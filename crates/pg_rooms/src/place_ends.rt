@@ -24,7 +24,7 @@ use crate::left::ask_behind;
 use pg_candidates::{NearList, RoomEnd, has_text};
 use pg_column::TextRoom;
 use pg_list::Place;
-use pg_sources::Sources;
+use pg_sources::{PlaceCounts, Sources};
 use pg_walk::{FirstWalk, PlaceWalk, StraightEnds, straight_ends};
 use std::alloc::{AllocError, Global};
 
@@ -52,8 +52,8 @@ impl RoomEnds {
     }
 }
 
-/// What is kept of a place: its walk, the ends in the rooms that were asked for, what is called before them, and what is kept
-/// behind the front up to which the walk goes, where it does not go on itself.
+/// What is kept of a place: its walk, the ends in the rooms that were asked for, what is called before them and around the
+/// place, and what is kept behind the front up to which the walk goes, where it does not go on itself.
 #[derive(Drop)]
 pub struct PlaceEnds {
     pub walk: PlaceWalk,
@@ -62,6 +62,8 @@ pub struct PlaceEnds {
     pub rooms: Vec<RoomEnds>,
     pub calls: Calls,
     pub behind: Option<Behind>,
+    /// What is called around the place.
+    pub counts: PlaceCounts,
 }
 
 // What is kept of a room.
@@ -195,62 +197,69 @@ fn first_rooms(
     Ok(rooms)
 }
 
+// The place where columns begin, whether the ends along the first stretch are found room by room, and else the candidates
+// among which they are.
+#[derive(Clone, Copy)]
+struct FirstStretch<'a> {
+    from: Place,
+    is_straight: bool,
+    near: &'a NearList,
+}
+
 // Works out the ends in a room that is not below the least one, where they are not kept yet: by a walk, or from candidates.
 fn ask_room(
     sources: &Sources<'_>,
-    from: Place,
-    is_straight: bool,
-    near: &NearList,
+    first: &FirstStretch<'_>,
     room: &TextRoom,
     rooms: &mut Vec<RoomEnds>,
     calls: &mut Calls,
 ) -> Result<(), AllocError>
-    requires place { IsPlace sources.now.galley.now.blocks from }
+    requires place { IsPlace sources.now.galley.now.blocks first.now.from }
     requires room { IsRoom room.now }
     ensures has { OnOk result (has_text_of sources.now.style.now room.now ≡ true →
         has_room rooms.new.items room.now ≡ true) }
     ensures keeps { OnOk result ((other : ATextRoom) → has_room rooms.old.items other ≡ true →
         has_room rooms.new.items other ≡ true) }
-    ensures right { OnOk result ((cs : List Candidate) → AreFirst (doc_of sources.now) from cs is_straight near.now →
+    ensures right { OnOk result ((cs : List Candidate) →
+        AreFirst (doc_of sources.now) first.now.from cs first.now.is_straight first.now.near.now →
         IsPageRoom sources.now.style.now room.now → AreCalls (doc_of sources.now) calls.old.items.items →
-        AllByRecursion (AreRoomEnds (doc_of sources.now) cs near.now.candidates) rooms.old.items →
-        AllByRecursion (AreRoomEnds (doc_of sources.now) cs near.now.candidates) rooms.new.items) }
+        AllByRecursion (AreRoomEnds (doc_of sources.now) cs first.now.near.now.candidates) rooms.old.items →
+        AllByRecursion (AreRoomEnds (doc_of sources.now) cs first.now.near.now.candidates) rooms.new.items) }
     ensures calls { OnOk result (AreCalls (doc_of sources.now) calls.old.items.items →
         AreCalls (doc_of sources.now) calls.new.items.items) }
 {
     if !has_text(sources.style, room) {
         return Ok(());
     }
-    if is_straight {
-        return add_straight(sources, from, room, rooms, calls);
+    if first.is_straight {
+        return add_straight(sources, first.from, room, rooms, calls);
     }
-    add_room(sources, near, room, rooms, calls)
+    add_room(sources, first.near, room, rooms, calls)
 }
 
 // Works out the ends in the rooms of layouts that are not below the least one, where they are not kept yet.
 fn add_rooms(
     sources: &Sources<'_>,
-    from: Place,
-    is_straight: bool,
-    near: &NearList,
+    first: &FirstStretch<'_>,
     laid: &[Laid],
     rooms: &mut Vec<RoomEnds>,
     calls: &mut Calls,
 ) -> Result<(), AllocError>
-    requires place { IsPlace sources.now.galley.now.blocks from }
+    requires place { IsPlace sources.now.galley.now.blocks first.now.from }
     requires small { AllByRecursion (λ (it : ALaid). IsRoom it.room) laid.now }
     ensures has { OnOk result ((it : ALaid) → Contains laid.now it → has_text_of sources.now.style.now it.room ≡ true →
         has_room rooms.new.items it.room ≡ true) }
-    ensures right { OnOk result ((cs : List Candidate) → AreFirst (doc_of sources.now) from cs is_straight near.now →
+    ensures right { OnOk result ((cs : List Candidate) →
+        AreFirst (doc_of sources.now) first.now.from cs first.now.is_straight first.now.near.now →
         AllByRecursion (λ (it : ALaid). IsPageRoom sources.now.style.now it.room) laid.now →
         AreCalls (doc_of sources.now) calls.old.items.items →
-        AllByRecursion (AreRoomEnds (doc_of sources.now) cs near.now.candidates) rooms.old.items →
-        AllByRecursion (AreRoomEnds (doc_of sources.now) cs near.now.candidates) rooms.new.items) }
+        AllByRecursion (AreRoomEnds (doc_of sources.now) cs first.now.near.now.candidates) rooms.old.items →
+        AllByRecursion (AreRoomEnds (doc_of sources.now) cs first.now.near.now.candidates) rooms.new.items) }
     ensures calls { OnOk result (AreCalls (doc_of sources.now) calls.old.items.items →
         AreCalls (doc_of sources.now) calls.new.items.items) }
 {
     for it in laid {
-        ask_room(sources, from, is_straight, near, &it.room, rooms, calls)?;
+        ask_room(sources, first, &it.room, rooms, calls)?;
     }
     Ok(())
 }
@@ -267,13 +276,14 @@ pub fn room_in<'a>(rooms: &'a [RoomEnds], room: &TextRoom) -> (&'a [Group], &'a 
 }
 
 impl PlaceEnds {
-    /// A walk, with no room asked for, and calls of any places. No memory is taken.
-    pub fn new(alloc: Global, walk: PlaceWalk, calls: Calls) -> PlaceEnds
+    /// A walk, with no room asked for, calls of any places, and the counts at the place. No memory is taken.
+    pub fn new(alloc: Global, walk: PlaceWalk, calls: Calls, counts: PlaceCounts) -> PlaceEnds
         ensures walk { result.walk ≡ walk }
         ensures listed { result.is_straight ≡ false }
         ensures rooms { result.rooms.items ≡ [] }
         ensures calls { result.calls ≡ calls }
         ensures behind { result.behind ≡ None }
+        ensures counts { result.counts ≡ counts }
     {
         PlaceEnds {
             walk,
@@ -281,19 +291,22 @@ impl PlaceEnds {
             rooms: Vec::new(alloc),
             calls,
             behind: None,
+            counts,
         }
     }
 
-    /// What the first stretch from a place tells, what is kept behind the front there, if columns come to one, and calls of any
-    /// places. The one refusal is want of memory.
+    /// What the first stretch from a place tells, what is kept behind the front there, if columns come to one, calls of any
+    /// places, and the counts at the place. The one refusal is want of memory.
     pub fn of_first(
         sources: &Sources<'_>,
         first: FirstWalk,
         reach: u32,
         behind: Option<Behind>,
         calls: Calls,
+        counts: PlaceCounts,
     ) -> Result<PlaceEnds, AllocError>
         ensures reach { IfOk result (λ it. it.walk.reach ≡ reach) }
+        ensures counts { IfOk result (λ it. it.counts ≡ counts) }
         ensures right { IfOk result (λ it. (from : APlace) (cs : List Candidate) → Tells (doc_of sources.now) from cs first →
             AreCandidates (doc_of sources.now) from (tallest sources.now.style.now) (cs ++ behind_candidates behind) →
             AreApart cs (behind_candidates behind) → AreCalls (doc_of sources.now) calls.items.items →
@@ -309,6 +322,7 @@ impl PlaceEnds {
             rooms,
             calls,
             behind,
+            counts,
         })
     }
 
@@ -325,6 +339,7 @@ impl PlaceEnds {
         requires place { IsPlace sources.now.galley.now.blocks from }
         requires small { AllByRecursion (λ (it : ALaid). IsRoom it.room) laid.now }
         ensures walk { OnOk result (self.new.walk ≡ self.old.walk) }
+        ensures counts { OnOk result (self.new.counts ≡ self.old.counts) }
         ensures has { OnOk result ((it : ALaid) → Contains laid.now it → has_text_of sources.now.style.now it.room ≡ true →
             has_room self.new.rooms.items it.room ≡ true) }
         ensures behind { OnOk result ((it : ALaid) → Contains laid.now it → has_text_of sources.now.style.now it.room ≡ true →
@@ -333,17 +348,12 @@ impl PlaceEnds {
             AllByRecursion (λ (it : ALaid). IsPageRoom sources.now.style.now it.room) laid.now →
             ArePlaceEnds (doc_of sources.now) from self.old → ArePlaceEnds (doc_of sources.now) from self.new) }
     {
-        let near = &self.walk.near;
-        let rooms = &mut self.rooms;
-        add_rooms(
-            sources,
+        let first = FirstStretch {
             from,
-            self.is_straight,
-            near,
-            laid,
-            rooms,
-            &mut self.calls,
-        )?;
+            is_straight: self.is_straight,
+            near: &self.walk.near,
+        };
+        add_rooms(sources, &first, laid, &mut self.rooms, &mut self.calls)?;
         ask_behind(sources, laid, &mut self.behind, &mut self.calls)
     }
 }

@@ -8,7 +8,6 @@ ghost use Rattle.pg_rooms.specs.declared.laid.Laid.{Laid as ALaid};
 use crate::laid::Laid;
 use pg_column::TextRoom;
 use pg_floats::full_height;
-use pg_layouts::Layout;
 use pg_plan::State;
 use pg_scaled::{minus, plus};
 use pg_sources::Sources;
@@ -52,16 +51,10 @@ fn in_run(sources: &Sources<'_>, it: &Laid, run: u8) -> Result<Laid, AllocError>
     ensures value { IfOk result (λ laid. laid ≡ laid_in sources.now.style.now run it.now) }
     ensures small { IfOk result (λ laid. IsRoom laid.room) }
 {
-    let layout = &it.layout;
-    let more = higher(sources.style, run, layout.run);
+    let more = higher(sources.style, run, it.layout.run());
     let room = raised(&it.room, more);
     Ok(Laid {
-        layout: Layout {
-            run,
-            wide: layout.wide.copy()?,
-            top: layout.top.copy()?,
-            bottom: layout.bottom.copy()?,
-        },
+        layout: it.layout.in_run(sources.alloc, run)?,
         wide: it.wide,
         after: it.after.copy()?,
         room,

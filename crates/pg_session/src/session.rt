@@ -15,7 +15,7 @@ use pg_floats::{FloatFault, FloatList};
 use pg_hops::BreakIndex;
 use pg_list::{Edit, Galley};
 use pg_plan::LabelList;
-use pg_space::Outcome;
+use pg_space::{Indexed, Outcome};
 use pg_style::Style;
 use pg_table::Steps;
 use std::alloc::{AllocError, Global};
@@ -144,15 +144,13 @@ impl Session {
         ensures ok { IfOk result (λ outcome. IsSolved self.old outcome self.new steps.old steps.new) }
         ensures err { OnErr result (Forgets self.old self.new) }
     {
-        match solve_kept(
-            self.alloc,
-            &self.galley,
-            &self.style,
-            &self.floats,
-            &self.index,
-            &mut self.kept,
-            steps,
-        ) {
+        let pages = Indexed {
+            galley: &self.galley,
+            style: &self.style,
+            floats: &self.floats,
+            index: &self.index,
+        };
+        match solve_kept(self.alloc, &pages, &mut self.kept, steps) {
             Ok(outcome) => Ok(outcome),
             Err(fault) => {
                 self.kept = Kept::new(self.alloc);
@@ -172,15 +170,13 @@ impl Session {
         ensures ok { IfOk result (λ told. IsPaginated self.old told self.new steps.old steps.new) }
         ensures err { OnErr result (Forgets self.old self.new) }
     {
-        let Ok(told) = paginate_kept(
-            self.alloc,
-            &self.galley,
-            &self.style,
-            &self.floats,
-            &self.index,
-            &mut self.kept,
-            steps,
-        ) else {
+        let pages = Indexed {
+            galley: &self.galley,
+            style: &self.style,
+            floats: &self.floats,
+            index: &self.index,
+        };
+        let Ok(told) = paginate_kept(self.alloc, &pages, &mut self.kept, steps) else {
             self.kept = Kept::new(self.alloc);
             return Err(AllocError);
         };

@@ -11,16 +11,16 @@ use Rattle.pg_small.specs.declared.picks.PickView.TheVariants.{Bytes, Words}
 
 -- the column as a step of a pagination
 abbrev pub move_kept : Kept → PageMove
-move_kept (Few run classes count from to top bottom wide picks) = record {
+move_kept (Few count layout picks from to) = record {
   column = record {
     from = from;
     to = to;
-    top = take classes top;
-    bottom = take classes bottom;
+    top = take layout.classes layout.top;
+    bottom = take layout.classes layout.bottom;
     picks = take count picks;
   };
-  run = run;
-  wide = take classes wide;
+  run = layout.run;
+  wide = take layout.classes layout.wide;
 }
 move_kept (Many step) = step.value
 

@@ -1,3 +1,4 @@
 pub mod Seen
 pub mod Columns
+pub mod Layouts
 pub mod Parts

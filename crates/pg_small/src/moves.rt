@@ -3,34 +3,32 @@ ghost use Rattle.std.specs.Prelude.{◌≡◌, IfOk, IfSome};
 ghost use Rattle.std.specs.Cmp.Lexicographic.{slice_cmp};
 ghost use Rattle.pg_plan.specs.Order.{column_cmp, counts_cmp};
 ghost use Rattle.pg_small.specs.Columns.{floats_cmp, move_kept, picks_seen};
+ghost use Rattle.pg_small.specs.Parts.{column_of};
 
-use crate::lists::{counts_from, few_counts, first_bytes, first_counts};
-use crate::picks::{PickView, compare_picks, few_picks};
+use crate::layouts::{FewLayout, SmallLayout};
+use crate::lists::{counts_from, first_bytes, first_counts};
+use crate::picks::{PickView, compare_picks, few_picks, picks_from};
 use pg_list::Place;
-use pg_plan::{Column, Counts, PageMove, Picks, compare_places};
+use pg_plan::{Column, PageMove, compare_places};
 use std::alloc::{AllocError, Global};
 use std::cmp::Ordering;
 use std::marker::Model;
 
-// The first `classes` of `top`, `bottom` and `wide`, and the first `count` of `picks`.
+// The layout, and the first `count` of `picks`.
 #[derive(Drop)]
 pub(crate) enum Kept {
     Few {
-        run: u8,
-        classes: u8,
         count: u8,
+        layout: FewLayout,
+        picks: [u8; 18],
         from: Place,
         to: Place,
-        top: [u16; 3],
-        bottom: [u16; 3],
-        wide: [u16; 3],
-        picks: [u8; 18],
     },
     Many(Box<PageMove>),
 }
 
-/// A column as one step of a pagination, in 64 bytes. One whose three lists of counts are not of one length, or that has
-/// more than three counts, more than 18 picks or a pick above 255, stands on the heap.
+/// A column as one step of a pagination, in 64 bytes. One whose layout does not fit in few bytes, or that has more
+/// than 18 picks or a pick above 255, stands on the heap.
 #[derive(Drop)]
 pub struct SmallMove {
     kept: Kept,
@@ -45,39 +43,18 @@ impl Model for SmallMove {
     ghost view = { λ a. move_kept a.kept };
 }
 
-// This column in few bytes, if it fits.
-fn few_move(
-    from: Place,
-    to: Place,
-    run: u8,
-    top: &[u16],
-    bottom: &[u16],
-    wide: &[u16],
-    picks: &[u32],
-) -> Option<Kept>
-    ensures { IfSome result (λ it. move_kept it ≡ record {
-      column = record { from = from; to = to; top = top.now; bottom = bottom.now; picks = picks.now };
-      run = run;
-      wide = wide.now;
-    }) }
+// The column of a layout in few bytes, if it fits.
+fn few_move(layout: &SmallLayout, from: Place, to: Place, picks: &[u32]) -> Option<Kept>
+    ensures { IfSome result (λ it. move_kept it ≡ column_of layout.now from to picks.now) }
 {
-    let (classes, top) = few_counts(top)?;
-    let (bottoms, bottom) = few_counts(bottom)?;
-    let (wides, wide) = few_counts(wide)?;
-    if bottoms != classes || wides != classes {
-        return None;
-    }
+    let layout = layout.few()?;
     let (count, picks) = few_picks(picks)?;
     Some(Kept::Few {
-        run,
-        classes,
         count,
+        layout: *layout,
+        picks,
         from,
         to,
-        top,
-        bottom,
-        wide,
-        picks,
     })
 }
 
@@ -85,29 +62,26 @@ fn few_move(
 #[inline(never)]
 fn many_move(
     alloc: Global,
+    layout: &SmallLayout,
     from: Place,
     to: Place,
-    run: u8,
-    top: &Counts,
-    bottom: &Counts,
-    wide: &Counts,
-    picks: &Picks,
+    picks: &[u32],
 ) -> Result<Kept, AllocError>
-    ensures { IfOk result (λ it. move_kept it ≡ record {
-      column = record { from = from; to = to; top = top.now; bottom = bottom.now; picks = picks.now };
-      run = run;
-      wide = wide.now;
-    }) }
+    ensures { IfOk result (λ it. move_kept it ≡ column_of layout.now from to picks.now) }
 {
     let column = Column {
         from,
         to,
-        top: top.copy()?,
-        bottom: bottom.copy()?,
-        picks: picks.copy()?,
+        top: counts_from(alloc, layout.top())?,
+        bottom: counts_from(alloc, layout.bottom())?,
+        picks: picks_from(alloc, picks)?,
     };
-    let wide = wide.copy()?;
-    Ok(Kept::Many(Box::new(alloc, PageMove { column, run, wide })?))
+    let step = PageMove {
+        column,
+        run: layout.run(),
+        wide: counts_from(alloc, layout.wide())?,
+    };
+    Ok(Kept::Many(Box::new(alloc, step)?))
 }
 
 fn compare_counts(a: &[u16], b: &[u16]) -> Ordering
@@ -117,36 +91,20 @@ fn compare_counts(a: &[u16], b: &[u16]) -> Ordering
 }
 
 impl SmallMove {
-    /// A column from a place to another, in this run, with these counts and picks. It fails where memory runs out.
+    /// The column of a layout between two places, by these picks, in few bytes. It fails where memory runs out.
     pub fn of(
         alloc: Global,
+        layout: &SmallLayout,
         from: Place,
         to: Place,
-        run: u8,
-        top: &Counts,
-        bottom: &Counts,
-        wide: &Counts,
-        picks: &Picks,
+        picks: &[u32],
     ) -> Result<SmallMove, AllocError>
-        ensures { IfOk result (λ it. it ≡ record {
-          column = record { from = from; to = to; top = top.now; bottom = bottom.now; picks = picks.now };
-          run = run;
-          wide = wide.now;
-        }) }
+        ensures { IfOk result (λ it. it ≡ column_of layout.now from to picks.now) }
     {
-        let few = few_move(
-            from,
-            to,
-            run,
-            top.as_slice(),
-            bottom.as_slice(),
-            wide.as_slice(),
-            picks.as_slice(),
-        );
-        match few {
+        match few_move(layout, from, to, picks) {
             Some(kept) => Ok(SmallMove { kept }),
             None => Ok(SmallMove {
-                kept: many_move(alloc, from, to, run, top, bottom, wide, picks)?,
+                kept: many_move(alloc, layout, from, to, picks)?,
             }),
         }
     }
@@ -193,7 +151,7 @@ impl SmallMove {
         ensures { result ≡ self.now.run }
     {
         match &self.kept {
-            Kept::Few { run, .. } => *run,
+            Kept::Few { layout, .. } => layout.run,
             Kept::Many(step) => step.run,
         }
     }
@@ -203,7 +161,7 @@ impl SmallMove {
         ensures { result.now ≡ self.now.column.top }
     {
         match &self.kept {
-            Kept::Few { classes, top, .. } => first_counts(top, *classes),
+            Kept::Few { layout, .. } => first_counts(&layout.top, layout.classes),
             Kept::Many(step) => step.column.top.as_slice(),
         }
     }
@@ -213,11 +171,7 @@ impl SmallMove {
         ensures { result.now ≡ self.now.column.bottom }
     {
         match &self.kept {
-            Kept::Few {
-                classes,
-                bottom,
-                ..
-            } => first_counts(bottom, *classes),
+            Kept::Few { layout, .. } => first_counts(&layout.bottom, layout.classes),
             Kept::Many(step) => step.column.bottom.as_slice(),
         }
     }
@@ -227,7 +181,7 @@ impl SmallMove {
         ensures { result.now ≡ self.now.wide }
     {
         match &self.kept {
-            Kept::Few { classes, wide, .. } => first_counts(wide, *classes),
+            Kept::Few { layout, .. } => first_counts(&layout.wide, layout.classes),
             Kept::Many(step) => step.wide.as_slice(),
         }
     }

@@ -40,7 +40,7 @@ fn picks_of_bytes(alloc: Global, picks: &[u8]) -> Result<Picks, AllocError>
     Ok(made)
 }
 
-fn picks_from(alloc: Global, picks: &[u32]) -> Result<Picks, AllocError>
+pub(crate) fn picks_from(alloc: Global, picks: &[u32]) -> Result<Picks, AllocError>
     ensures { IfOk result (λ it. it ≡ picks.now) }
 {
     let mut made = Picks::new(alloc);

@@ -5,7 +5,7 @@ ghost use Rattle.pg_floats.specs.AreFloats.{AreFloats};
 ghost use Rattle.pg_hops.specs.Index.{AreHops};
 ghost use Rattle.pg_hops.specs.OneProof.{AreHops_prop};
 ghost use Rattle.pg_list.specs.GalleyValue.{GalleyValue};
-ghost use Rattle.pg_sources.specs.Document.{doc_of};
+ghost use Rattle.pg_sources.specs.Document.{counts_of, doc_of};
 ghost use Rattle.law_space.specs.ReachAt.{reach_at};
 ghost use Rattle.pg_rooms.specs.Calls.{AreCalls};
 ghost use Rattle.pg_rooms.specs.KeptLaid.{AreLayouts};
@@ -23,7 +23,7 @@ ghost use Rattle.law_space.specs.PageSpace.{page_meaning};
 ghost use Rattle.pg_style.specs.Plain.{plain};
 ghost use Rattle.pg_style.specs.Values.{StyleValue};
 ghost use Rattle.pg_table.specs.Space.{AreWanted};
-ghost use Rattle.pg_space.specs.OneProof.{galley_set, style_set};
+ghost use Rattle.pg_space.specs.OneProof.{counts_set, galley_set, style_set};
 
 use crate::fronts::{Fronts, KeptFront, KeptReach};
 use crate::space::PageSpace;
@@ -73,6 +73,7 @@ struct Kept<D: Document> {
     ghost right: { ∥ ArePlaceEnds (document D.galley D.style) from ends.value ∥₁ },
     ghost laid: { AreLayouts (document D.galley D.style) layouts } by { AreLayouts_prop (document D.galley D.style) layouts },
     ghost reach: { ends.value.walk.reach ≡ reach_at (document D.galley D.style) from },
+    ghost counts: { ends.value.counts ≡ counts_of (document D.galley D.style) from } by { counts_set ends.value.counts (counts_of (document D.galley D.style) from) },
 }
 
 /// What serves for each other place: what is called before ends, layouts, and what is kept behind the front of the next
@@ -249,7 +250,8 @@ impl<'a, D: Document> KeptPages<'a, D> {
         let lowered = lowered(&front.start);
         let kept = self.behind(lowered.base, &mut fronts)?;
         let behind = behind_by(kept.ends, &lowered);
-        let made = PlaceEnds::of_first(sources, first, reach, Some(behind), shared.calls)?;
+        let counts = sources.counts_at(from, reach)?;
+        let made = PlaceEnds::of_first(sources, first, reach, Some(behind), shared.calls, counts)?;
         let ends = Box::new(sources.alloc, made)?;
         Ok(Kept {
             from,
@@ -275,7 +277,8 @@ impl<'a, D: Document> KeptPages<'a, D> {
         let sources = &self.pages.sources;
         reach_is_the_greatest(sources.galley, sources.style);
         let reach = first.reach;
-        let made = PlaceEnds::of_first(sources, first, reach, None, shared.calls)?;
+        let counts = sources.counts_at(from, reach)?;
+        let made = PlaceEnds::of_first(sources, first, reach, None, shared.calls, counts)?;
         let ends = Box::new(sources.alloc, made)?;
         Ok(Kept {
             from,
@@ -372,7 +375,7 @@ impl<D: Document> Space for KeptPages<'_, D> {
 
     type Key = PageKey;
 
-    ghost use Rattle.pg_sources.specs.Document.{doc_of};
+    ghost use Rattle.pg_sources.specs.Document.{counts_of, doc_of};
     ghost use Rattle.law_space.specs.PageSpace.{page_meaning};
     ghost use Rattle.pg_space.specs.PagesLawful.{pages_lawful};
 

@@ -34,50 +34,55 @@ pub enum Outcome {
     NoLegal,
 }
 
+/// A galley under a style, the list of its floats, and the index of its breaks.
+#[derive(Clone, Copy)]
+pub struct Indexed<'a> {
+    pub galley: &'a Galley,
+    pub style: &'a Style,
+    pub floats: &'a FloatList,
+    pub index: &'a BreakIndex,
+}
+
 /// Fills a table with the labels of a galley's pages, from the block `below` on, below which it has to be right for
 /// these pages. It keeps the labels that end below, and takes one step for each label of the new table whose reach is
 /// at least `below`. After a refusal, which is want of memory, the table is empty.
 pub fn refill_pages<L: Ledger>(
     alloc: Global,
-    galley: &Galley,
-    style: &Style,
-    floats: &FloatList,
-    index: &BreakIndex,
+    pages: &Indexed<'_>,
     table: &mut Table<SmallState, SmallMove, PageKey>,
     below: u32,
     steps: &mut Steps<L>,
 ) -> Result<(), AllocError>
-    requires hops { AreHops galley.now.blocks style.now.maxdepth index.now }
-    requires floats { AreFloats galley.now.blocks style.now floats.now }
-    requires right { (below ≡ 0) ⊎ IsRightBelow (page_meaning (document galley.now style.now)) below table.old }
-    ensures table { OnOk result (IsTable (page_meaning (document galley.now style.now)) table.new) }
+    requires hops { AreHops pages.now.galley.now.blocks pages.now.style.now.maxdepth pages.now.index.now }
+    requires floats { AreFloats pages.now.galley.now.blocks pages.now.style.now pages.now.floats.now }
+    requires right { (below ≡ 0) ⊎
+        IsRightBelow (page_meaning (document pages.now.galley.now pages.now.style.now)) below table.old }
+    ensures table { OnOk result (IsTable (page_meaning (document pages.now.galley.now pages.now.style.now)) table.new) }
     ensures err { OnErr result (table.new ≡ []) }
     ensures counted { OnOk result (steps.new ≡ steps.old + count_reaching below table.new) }
 {
-    refill_kept::<Brand, L>(alloc, galley, style, floats, index, table, below, steps)
+    refill_kept::<Brand, L>(alloc, pages, table, below, steps)
 }
 
 // The same of one document, where states of one place share a walk.
 fn refill_kept<D: Document, L: Ledger>(
     alloc: Global,
-    galley: &Galley,
-    style: &Style,
-    floats: &FloatList,
-    index: &BreakIndex,
+    pages: &Indexed<'_>,
     table: &mut Table<SmallState, SmallMove, PageKey>,
     below: u32,
     steps: &mut Steps<L>,
 ) -> Result<(), AllocError>
-    requires hops { AreHops galley.now.blocks style.now.maxdepth index.now }
-    requires floats { AreFloats galley.now.blocks style.now floats.now }
-    requires galley { galley.now ≡ D.galley }
-    requires style { style.now ≡ D.style }
-    requires right { (below ≡ 0) ⊎ IsRightBelow (page_meaning (document galley.now style.now)) below table.old }
-    ensures table { OnOk result (IsTable (page_meaning (document galley.now style.now)) table.new) }
+    requires hops { AreHops pages.now.galley.now.blocks pages.now.style.now.maxdepth pages.now.index.now }
+    requires floats { AreFloats pages.now.galley.now.blocks pages.now.style.now pages.now.floats.now }
+    requires galley { pages.now.galley.now ≡ D.galley }
+    requires style { pages.now.style.now ≡ D.style }
+    requires right { (below ≡ 0) ⊎
+        IsRightBelow (page_meaning (document pages.now.galley.now pages.now.style.now)) below table.old }
+    ensures table { OnOk result (IsTable (page_meaning (document pages.now.galley.now pages.now.style.now)) table.new) }
     ensures err { OnErr result (table.new ≡ []) }
     ensures counted { OnOk result (steps.new ≡ steps.old + count_reaching below table.new) }
 {
-    let space = KeptPages::<D>::new(alloc, galley, style, floats, index);
+    let space = KeptPages::<D>::new(alloc, pages.galley, pages.style, pages.floats, pages.index);
     table.refill_offered(&space, below, steps)?;
     Ok(())
 }

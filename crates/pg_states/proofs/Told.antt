@@ -1,6 +1,6 @@
 -- What is remembered of states of pages, and how it changes.
-use Rattle.std.proofs.Common.{◌≡◌, ◌⊎◌, inl, inr, refl, sym, ap, subst, ◌∙◌, ℕ, zero, suc, ◌<◌, List, [], ◌∷◌, ◌++◌, length, arith, Bool, true, false, Option, Some, None, T}
-use Rattle.std.specs.Prelude.{ℤ, ◌==◌, ◌&&◌, ◌||◌, ◌<ℤ◌, int_lt, replicate, set, slice_get}
+use Rattle.std.proofs.Common.{◌≡◌, ◌⊎◌, inl, inr, refl, sym, ap, subst, ◌∙◌, ℕ, zero, suc, ◌<◌, List, [], ◌∷◌, ◌++◌, length, arith, Bool, true, false, Option, Some, None, T, take}
+use Rattle.std.specs.Prelude.{ℤ, ◌==◌, ◌&&◌, ◌||◌, ◌<ℤ◌, int_lt, if◌then◌else◌, replicate, set, slice_get}
 use Rattle.std.specs.List.{list_any}
 use Rattle.std.specs.Option.{option_map_or}
 use Rattle.std.specs.Int.Signed.{lt_z_yes}
@@ -98,21 +98,48 @@ any_set test (x ∷ xs) (suc at) y h = elim (or_cases (test x) (list_any test (s
 ]
 
 -- what passes where all are the same
-pub any_same : {X : Type 0} (test : X → Bool) (count : ℕ) (y : X) → list_any test (replicate count y) ≡ true → test y ≡ true
+any_same : {X : Type 0} (test : X → Bool) (count : ℕ) (y : X) → list_any test (replicate count y) ≡ true → test y ≡ true
 any_same test zero y h = absurd cc
 any_same test (suc count) y h = elim (or_cases (test y) (list_any test (replicate count y)) h) [
   | inl own ↦ own
   | inr rest ↦ any_same test count y rest
 ]
 
--- the first elements stay where others come behind them
+-- what passes among the first ones
+any_front : {X : Type 0} (test : X → Bool) (count : ℕ) (xs : List X) → list_any test (take count xs) ≡ true →
+    list_any test xs ≡ true
+any_front test zero xs h = absurd cc
+any_front test (suc count) [] h = h
+any_front test (suc count) (x ∷ xs) h = elim (or_cases (test x) (list_any test (take count xs)) h) [
+  | inl own ↦ or_left (test x) (list_any test xs) own
+  | inr rest ↦ or_right (test x) (list_any test xs) (any_front test count xs rest)
+]
+
+-- what passes where the same one stands behind the others so many times
+any_behind : {X : Type 0} (test : X → Bool) (xs : List X) (count : ℕ) (y : X) →
+    list_any test (xs ++ replicate count y) ≡ true → (list_any test xs ≡ true) ⊎ (test y ≡ true)
+any_behind test [] count y h = inr (any_same test count y h)
+any_behind test (x ∷ xs) count y h = elim (or_cases (test x) (list_any test (xs ++ replicate count y)) h) [
+  | inl own ↦ inl (or_left (test x) (list_any test xs) own)
+  | inr rest ↦ more (test x) (list_any test xs) (test y) (any_behind test xs count y rest)
+]
+
+-- what passes where a list is made longer, if there is memory
+pub any_resized : {X : Type 0} (test : X → Bool) (xs : List X) (count behind : ℕ) (y : X) (ok : Bool) →
+    list_any test (if ok then take count xs ++ replicate behind y else xs) ≡ true →
+    (list_any test xs ≡ true) ⊎ (test y ≡ true)
+any_resized test xs count behind y false h = inl h
+any_resized test xs count behind y true h = elim (any_behind test (take count xs) behind y h) [
+  | inl front ↦ inl (any_front test count xs front)
+  | inr own ↦ inr own
+]
+
 -- ---- what is remembered
 
 -- a cell names one of so many lines, where it names none past them
 below : (count : ℕ) (cell : Cell) → is_past count cell ≡ false → cell.line < count
 below count cell h = grind (arith, h)
 
--- one of two that does not hold
 -- cells name lines that are there once a line is added, too
 pub past_more : (lines : List State) (line : State) (cells : List Cell) →
     list_any (is_past (length lines)) cells ≡ false → list_any (is_past (length (lines ++ line ∷ []))) cells ≡ false
@@ -139,7 +166,6 @@ line_more lines line (cell ∷ cells) v c none h =
       | inr rest ↦ or_right (tells lines v c cell) (list_any (tells lines v c) cells) (line_more lines line cells v c n.1 rest)
     ]
 
--- equal numbers, or both absent
 -- a cell of a line that is no worse tells of the states along it
 pub tells_along : (lines : List State) (u : State) (at : Place) (fitness : Option ℕ) (c : ℤ) (cell : Cell) →
     has_no_worse lines cell.line u ≡ true →

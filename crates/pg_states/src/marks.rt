@@ -20,7 +20,7 @@ use std::marker::Model;
 /// How many states are remembered at first, and how many at most.
 const FIRST_CELLS: usize = 1 << 12;
 
-const MOST_CELLS: usize = 1 << 18;
+const MOST_CELLS: usize = 1 << 17;
 
 /// How many states a search reaches before it remembers any.
 const REACHED_BEFORE: usize = 512;
@@ -30,6 +30,12 @@ const LINES: usize = 1 << 12;
 
 /// How many lines are found again by a hash.
 const SPOTS: usize = 1 << 11;
+
+/// How far apart states at places of blocks and of variants that follow one another are kept: odd numbers, so that no power
+/// of two brings them together.
+const BLOCK_STEP: usize = 31_161;
+
+const VARIANT_STEP: usize = 19_051;
 
 /// That a state was reached at a cost: the state of the line of this number, but at this place and with this fitness.
 #[derive(Copy, Clone)]
@@ -42,14 +48,14 @@ pub(crate) struct Cell {
 
 /// States that were reached, and their costs. States that differ in place and fitness alone are a line, of which one
 /// state stands for all. Of each state its line, its place and its fitness are kept where a hash tells, and what stood
-/// there before is forgotten. The more states are reached, the more are remembered.
+/// there before is forgotten. The more states are reached, the more are remembered, as far as there is memory.
 #[derive(Drop)]
 pub struct PageMarks {
     lines: Vec<SmallState>,
     /// The numbers of lines, each where a hash tells. They are only hints.
     numbers: Vec<u32>,
     cells: Vec<Cell>,
-    /// The bits of a hash that tell where a state is kept.
+    /// The bits of a number that tell where a state is kept.
     mask: usize,
     reached: usize,
 }
@@ -72,15 +78,22 @@ pub struct Line<'a> {
     marks: &'a PageMarks,
     /// A line no worse, where one is found.
     number: Option<u32>,
-    seed: u64,
+    /// From where on its states are kept.
+    base: usize,
     mask: usize,
 }
 
-// Where a state is kept, by these bits of a hash.
-fn spot_of(seed: u64, place: Place, mask: usize) -> usize {
-    let at = (1 << 20) * (8 * u64::from(place.block) + u64::from(place.variant))
-        + u64::from(place.index);
-    ((at ^ seed).wrapping_mul(0x9E37_79B9_7F4A_7C15) >> 40) as usize & mask
+// From where on the states of a line are kept, by the hash of its key.
+fn base_of(seed: u64) -> usize {
+    (seed >> 40) as usize
+}
+
+// Where a state is kept, by the bits of this mask: states at places of one block side by side, and those of blocks that follow
+// one another far apart.
+fn spot_of(base: usize, place: Place, mask: usize) -> usize {
+    let block = BLOCK_STEP * place.block as usize;
+    let variant = VARIANT_STEP * place.variant as usize;
+    base.wrapping_add(block + variant + place.index as usize) & mask
 }
 
 // Where the number of the line of a state with this hash of its key is kept.
@@ -117,19 +130,19 @@ fn double_cells(cells: &mut Vec<Cell>) -> Result<(), AllocError>
     Ok(())
 }
 
-// Makes more cells where there are few for so many states. The first ones all tell what this cell tells.
-fn make_cells(cells: &mut Vec<Cell>, reached: usize, cell: Cell) -> Result<(), AllocError>
+// Makes cells where there are none: as many as before all was forgotten, which all tell what this cell tells. Makes as many
+// again each time that twice as many states were reached. Where memory for more is refused, there stay as many as there are.
+fn make_cells(cells: &mut Vec<Cell>, before: usize, reached: usize, cell: Cell)
     ensures { (test : Cell → Bool) → list_any test cells.new.items ≡ true →
         (list_any test cells.old.items ≡ true) ⊎ (test cell ≡ true) }
 {
     if cells.is_empty() {
-        *cells = vec![in *cells.allocator(); cell; FIRST_CELLS]?;
-        return Ok(());
+        let _ = cells.resize(before.max(FIRST_CELLS), cell);
+        return;
     }
-    if cells.len() < MOST_CELLS && reached > cells.len() / 4 {
-        double_cells(cells)?;
+    if cells.len() < MOST_CELLS && reached.is_power_of_two() {
+        let _ = double_cells(cells);
     }
-    Ok(())
 }
 
 // Keeps a cell at a spot.
@@ -200,7 +213,7 @@ impl Line<'_> {
         ensures marks { self.new.marks ≡ self.old.marks }
         ensures told { result ≡ true → is_marked self.old.marks.now (along state.now place fitness) cost ≡ true }
     {
-        match self.marks.cell_at(spot_of(self.seed, place, self.mask)) {
+        match self.marks.cell_at(spot_of(self.base, place, self.mask)) {
             None => false,
             Some(cell) => {
                 cell.is_lower(place, fitness, cost) && self.has_no_worse(cell.line, state)
@@ -247,7 +260,7 @@ impl PageMarks {
         Line {
             marks: self,
             number: self.number_of(seed, state),
-            seed,
+            base: base_of(seed),
             mask: self.mask,
         }
     }
@@ -300,16 +313,16 @@ impl PageMarks {
     }
 
     // Remembers that a state with this hash of its key was reached, of which a cell tells.
-    fn keep(&mut self, seed: u64, cell: Cell) -> Result<(), AllocError>
+    fn keep(&mut self, seed: u64, cell: Cell)
         requires { cell.line < length self.old.lines }
         ensures { (v : State) (c : ℤ) → is_marked self.new v c ≡ true →
             (is_marked self.old v c ≡ true) ⊎ (tells self.old.lines v c cell ≡ true) }
     {
-        make_cells(&mut self.cells, self.reached, cell)?;
-        self.mask = self.cells.len().wrapping_sub(1);
-        let spot = spot_of(seed, cell.place, self.mask);
+        let before = self.mask.wrapping_add(1);
+        make_cells(&mut self.cells, before, self.reached, cell);
+        self.mask = self.cells.len().saturating_sub(1);
+        let spot = spot_of(base_of(seed), cell.place, self.mask);
         put_cell(&mut self.cells, spot, cell);
-        Ok(())
     }
 }
 
@@ -341,7 +354,9 @@ impl Marking<SmallState> for PageMarks {
             return Ok(());
         };
         let seed = state.key_hash();
-        let line = self.find_line(seed, state)?;
+        let Ok(line) = self.find_line(seed, state) else {
+            return Ok(());
+        };
         let place = state.place();
         let cell = Cell {
             cost,
@@ -349,7 +364,7 @@ impl Marking<SmallState> for PageMarks {
             line,
             fitness: state.fitness(),
         };
-        self.keep(seed, cell)?;
+        self.keep(seed, cell);
         Ok(())
     }
 }

@@ -5,7 +5,7 @@ ghost use Rattle.law_space.specs.ReachAt.{reach_at};
 ghost use Rattle.pg_rooms.specs.KeptLaid.{AreLayouts};
 ghost use Rattle.pg_rooms.specs.PlaceEnds.{ArePlaceEnds};
 ghost use Rattle.pg_rules.specs.IsState.{IsState};
-ghost use Rattle.pg_sources.specs.Document.{doc_of};
+ghost use Rattle.pg_sources.specs.Document.{counts_of, doc_of};
 ghost use Rattle.pg_table.specs.Space.{AreWanted};
 
 use pg_plan::State;
@@ -26,6 +26,7 @@ pub fn open_by<W: Wants<State = SmallState, Marks = PageMarks>>(
 ) -> Result<Opened<SmallState, SmallMove>, AllocError>
     requires own { IsState (doc_of sources.now) state.now }
     requires reach { kept.old.walk.reach ≡ reach_at (doc_of sources.now) state.now.place }
+    requires counts { kept.old.counts ≡ counts_of (doc_of sources.now) state.now.place }
     requires layouts { AreLayouts (doc_of sources.now) layouts.old }
     ensures moves { IfOk result (λ it. ArePlaceEnds (doc_of sources.now) state.now.place kept.old →
         AreWanted (page_meaning (doc_of sources.now)) state.now (W.spares wants.now) it.steps) }
@@ -33,6 +34,7 @@ pub fn open_by<W: Wants<State = SmallState, Marks = PageMarks>>(
     ensures kept { OnOk result (ArePlaceEnds (doc_of sources.now) state.now.place kept.old →
         ArePlaceEnds (doc_of sources.now) state.now.place kept.new) }
     ensures walk { OnOk result (kept.new.walk ≡ kept.old.walk) }
+    ensures counts { OnOk result (kept.new.counts ≡ kept.old.counts) }
     ensures layouts { OnOk result (AreLayouts (doc_of sources.now) layouts.new) }
 {
     pg_moves::open_by(sources, state, layouts, kept, wants)

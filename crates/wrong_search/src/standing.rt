@@ -3,13 +3,13 @@ ghost use Rattle.std.specs.Prelude.{◌≡◌, ◌↔◌, IfOk, IsTrue};
 ghost use Rattle.pg_rules.specs.IsState.{IsState};
 ghost use Rattle.pg_rules.specs.NoWorse.{is_no_worse, key};
 ghost use Rattle.pg_rules.specs.States.{is_done as is_done_of};
-ghost use Rattle.pg_sources.specs.Document.{before_of, doc_of};
+ghost use Rattle.pg_sources.specs.Document.{before_of, counts_of, doc_of};
 ghost use Rattle.pg_states.specs.Settling.{known_of};
 
 use pg_list::Place;
 use pg_plan::{PageKey, State};
 use pg_small::SmallState;
-use pg_sources::{Before, Sources};
+use pg_sources::{Before, PlaceCounts, Sources};
 use pg_space::PageSpace;
 use pg_states::Known;
 use std::alloc::{AllocError, Global};
@@ -44,10 +44,15 @@ pub fn is_state(space: &PageSpace<'_>, state: &State) -> bool
 }
 
 /// How many floats are called before a state, how many of these wait, and whether a text may begin there.
-pub fn known(sources: &Sources<'_>, state: &State) -> Result<Known, AllocError>
+pub fn known(
+    sources: &Sources<'_>,
+    state: &State,
+    counts: &PlaceCounts,
+) -> Result<Known, AllocError>
+    requires { counts.now ≡ counts_of (doc_of sources.now) state.now.place }
     ensures { IfOk result (λ it. it ≡ known_of (doc_of sources.now) state.now) }
 {
-    pg_states::known(sources, state)
+    pg_states::known(sources, state, counts)
 }
 
 /// How many floats are called before a place, and before the last barrier in front of it.

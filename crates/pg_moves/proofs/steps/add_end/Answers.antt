@@ -1,20 +1,18 @@
 use Rattle.std.proofs.Common.{◌∙◌, sym, rules, of_z, to_z}
 use Rattle.std.proofs.lemmas.Int.{to_z-of_z}
 use Rattle.std.specs.Int.{w128}
-use Rattle.pg_sources.specs.Document.{doc_of}
-use Rattle.pg_candidates.specs.RoomEnds.{picks_at}
+use Rattle.pg_moves.specs.Columns.{IsBehindIt, doc_at, move_at}
 use Rattle.pg_moves.specs.Outdone.{AreSpared}
-use Rattle.pg_moves.specs.Stepping.{IsBehind}
-use Rattle.pg_layouts.specs.Layouts.{move_of}
 use Rattle.pg_moves.proofs.Built.{asked_is, step, still_behind, still_spared}
 use Rattle.pg_moves.proofs.Stepped.{not_stepped, not_wanted, stepped}
 use Rattle.pg_moves.proofs.steps.add_end.Goals as goal
 use Rattle.pg_moves.proofs.steps.add_end.Goals.{After-end_at}
 
 -- up to the end it stays behind the column
-behind : (g : _) (c : After-end_at g) → IsBehind c.args.sources.now.style.now c.args.state.now c.args.laid.now
-    c.args.settled.now c.end_at.new.self
-behind g c = still_behind c.args.sources.now.style.now c.args.state.now c.args.laid.now c.args.settled.now
+behind : (g : _) (c : After-end_at g) → IsBehindIt c.args.column.now c.args.settled.now c.end_at.new.self
+behind g c =
+    let column = c.args.column.now in
+    still_behind column.sources.now.style.now column.state.now column.laid.now c.args.settled.now
     c.args.behind.now c.end_at.new.self _ _ c.end_at.ensures c.requires.behind
 
 -- and what is remembered stays of its line
@@ -29,8 +27,10 @@ pub rank-requires : goal.rank-requires
 rank-requires g c = (behind g (goal.at.rank-requires g c).After-end_at).tail
 
 pub returns-then-ends_here-clause-added : goal.returns-then-ends_here-clause-added
-returns-then-ends_here-clause-added g c = λ goes. not_stepped (doc_of c.args.sources.now) c.args.state.now
-    c.args.laid.now c.requires.laid (g.W.Wants.spares c.args.wants.now) c.args.near.now.candidates
+returns-then-ends_here-clause-added g c =
+    let column = c.args.column.now in
+    λ goes. not_stepped (doc_at column) column.state.now
+    column.laid.now c.requires.laid (g.W.Wants.spares c.args.wants.now) column.near.now.candidates
     c.args.end.now c.args.settled.now c.args.steps.now (sym c.ends_here.ensures ∙ c.if-ends_here.true) goes
 
 pub returns-then-not-wants-clause-spared : goal.returns-then-not-wants-clause-spared
@@ -40,16 +40,17 @@ pub returns-then-not-wants-clause-behind : goal.returns-then-not-wants-clause-be
 returns-then-not-wants-clause-behind g c = behind g (goal.at.returns-then-not-wants-clause-behind g c).After-end_at
 
 pub returns-then-not-wants-clause-added : goal.returns-then-not-wants-clause-added
-returns-then-not-wants-clause-added g c = λ goes. not_wanted (doc_of c.args.sources.now) c.args.state.now
-    c.args.laid.now c.requires.laid (g.W.Wants.spares c.args.wants.now) c.args.near.now.candidates
+returns-then-not-wants-clause-added g c =
+    let column = c.args.column.now in
+    λ goes. not_wanted (doc_at column) column.state.now
+    column.laid.now c.requires.laid (g.W.Wants.spares c.args.wants.now) column.near.now.candidates
     c.args.end.now c.args.settled.now
-    (step (doc_of c.args.sources.now) c.args.state.now c.args.laid.now c.requires.laid c.end_at.new.self.state
-    (move_of c.args.state.now c.args.laid.now.layout c.args.end.now.to
-    (picks_at c.args.near.now.candidates c.args.end.now.at))
+    (step (doc_at column) column.state.now column.laid.now c.requires.laid c.end_at.new.self.state
+    (move_at column c.args.end.now)
     (to_z w128 (of_z w128 c.cost_to-cost.result)))
     (sym c.ends_here.ensures ∙ c.if-ends_here.false)
-    (asked_is (doc_of c.args.sources.now) c.args.state.now c.args.laid.now c.requires.laid
-    c.args.near.now.candidates c.args.end.now c.args.settled.now c.args.behind.now c.end_at.new.self _
+    (asked_is (doc_at column) column.state.now column.laid.now c.requires.laid
+    column.near.now.candidates c.args.end.now c.args.settled.now c.args.behind.now c.end_at.new.self _
     c.end_at.ensures c.requires.behind
     (to_z-of_z w128 c.cost_to-cost.result (record { sfits = search rules }) ∙ c.cost_to-cost.ensures))
     goes c.args.steps.now (c.wants.ensures c.if-not-wants.true)
@@ -61,16 +62,17 @@ pub returns-clause-behind : goal.returns-clause-behind
 returns-clause-behind g c = behind g (goal.at.returns-clause-behind g c).After-end_at
 
 pub returns-clause-added : goal.returns-clause-added
-returns-clause-added g c = λ goes. stepped (doc_of c.args.sources.now) c.args.state.now
-    c.args.laid.now c.requires.laid (g.W.Wants.spares c.args.wants.now) c.args.near.now.candidates
+returns-clause-added g c =
+    let column = c.args.column.now in
+    λ goes. stepped (doc_at column) column.state.now
+    column.laid.now c.requires.laid (g.W.Wants.spares c.args.wants.now) column.near.now.candidates
     c.args.end.now c.args.settled.now
-    (step (doc_of c.args.sources.now) c.args.state.now c.args.laid.now c.requires.laid c.end_at.new.self.state
-    (move_of c.args.state.now c.args.laid.now.layout c.args.end.now.to
-    (picks_at c.args.near.now.candidates c.args.end.now.at))
+    (step (doc_at column) column.state.now column.laid.now c.requires.laid c.end_at.new.self.state
+    (move_at column c.args.end.now)
     (to_z w128 (of_z w128 c.cost_to-cost.result)))
     (sym c.ends_here.ensures ∙ c.if-ends_here.false)
-    (asked_is (doc_of c.args.sources.now) c.args.state.now c.args.laid.now c.requires.laid
-    c.args.near.now.candidates c.args.end.now c.args.settled.now c.args.behind.now c.end_at.new.self _
+    (asked_is (doc_at column) column.state.now column.laid.now c.requires.laid
+    column.near.now.candidates c.args.end.now c.args.settled.now c.args.behind.now c.end_at.new.self _
     c.end_at.ensures c.requires.behind
     (to_z-of_z w128 c.cost_to-cost.result (record { sfits = search rules }) ∙ c.cost_to-cost.ensures))
     goes c.args.steps.now c.push_step.new.steps c.in_ok-push_step.ensures

@@ -1,5 +1,5 @@
 use Rattle.pg_rooms.proofs.Grouped.{no_end, split_read}
-use Rattle.pg_sources.specs.Document.{doc_of}
+use Rattle.pg_moves.specs.Columns.{doc_at}
 use Rattle.pg_moves.proofs.Late.{none_left, one_more, skipped}
 use Rattle.pg_moves.proofs.Stepped.{all_gone, not_gone}
 use Rattle.pg_moves.proofs.steps.add_ends.Goals as goal
@@ -11,36 +11,38 @@ pub skip_outdone-rest-requires-in-len1-up : goal.skip_outdone-rest-requires-in-l
 skip_outdone-rest-requires-in-len1-up g c = c.in_ok-add_end.ensures.spared.asked
 
 pub ends-init : goal.ends-init
-ends-init g c = record {
+ends-init g c = let column = c.args.column.now in record {
   behind = c.in_ok-behind.ensures.behind;
   spared = c.in_ok-behind.ensures.spared;
-  going = λ all. skipped (doc_of c.args.sources.now) c.args.state.now c.args.laid.now c.requires.laid
-      (g.W.Wants.spares c.args.wants.now) c.args.near.now.candidates c.args.settled.now c.in_ok-behind.behind
+  going = λ all. skipped (doc_at column) column.state.now column.laid.now c.requires.laid
+      (g.W.Wants.spares c.args.wants.now) column.near.now.candidates c.args.settled.now c.in_ok-behind.behind
       c.in_ok-behind.ensures.behind c.in_ok-behind.ensures.spared c.args.ends.now c.args.ends.now
       c.skip_outdone-rest.result.now c.args.steps.now c.args.steps.now c.skip_outdone-rest.ensures (
         all,
-        not_gone (doc_of c.args.sources.now) c.args.state.now (g.W.Wants.spares c.args.wants.now)
-            c.args.near.now.candidates c.args.laid.now.layout c.args.ends.now c.args.steps.now,
+        not_gone (doc_at column) column.state.now (g.W.Wants.spares c.args.wants.now)
+            column.near.now.candidates column.laid.now.layout c.args.ends.now c.args.steps.now,
       );
 }
 
 pub ends-preserved : goal.ends-preserved
-ends-preserved g c = record {
+ends-preserved g c = let column = c.args.column.now in record {
   behind = c.in_ok-add_end.ensures.behind;
   spared = c.in_ok-add_end.ensures.spared;
-  going = λ all. skipped (doc_of c.args.sources.now) c.args.state.now c.args.laid.now c.requires.laid
-      (g.W.Wants.spares c.args.wants.now) c.args.near.now.candidates c.args.settled.now c.add_end.new.behind
+  going = λ all. skipped (doc_at column) column.state.now column.laid.now c.requires.laid
+      (g.W.Wants.spares c.args.wants.now) column.near.now.candidates c.args.settled.now c.add_end.new.behind
       c.in_ok-add_end.ensures.behind c.in_ok-add_end.ensures.spared c.args.ends.now _
       c.skip_outdone-rest-in-len1-up.result.now c.args.steps.now c.add_end.new.steps
       c.skip_outdone-rest-in-len1-up.ensures
-      (one_more (doc_of c.args.sources.now) c.args.state.now c.args.laid.now c.requires.laid
-      (g.W.Wants.spares c.args.wants.now) c.args.near.now.candidates c.args.settled.now c.args.ends.now
+      (one_more (doc_at column) column.state.now column.laid.now c.requires.laid
+      (g.W.Wants.spares c.args.wants.now) column.near.now.candidates c.args.settled.now c.args.ends.now
       c.ends.rest.now _ _ c.args.steps.now c.ends.steps c.add_end.new.steps
       (split_read c.ends.rest.now no_end c.in-len1-up.len_at_least) c.in_ok-add_end.ensures.added
       (c.ends.invariant.going all));
 }
 
 pub returns : goal.returns
-returns g c = λ all. all_gone (doc_of c.args.sources.now) c.args.state.now (g.W.Wants.spares c.args.wants.now)
-    c.args.near.now.candidates c.args.laid.now.layout c.args.ends.now c.ends.rest.now c.args.steps.now c.ends.steps
+returns g c =
+    let column = c.args.column.now in
+    λ all. all_gone (doc_at column) column.state.now (g.W.Wants.spares c.args.wants.now)
+    column.near.now.candidates column.laid.now.layout c.args.ends.now c.ends.rest.now c.args.steps.now c.ends.steps
     (none_left c.ends.rest.now c.in_default.len_below) (c.ends.invariant.going all).1

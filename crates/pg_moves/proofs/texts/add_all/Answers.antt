@@ -19,7 +19,7 @@ add_laid-requires-clause-room g c = all_contain (λ (it : Laid). IsRoom it.room)
 
 pub loop-it-preserved : goal.loop-it-preserved
 loop-it-preserved g c = λ right. layouts_more
-    (all_steps_in (doc_of c.args.sources.now) c.args.state.now c.args.kept.now)
+    (all_steps_in (doc_of c.args.opening.now.sources.now) c.args.opening.now.state.now c.args.kept.now)
     (g.W.Wants.spares c.args.wants.now) c.args.steps.now c.loop-it.steps c.add_laid.new.steps c.args.laid.now
     c.loop-it.it-index c.it-item.result (search rules) (search rules) (c.loop-it.invariant right)
     (c.in_ok-add_laid.ensures right)
@@ -28,5 +28,5 @@ pub returns : goal.returns
 returns g c = λ right.
     let e : c.loop-it.it-index ≡ length c.args.laid.now = search rules in
     adds_same (g.W.Wants.spares c.args.wants.now) c.args.steps.now c.loop-it.steps _ _
-    (ap (flat_map (all_steps_in (doc_of c.args.sources.now) c.args.state.now c.args.kept.now))
+    (ap (flat_map (all_steps_in (doc_of c.args.opening.now.sources.now) c.args.opening.now.state.now c.args.kept.now))
     (ap (λ (n : ℕ). take n c.args.laid.now) e ∙ take-length c.args.laid.now)) (c.loop-it.invariant right)

@@ -7,5 +7,6 @@ use Rattle.pg_moves.specs.Thinned.{Adds}
 use Rattle.pg_moves.proofs.texts.add_all.Given as goal
 
 abbrev pub invariant-loop-it : goal.invariant-loop-it
-invariant-loop-it g l = ArePlaceEnds (doc_of l.sources) l.state.place l.kept → Adds (g.W.Wants.spares l.wants)
-    l.initial.steps (flat_map (all_steps_in (doc_of l.sources) l.state l.kept) (take l.it-index l.laid)) l.steps
+invariant-loop-it g l = ArePlaceEnds (doc_of l.opening.sources.now) l.opening.state.now.place l.kept →
+    Adds (g.W.Wants.spares l.wants) l.initial.steps
+    (flat_map (all_steps_in (doc_of l.opening.sources.now) l.opening.state.now l.kept) (take l.it-index l.laid)) l.steps

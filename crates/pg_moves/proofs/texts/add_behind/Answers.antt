@@ -11,8 +11,8 @@ use Rattle.pg_moves.proofs.texts.add_behind.Goals as goal
 
 pub returns : goal.returns
 returns g c = on_ok_weaker c.add_kept.result (λ step.
-    let doc = doc_of c.args.sources.now in
-    let u = c.args.state.now in
+    let doc = doc_of c.args.opening.now.sources.now in
+    let u = c.args.opening.now.state.now in
     let spares = g.W.Wants.spares c.args.wants.now in
     let cs = c.args.behind.now.ends.walk.near.candidates in
     behind_added doc u spares c.args.laid.now c.args.behind.now c.room_behind.result c.in-Some.left c.args.steps.now

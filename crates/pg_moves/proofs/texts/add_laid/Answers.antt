@@ -11,8 +11,8 @@ use Rattle.pg_moves.proofs.texts.add_laid.Goals as goal
 
 pub returns-in-Some : goal.returns-in-Some
 returns-in-Some g c = on_ok_weaker c.add_behind.result (λ step right.
-    let doc = doc_of c.args.sources.now in
-    let u = c.args.state.now in
+    let doc = doc_of c.args.opening.now.sources.now in
+    let u = c.args.opening.now.state.now in
     let kept = c.args.kept.now in
     let spares = g.W.Wants.spares c.args.wants.now in
     let first = subst (λ (rooms : List RoomEnds). AllByRecursion
@@ -25,8 +25,8 @@ returns-in-Some g c = on_ok_weaker c.add_behind.result (λ step right.
 
 pub returns-in-None : goal.returns-in-None
 returns-in-None g c = λ right.
-    let doc = doc_of c.args.sources.now in
-    let u = c.args.state.now in
+    let doc = doc_of c.args.opening.now.sources.now in
+    let u = c.args.opening.now.state.now in
     let kept = c.args.kept.now in
     let spares = g.W.Wants.spares c.args.wants.now in
     let first = subst (λ (rooms : List RoomEnds). AllByRecursion

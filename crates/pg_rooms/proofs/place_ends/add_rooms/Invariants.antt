@@ -11,10 +11,10 @@ abbrev pub invariant-loop-it : goal.invariant-loop-it
 invariant-loop-it l = record {
   has : AllByRecursion (λ (it : Laid). has_text (doc_of l.sources).style it.room ≡ true →
       has_room l.rooms.items it.room ≡ true) (take l.it-index l.laid);
-  right : (cs : List Candidate) → AreFirst (doc_of l.sources) l.from cs l.is_straight l.near →
+  right : (cs : List Candidate) → AreFirst (doc_of l.sources) l.first.from cs l.first.is_straight l.first.near.now →
       AllByRecursion (λ (it : Laid). IsPageRoom (doc_of l.sources).style it.room) l.laid →
       AreCalls (doc_of l.sources) l.initial.calls.items.items →
-      AllByRecursion (AreRoomEnds (doc_of l.sources) cs l.near.candidates) l.initial.rooms.items →
-      AllByRecursion (AreRoomEnds (doc_of l.sources) cs l.near.candidates) l.rooms.items;
+      AllByRecursion (AreRoomEnds (doc_of l.sources) cs l.first.near.now.candidates) l.initial.rooms.items →
+      AllByRecursion (AreRoomEnds (doc_of l.sources) cs l.first.near.now.candidates) l.rooms.items;
   calls : AreCalls (doc_of l.sources) l.initial.calls.items.items → AreCalls (doc_of l.sources) l.calls.items.items;
 }

@@ -8,25 +8,28 @@ use Rattle.pg_rooms.specs.PlaceEnds.{AreRoomEnds}
 use Rattle.pg_rooms.proofs.Kept.{listed_of, straight_of}
 use Rattle.pg_rooms.proofs.place_ends.ask_room.Goals as goal
 
-pub returns-then-is_straight-clause-right : goal.returns-then-is_straight-clause-right
-returns-then-is_straight-clause-right c = on_ok_weaker c.add_straight.result (λ right cs first page calls are.
+pub returns-then-first-clause-right : goal.returns-then-first-clause-right
+returns-then-first-clause-right c = on_ok_weaker c.add_straight.result (λ right cs first page calls are.
     let doc = doc_of c.args.sources.now in
-    let is = straight_of doc c.args.from cs c.args.is_straight c.args.near.now c.if-is_straight.true first in
-    subst (λ (ds : List Candidate). AllByRecursion (AreRoomEnds doc ds c.args.near.now.candidates)
+    let from = c.args.first.now.from in
+    let near = c.args.first.now.near.now in
+    let is = straight_of doc from cs c.args.first.now.is_straight near c.if-first.true first in
+    subst (λ (ds : List Candidate). AllByRecursion (AreRoomEnds doc ds near.candidates)
     c.add_straight.new.rooms.items) (sym is.0)
-    (subst (λ (ds : List Candidate). AllByRecursion (AreRoomEnds doc (straight_candidates doc c.args.from) ds)
+    (subst (λ (ds : List Candidate). AllByRecursion (AreRoomEnds doc (straight_candidates doc from) ds)
     c.add_straight.new.rooms.items) (sym is.1)
     (right page calls (subst (λ (ds : List Candidate).
-    AllByRecursion (AreRoomEnds doc (straight_candidates doc c.args.from) ds) c.args.rooms.now.items) is.1
-    (subst (λ (ds : List Candidate). AllByRecursion (AreRoomEnds doc ds c.args.near.now.candidates)
+    AllByRecursion (AreRoomEnds doc (straight_candidates doc from) ds) c.args.rooms.now.items) is.1
+    (subst (λ (ds : List Candidate). AllByRecursion (AreRoomEnds doc ds near.candidates)
     c.args.rooms.now.items) is.0 are))))) c.add_straight.ensures.right
 
 pub returns-clause-right : goal.returns-clause-right
 returns-clause-right c = on_ok_weaker c.add_room.result (λ right cs first page calls are.
     let doc = doc_of c.args.sources.now in
-    let is = listed_of doc c.args.from cs c.args.is_straight c.args.near.now c.if-is_straight.false first in
-    subst (λ (ds : List Candidate). AllByRecursion (AreRoomEnds doc ds c.args.near.now.candidates)
+    let near = c.args.first.now.near.now in
+    let is = listed_of doc c.args.first.now.from cs c.args.first.now.is_straight near c.if-first.false first in
+    subst (λ (ds : List Candidate). AllByRecursion (AreRoomEnds doc ds near.candidates)
     c.add_room.new.rooms.items) (sym is.0)
     (right is.1 page calls (subst (λ (ds : List Candidate).
-    AllByRecursion (AreRoomEnds doc ds c.args.near.now.candidates) c.args.rooms.now.items) is.0 are)))
+    AllByRecursion (AreRoomEnds doc ds near.candidates) c.args.rooms.now.items) is.0 are)))
     c.add_room.ensures.right

@@ -18,14 +18,14 @@ returns-clause-known g c =
     record {
       filled = c.in_ok-refill.ensures.filled.filled;
       frontier = frontier;
-      reaches = labels_reach c.args.galley.now c.args.style.now c.in_ok-kept.field-0 c.requires.range frontier;
+      reaches = labels_reach c.args.pages.now.galley.now c.args.pages.now.style.now c.in_ok-kept.field-0 c.requires.range frontier;
       solved = refl;
       untouched = ap (λ (kept : Kept). kept.touched) c.in_ok-refill.ensures.filled.is;
     }
 
 pub returns-clause-counted : goal.returns-clause-counted
 returns-clause-counted g c = c.in_ok-refill.ensures.counted
-    ∙ ap (λ (n : ℕ). c.args.steps.now + n) (reaching_same c.args.galley.now c.args.style.now c.args.kept.now.touched
+    ∙ ap (λ (n : ℕ). c.args.steps.now + n) (reaching_same c.args.pages.now.galley.now c.args.pages.now.style.now c.args.kept.now.touched
     c.refill.new.kept.table c.in_ok-kept.field-0 c.in_ok-refill.ensures.filled.filled
     (subst (λ (es : List (Entry State PageMove)). IsPermutation (map label_of es) c.in_ok-kept.field-0)
     c.labels.ensures c.in_ok-kept.ensures.all))

@@ -4,6 +4,7 @@ use Rattle.law_space.specs.ReachAt.{reach_at}
 use Rattle.pg_rooms.specs.PlaceEnds.{ArePlaceEnds}
 use Rattle.pg_rooms.specs.declared.place_ends.PlaceEnds.{PlaceEnds}
 use Rattle.pg_rules.specs.Legal.{document}
+use Rattle.pg_sources.specs.Document.{counts_of}
 use Rattle.pg_style.specs.Values.{StyleValue}
 use Rattle.pg_space.proofs.Merely.{alone}
 use Rattle.pg_space.proofs.Telling.{of_equal}
@@ -11,6 +12,9 @@ use Rattle.pg_space.proofs.kept.KeptPages.keep_alone.Goals as goal
 
 pub reach_is_the_greatest-requires : goal.reach_is_the_greatest-requires
 reach_is_the_greatest-requires g c = c.args.self.now.pages.sources.in_range.blocks
+
+pub counts_at-requires : goal.counts_at-requires
+counts_at-requires g c = (c.reach_is_the_greatest.ensures c.args.from c.requires.place).1 c.args.first.reach c.requires.reach
 
 pub invariant_of-result : goal.invariant_of-result
 invariant_of-result g c = record {
@@ -24,4 +28,8 @@ invariant_of-result g c = record {
       c.args.first.reach ≡ reach_at (document galley style) c.args.from) _ _ _ _
       c.args.self.now.galley c.args.self.now.style
       ((c.reach_is_the_greatest.ensures c.args.from c.requires.place).1 c.args.first.reach c.requires.reach);
+  counts = ap (λ (it : PlaceEnds). it.counts) c.in_ok-ends.ensures.ok ∙ c.in_ok-made.ensures.counts ∙ of_equal
+      (λ (galley : GalleyValue) (style : StyleValue).
+      c.in_ok-counts.counts ≡ counts_of (document galley style) c.args.from) _ _ _ _
+      c.args.self.now.galley c.args.self.now.style c.in_ok-counts.ensures;
 }

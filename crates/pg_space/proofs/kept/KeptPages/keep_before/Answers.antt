@@ -5,7 +5,7 @@ use Rattle.law_walk.specs.Reached.{tallest}
 use Rattle.pg_rooms.specs.PlaceEnds.{ArePlaceEnds}
 use Rattle.pg_rooms.specs.declared.place_ends.PlaceEnds.{PlaceEnds}
 use Rattle.pg_rules.specs.Legal.{document}
-use Rattle.pg_sources.specs.Document.{doc_of}
+use Rattle.pg_sources.specs.Document.{counts_of, doc_of}
 use Rattle.pg_style.specs.Values.{StyleValue}
 use Rattle.pg_space.proofs.Merely.{before_front}
 use Rattle.pg_space.proofs.Telling.{of_equal}
@@ -35,4 +35,8 @@ invariant_of-result g c = record {
       (λ (galley : GalleyValue) (style : StyleValue).
       c.in_ok-reach.reach ≡ reach_at (document galley style) c.args.from) _ _ _ _
       c.args.self.now.galley c.args.self.now.style c.in_ok-reach.ensures;
+  counts = ap (λ (it : PlaceEnds). it.counts) c.in_ok-ends.ensures.ok ∙ c.in_ok-made.ensures.counts ∙ of_equal
+      (λ (galley : GalleyValue) (style : StyleValue).
+      c.in_ok-counts.counts ≡ counts_of (document galley style) c.args.from) _ _ _ _
+      c.args.self.now.galley c.args.self.now.style c.in_ok-counts.ensures;
 }

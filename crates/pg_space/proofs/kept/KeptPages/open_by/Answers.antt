@@ -1,11 +1,12 @@
-use Rattle.std.proofs.Common.{◌∙◌, ap, subst, sym}
+use Rattle.std.proofs.Common.{◌≡◌, ◌∙◌, ap, subst, sym}
 use Rattle.std.proofs.Math.Logic.{∥∥₁_map}
 use Rattle.pg_list.specs.GalleyValue.{GalleyValue}
+use Rattle.pg_list.specs.declared.galley.Place.{Place}
 use Rattle.pg_rooms.specs.KeptLaid.{AreLayouts}
 use Rattle.pg_rooms.specs.PlaceEnds.{ArePlaceEnds}
 use Rattle.pg_rooms.specs.declared.place_ends.PlaceEnds.{PlaceEnds}
 use Rattle.pg_rules.specs.Legal.{document}
-use Rattle.pg_sources.specs.Document.{doc_of}
+use Rattle.pg_sources.specs.Document.{counts_of, doc_of}
 use Rattle.pg_style.specs.Values.{StyleValue}
 use Rattle.pg_walk.specs.declared.place.PlaceWalk.{PlaceWalk}
 use Rattle.pg_space.proofs.Had.{wanted_had}
@@ -25,7 +26,17 @@ invariant_of-result g c = record {
       c.args.self.now.galley c.args.self.now.style c.in_ok-opened.ensures.layouts;
   reach = ap (λ (walk : PlaceWalk). walk.reach) c.in_ok-opened.ensures.walk
       ∙ (ap (λ (it : PlaceEnds). it.walk.reach) c.deref_mut.ensures.value ∙ c.args.kept.reach);
+  counts = c.in_ok-opened.ensures.counts
+      ∙ (ap (λ (it : PlaceEnds). it.counts) c.deref_mut.ensures.value ∙ c.args.kept.counts);
 }
+
+pub open_by-requires-clause-counts : goal.open_by-requires-clause-counts
+open_by-requires-clause-counts g c = ap (λ (it : PlaceEnds). it.counts) c.deref_mut.ensures.value
+    ∙ of_equal (λ (galley : GalleyValue) (style : StyleValue).
+    c.args.kept.ends.value.counts ≡ counts_of (document galley style) c.args.state.now.place) _ _ _ _
+    (sym c.args.self.now.galley) (sym c.args.self.now.style)
+    (subst (λ (at : Place). c.args.kept.ends.value.counts
+    ≡ counts_of (document g.D.Document.galley g.D.Document.style) at) c.requires.from c.args.kept.counts)
 
 pub open_by-requires-clause-layouts : goal.open_by-requires-clause-layouts
 open_by-requires-clause-layouts g c = of_equal (λ (galley : GalleyValue) (style : StyleValue).

@@ -9,8 +9,3 @@ returns c = λ v d h. subst (λ m. (is_marked m v d ≡ true) ⊎ (tells m.lines
       | inl before ↦ c.make_cells.ensures (tells c.self.inside.lines.items v d) before
       | inr own ↦ inr own
     ])
-
-pub returns-in_err-make_cells : goal.returns-in_err-make_cells
-unfolding is_marked
-returns-in_err-make_cells c = λ v d h. subst (λ m. (is_marked m v d ≡ true) ⊎ (tells m.lines v d c.args.cell ≡ true)) c.self.view_is
-    (c.make_cells.ensures (tells c.self.inside.lines.items v d) h)
