@@ -9,10 +9,10 @@ use Rattle.pg_scaled.specs.declared.read.Front.{Front}
 use Rattle.pg_scaled.specs.declared.read.Front.TheVariants.{Value}
 use Rattle.pg_scaled.specs.Scaled.{scaled_value}
 use Rattle.pg_scan.specs.Parts.{word_number}
-use Rattle.pg_command.specs.declared.words.StyleWord.{StyleWord}
-use Rattle.pg_command.specs.declared.words.StyleWord.TheVariants.{Named, Plain}
-use Rattle.pg_command.specs.declared.words.Job.{Job}
-use Rattle.pg_command.specs.declared.words.Job.TheVariants.{Run, Edit, Show, Make, Check, Lines, Heads, Compare, Fold}
+use Rattle.pg_command.specs.declared.job.StyleWord.{StyleWord}
+use Rattle.pg_command.specs.declared.job.StyleWord.TheVariants.{Named, Plain}
+use Rattle.pg_command.specs.declared.job.Job.{Job}
+use Rattle.pg_command.specs.declared.job.Job.TheVariants.{Run, Edit, Show, Make, Check, Lines, Heads, Compare, Fold}
 use Rattle.pg_command.specs.declared.options.OptionName.{OptionName}
 use Rattle.pg_command.specs.declared.options.OptionName.TheVariants as option
 use Rattle.pg_command.specs.declared.options.Options.{Options}
@@ -46,15 +46,15 @@ style_name (Plain height) = plain height
 
 -- what a job says, without where it lies in memory
 abbrev pub command_in : Job → Command
-command_in (Run style galley labels wrap) = run (style_name style) galley.now labels wrap
-command_in (Edit style galley script labels wrap) = edit style.now galley.now script.now labels wrap
+command_in (Run job) = run (style_name job.style) job.galley.now job.labels job.wrap
+command_in (Edit job) = edit job.style.now job.galley.now job.script.now job.labels job.wrap
 command_in (Show galley wrap) = show galley.now wrap
 command_in (Make count) = make count
-command_in (Check style galley output wrap) = check style.now galley.now output.now wrap
-command_in (Lines width tolerance around file) = lines width tolerance around file.now
-command_in (Heads style galley wrap) = heads style.now galley.now wrap
-command_in (Compare style galley wrap) = compare style.now galley.now wrap
-command_in (Fold style galley folds nest wrap) = fold style.now galley.now folds nest wrap
+command_in (Check job) = check job.style.now job.galley.now job.output.now job.wrap
+command_in (Lines job) = lines job.width job.tolerance job.around job.file.now
+command_in (Heads job) = heads job.style.now job.galley.now job.wrap
+command_in (Compare job) = compare job.style.now job.galley.now job.wrap
+command_in (Fold job) = fold job.style.now job.galley.now job.folds job.nest job.wrap
 
 -- a page height is above 0 and below 2^30
 abbrev pub IsHeight : ℤ → Type 0
@@ -81,15 +81,15 @@ IsNest nest = (1 ≤ nest) × (nest ≤ 16)
 
 -- a job whose height, if it has one, is one of a page, and whose numbers are in their ranges
 abbrev pub IsInRange : Job → Type 0
-IsInRange (Run style galley labels wrap) = IsStyle style
-IsInRange (Edit style galley script labels wrap) = Unit {0}
+IsInRange (Run job) = IsStyle job.style
+IsInRange (Edit job) = Unit {0}
 IsInRange (Show galley wrap) = Unit {0}
 IsInRange (Make count) = count ≤ 2000
-IsInRange (Check style galley output wrap) = Unit {0}
-IsInRange (Lines width tolerance around file) = IsLineRule width tolerance around
-IsInRange (Heads style galley wrap) = Unit {0}
-IsInRange (Compare style galley wrap) = Unit {0}
-IsInRange (Fold style galley folds nest wrap) = IsFolds folds × IsNest nest
+IsInRange (Check job) = Unit {0}
+IsInRange (Lines job) = IsLineRule job.width job.tolerance job.around
+IsInRange (Heads job) = Unit {0}
+IsInRange (Compare job) = Unit {0}
+IsInRange (Fold job) = IsFolds job.folds × IsNest job.nest
 
 -- ---- the words of options and names
 

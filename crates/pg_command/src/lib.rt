@@ -6,6 +6,7 @@
 #![tactic(auto)]
 
 mod ending;
+mod job;
 mod line;
 mod options;
 mod say;
@@ -13,6 +14,7 @@ mod status;
 mod words;
 
 pub use ending::Ending;
+pub use job::{CheckJob, EditJob, FoldJob, Job, LinesJob, PagesJob, RunJob, StyleWord};
 pub use say::say_line;
 pub use status::Status;
-pub use words::{Job, StyleWord, command};
+pub use words::command;

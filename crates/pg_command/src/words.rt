@@ -8,84 +8,10 @@ ghost use Rattle.pg_command.specs.Words.{plain_job_of, run_named, edit_named, sh
 ghost use Rattle.pg_command.specs.Words.{lines_named, pages_named, fold_named, heads, compare, two_files};
 ghost use Rattle.pg_command.specs.Words.{AreOptions, IsInRange};
 
+use crate::job::{CheckJob, EditJob, FoldJob, Job, LinesJob, PagesJob, RunJob, StyleWord};
 use crate::options::{Options, has_folding, has_line_rule, split_options};
 use pg_outside::is_file_name;
 use pg_scan::whole_word;
-
-/// Which style a run takes.
-#[derive(Clone, Copy)]
-pub enum StyleWord<'a> {
-    /// The style of the file of this name.
-    Named(&'a str),
-    /// The plain style of this page height in scaled points, above 0 and below 2^30.
-    Plain(i32),
-}
-
-/// What the words ask for, with the names as they stand in the words, and the width at which lines
-/// of a galley that is read are joined.
-#[derive(Clone, Copy)]
-pub enum Job<'a> {
-    /// To paginate a galley, and where `labels` is true to write the labels of the search behind its pages.
-    Run {
-        style: StyleWord<'a>,
-        galley: &'a str,
-        labels: bool,
-        wrap: Option<u32>,
-    },
-    /// To edit a galley by a script, and to paginate it at each show of it.
-    Edit {
-        style: &'a str,
-        galley: &'a str,
-        script: &'a str,
-        labels: bool,
-        wrap: Option<u32>,
-    },
-    /// To print a galley.
-    Show {
-        galley: &'a str,
-        wrap: Option<u32>,
-    },
-    /// To make a galley of so many paragraphs, at most 2000, and to tell of its pages.
-    Make {
-        count: u32,
-    },
-    /// To check an output text against a style and a galley.
-    Check {
-        style: &'a str,
-        galley: &'a str,
-        output: &'a str,
-        wrap: Option<u32>,
-    },
-    /// To break the paragraphs of a file into lines of this width, none worse than this tolerance, in so many lines as
-    /// are best and up to `around` lines more or less.
-    Lines {
-        width: i32,
-        tolerance: u16,
-        around: u8,
-        file: &'a str,
-    },
-    /// To tell the running heads of the best pages, and the references to pages.
-    Heads {
-        style: &'a str,
-        galley: &'a str,
-        wrap: Option<u32>,
-    },
-    /// To tell what the best pages save over first fit.
-    Compare {
-        style: &'a str,
-        galley: &'a str,
-        wrap: Option<u32>,
-    },
-    /// To lay the best pages on sheets that are folded `folds` times, 1 to 4, and put into each other, `nest` at a
-    /// time, 1 to 16.
-    Fold {
-        style: &'a str,
-        galley: &'a str,
-        folds: u8,
-        nest: u8,
-        wrap: Option<u32>,
-    },
-}
 
 // How many paragraphs are made.
 fn paragraph_count(word: &str) -> Option<u32>
@@ -118,12 +44,12 @@ fn plain_job<'a>(options: &Options, galley: &'a str) -> Option<Job<'a>>
         return None;
     }
     let height = options.height?;
-    Some(Job::Run {
+    Some(Job::Run(RunJob {
         style: StyleWord::Plain(height),
         galley,
         labels: options.labels,
         wrap: options.wrap,
-    })
+    }))
 }
 
 // A run with the style of a file.
@@ -132,12 +58,12 @@ fn styled_job<'a>(options: &Options, style: &'a str, galley: &'a str) -> Option<
     ensures in_range { IfSome result IsInRange }
 {
     if is_file_name(style) && (is_file_name(galley) && !options.height.is_some()) {
-        Some(Job::Run {
+        Some(Job::Run(RunJob {
             style: StyleWord::Named(style),
             galley,
             labels: options.labels,
             wrap: options.wrap,
-        })
+        }))
     } else {
         None
     }
@@ -173,13 +99,13 @@ fn named_edit<'a>(
     if is_file_name(style)
         && (is_file_name(galley) && (is_file_name(script) && !options.height.is_some()))
     {
-        Some(Job::Edit {
+        Some(Job::Edit(EditJob {
             style,
             galley,
             script,
             labels: options.labels,
             wrap: options.wrap,
-        })
+        }))
     } else {
         None
     }
@@ -249,12 +175,12 @@ fn named_check<'a>(
         && (is_file_name(galley)
             && (is_file_name(output) && !(options.height.is_some() || options.labels)))
     {
-        Some(Job::Check {
+        Some(Job::Check(CheckJob {
             style,
             galley,
             output,
             wrap: options.wrap,
-        })
+        }))
     } else {
         None
     }
@@ -284,11 +210,11 @@ fn heads_job<'a>(options: &Options, names: &'a [String]) -> Option<Job<'a>>
     ensures in_range { IfSome result IsInRange }
 {
     let (style, galley) = page_files(options, names)?;
-    Some(Job::Heads {
+    Some(Job::Heads(PagesJob {
         style,
         galley,
         wrap: options.wrap,
-    })
+    }))
 }
 
 // First fit beside the best pages, with these options and names.
@@ -297,11 +223,11 @@ fn compare_job<'a>(options: &Options, names: &'a [String]) -> Option<Job<'a>>
     ensures in_range { IfSome result IsInRange }
 {
     let (style, galley) = page_files(options, names)?;
-    Some(Job::Compare {
+    Some(Job::Compare(PagesJob {
         style,
         galley,
         wrap: options.wrap,
-    })
+    }))
 }
 
 // Lines with these options and names.
@@ -325,12 +251,12 @@ fn lines_job<'a>(options: &Options, names: &'a [String]) -> Option<Job<'a>>
     let width = options.width?;
     let tolerance = options.tolerance?;
     let around = options.around?;
-    Some(Job::Lines {
+    Some(Job::Lines(LinesJob {
         width,
         tolerance,
         around,
         file,
-    })
+    }))
 }
 
 // Sheets with these options and names.
@@ -345,13 +271,13 @@ fn fold_job<'a>(options: &Options, names: &'a [String]) -> Option<Job<'a>>
     }
     let folds = options.folds?;
     let nest = options.nest?;
-    Some(Job::Fold {
+    Some(Job::Fold(FoldJob {
         style,
         galley,
         folds,
         nest,
         wrap: options.wrap,
-    })
+    }))
 }
 
 // What a command that breaks no paragraphs and folds no sheets asks for, with these options and names.

@@ -1,4 +1,5 @@
 pub mod MadeFloats
+pub mod Making
 pub mod Runs
 pub mod WorkedLines
 pub mod Checks

@@ -1,6 +1,6 @@
 -- What the command `lines` promises, by what was found for its paragraphs.
 use Rattle.std.proofs.Common.{◌≡◌, ℕ, List, [], refl}
-use Rattle.std.specs.Prelude.{Option, None, Ok, Err}
+use Rattle.std.specs.Prelude.{None, Ok, Err}
 use Rattle.pg_outside.specs.Outside.{OverOutput, Sent}
 use Rattle.pg_list.specs.GalleyValue.{GalleyValue}
 use Rattle.pg_showbox.specs.Reading.{galley_of}

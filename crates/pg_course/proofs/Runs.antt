@@ -1,5 +1,5 @@
 -- What a command promises, by what was found for its galley.
-use Rattle.std.proofs.Common.{◌≡◌, ◌≤◌, ◌<◌, ◌^◌, ℕ, sym, ap, List, [], ◌∷◌, refl, subst, true, false, arith}
+use Rattle.std.proofs.Common.{◌≡◌, ◌≤◌, ◌<◌, ◌^◌, ℕ, sym, ap, List, [], refl, subst, true, false, arith}
 use Rattle.std.proofs.Common.{append-nil}
 use Rattle.std.specs.Prelude.{Option, Some, None, Result, Ok, Err, IfSome, nat_le}
 use Rattle.std.specs.Io.KnownBytes.{Appends, Keeps}
@@ -11,15 +11,13 @@ use Rattle.pg_floats.specs.declared.fault.FloatFault.{FloatFault}
 use Rattle.pg_floats.specs.declared.fault.FloatFault.TheVariants as float_fault
 use Rattle.pg_outside.specs.Outside.{Held, OverOutput, Sends, SendsNothing, Sent, output_over}
 use Rattle.pg_command.specs.declared.ending.Ending.{Ending}
-use Rattle.pg_command.specs.declared.ending.Ending.TheVariants as ending
 use Rattle.pg_command.specs.declared.status.Status.{Status}
 use Rattle.pg_command.specs.declared.status.Status.TheVariants.{Done, NoLegal, Usage, Refused, ReadFault, WriteFault}
 use Rattle.pg_command.specs.declared.status.Status.TheVariants.{Memory, NotProved}
 use Rattle.pg_command.specs.Words.{StyleName}
 use Rattle.pg_command.specs.Lines.{ending_of, line_of, many_line, status_of}
-use Rattle.pg_command.proofs.Fronts.{front_of_more}
 use Rattle.pg_course.specs.Calls.{Writes}
-use Rattle.pg_course.specs.Course.{Stop, opened, opened_style, OneText, MakesGalley, RunGalley, RunCourse, OnTaken}
+use Rattle.pg_course.specs.Course.{Stop, opened, opened_style, MakesGalley, RunGalley, RunCourse, OnTaken}
 use Rattle.pg_course.specs.Course.{StyledCourse, EndsBy, BeginsBy, OnSettled, OnReadFault, OnWriteFault}
 use Rattle.pg_course.specs.declared.product.Product.{Product}
 use Rattle.pg_lemmas.proofs.Numbers.{true_le}

@@ -12,8 +12,9 @@ ghost use Rattle.pg_session.specs.Shows.{AreCounted, show_of};
 ghost use Rattle.law_course.specs.SizeLaws.{FirstFitsAreShort, IsShortPlan, LegalAreSmall};
 ghost use Rattle.pg_space.specs.Solves.{Solves};
 ghost use Rattle.pg_table.specs.Space.{Small};
+ghost use Rattle.pg_command.specs.declared.job.Job.TheVariants.{Compare};
 ghost use Rattle.pg_command.specs.Lines.{status_of};
-ghost use Rattle.pg_command.specs.Words.{compare as compare_command};
+ghost use Rattle.pg_command.specs.Words.{command_in};
 ghost use Rattle.pg_course.specs.Calls.{Goes, Writes, fit_ending, over_shelf};
 ghost use Rattle.pg_course.specs.Counted.{IsCounted, IsShown, UnlessMemory, made_shows};
 ghost use Rattle.pg_course.specs.Course.{CompareGalley, WritesOne};
@@ -21,16 +22,16 @@ ghost use Rattle.pg_course.specs.Out.{bytes_of, end_of};
 ghost use Rattle.pg_course.specs.declared.product.Product.TheVariants.{Comparison};
 ghost use Rattle.pg_course.specs.Products.{BreaksAt, CompareOut, IsSavedText, IsUnsavedText};
 
-use crate::open::open_style;
+use crate::open::{GalleyFile, open_style};
 use crate::paginate::PageText;
 use crate::product::{Product, page_count};
 use crate::run::run_file;
 use crate::write::write_text;
 use law_course::{first_fits_are_short, legal_plans_are_small};
-use pg_command::{Ending, StyleWord};
+use pg_command::{Ending, PagesJob, StyleWord};
 use pg_floats::FloatList;
 use pg_greedy::{GreedyFault, first_fit, print_best, print_broken, print_saved};
-use pg_judge::{JudgeFault, judge};
+use pg_judge::{Basis, JudgeFault, judge};
 use pg_list::Galley;
 use pg_outside::{Shelf, Sink};
 use pg_pages::print_none;
@@ -66,22 +67,21 @@ fn saving(cost: &i128, best: &i128) -> i128
 // Appends the line of a first fit beside best pages of this cost.
 fn print_first(
     alloc: Global,
-    galley: &Galley,
-    style: &Style,
-    floats: &FloatList,
+    basis: &Basis,
     first: &Pagination,
     best: &i128,
     out: &mut Vec<u8>,
 ) -> Result<(), AllocError>
-    requires floats { AreFloats galley.now.blocks style.now floats.now }
-    requires legal { LegalAreSmall galley.now style.now }
+    requires floats { AreFloats basis.now.galley.now.blocks basis.now.style.now basis.now.list.now }
+    requires legal { LegalAreSmall basis.now.galley.now basis.now.style.now }
     requires short { IsShortPlan first.now }
     requires best { Small best.now }
     ensures { OnOk result (out.new.items ≡ out.old.items ++ first_line (length first.now.pages)
-        (breach galley.now style.now first.now) (cost_of galley.now style.now first.now) best.now) }
+        (breach basis.now.galley.now basis.now.style.now first.now)
+        (cost_of basis.now.galley.now basis.now.style.now first.now) best.now) }
 {
     let pages = page_count(first);
-    let judged = judge(alloc, galley, style, floats, first);
+    let judged = judge(alloc, basis.galley, basis.style, basis.list, first);
     match &judged {
         Ok(cost) => print_saved(pages, cost, &saving(cost, best), out),
         Err(JudgeFault::Broken { rule, column }) => print_broken(pages, *rule, *column, out),
@@ -92,19 +92,17 @@ fn print_first(
 // Appends the line of a first fit where no pagination is legal.
 fn print_illegal(
     alloc: Global,
-    galley: &Galley,
-    style: &Style,
-    floats: &FloatList,
+    basis: &Basis,
     first: &Pagination,
     out: &mut Vec<u8>,
 ) -> Result<(), AllocError>
-    requires floats { AreFloats galley.now.blocks style.now floats.now }
+    requires floats { AreFloats basis.now.galley.now.blocks basis.now.style.now basis.now.list.now }
     requires short { IsShortPlan first.now }
-    requires none { (plan : APagination) → Legal galley.now style.now plan → ⊥ }
-    ensures { OnOk result (BreaksAt galley.now style.now first.now out.old.items out.new.items) }
+    requires none { (plan : APagination) → Legal basis.now.galley.now basis.now.style.now plan → ⊥ }
+    ensures { OnOk result (BreaksAt basis.now.galley.now basis.now.style.now first.now out.old.items out.new.items) }
 {
     let pages = page_count(first);
-    match judge(alloc, galley, style, floats, first) {
+    match judge(alloc, basis.galley, basis.style, basis.list, first) {
         Ok(_) => unreachable!(),
         Err(JudgeFault::Broken { rule, column }) => print_broken(pages, rule, column, out),
         Err(JudgeFault::Memory) => Err(AllocError),
@@ -114,42 +112,34 @@ fn print_illegal(
 // First fit beside the best pages.
 fn saved_text(
     alloc: Global,
-    galley: &Galley,
-    style: &Style,
-    floats: &FloatList,
+    basis: &Basis,
     first: &Pagination,
     plan: &Pagination,
     cost: &i128,
 ) -> Result<Vec<u8>, AllocError>
-    requires floats { AreFloats galley.now.blocks style.now floats.now }
-    requires fit { IsFirstFit galley.now style.now first.now }
-    requires best { Best galley.now style.now plan.now }
-    requires cost { cost_of galley.now style.now plan.now ≡ cost.now }
-    ensures { IfOk result (λ text. IsSavedText galley.now style.now text.items) }
+    requires floats { AreFloats basis.now.galley.now.blocks basis.now.style.now basis.now.list.now }
+    requires fit { IsFirstFit basis.now.galley.now basis.now.style.now first.now }
+    requires best { Best basis.now.galley.now basis.now.style.now plan.now }
+    requires cost { cost_of basis.now.galley.now basis.now.style.now plan.now ≡ cost.now }
+    ensures { IfOk result (λ text. IsSavedText basis.now.galley.now basis.now.style.now text.items) }
 {
-    plans_are_small(galley, style);
+    plans_are_small(basis.galley, basis.style);
     let mut text = Vec::new(alloc);
-    print_first(alloc, galley, style, floats, first, cost, &mut text)?;
+    print_first(alloc, basis, first, cost, &mut text)?;
     print_best(page_count(plan), cost, &mut text)?;
     Ok(text)
 }
 
 // First fit where no pagination is legal.
-fn unsaved_text(
-    alloc: Global,
-    galley: &Galley,
-    style: &Style,
-    floats: &FloatList,
-    first: &Pagination,
-) -> Result<Vec<u8>, AllocError>
-    requires floats { AreFloats galley.now.blocks style.now floats.now }
-    requires fit { IsFirstFit galley.now style.now first.now }
-    requires illegal { (plan : APagination) → Legal galley.now style.now plan → ⊥ }
-    ensures { IfOk result (λ text. IsUnsavedText galley.now style.now text.items) }
+fn unsaved_text(alloc: Global, basis: &Basis, first: &Pagination) -> Result<Vec<u8>, AllocError>
+    requires floats { AreFloats basis.now.galley.now.blocks basis.now.style.now basis.now.list.now }
+    requires fit { IsFirstFit basis.now.galley.now basis.now.style.now first.now }
+    requires illegal { (plan : APagination) → Legal basis.now.galley.now basis.now.style.now plan → ⊥ }
+    ensures { IfOk result (λ text. IsUnsavedText basis.now.galley.now basis.now.style.now text.items) }
 {
-    plans_are_small(galley, style);
+    plans_are_small(basis.galley, basis.style);
     let mut text = Vec::new(alloc);
-    print_illegal(alloc, galley, style, floats, first, &mut text)?;
+    print_illegal(alloc, basis, first, &mut text)?;
     print_none(&mut text)?;
     Ok(text)
 }
@@ -168,13 +158,18 @@ fn compared(
     requires solves { Solves galley.now style.now outcome.now }
     ensures { IfOk result (λ page. CompareOut galley.now style.now (bytes_of page) (end_of page)) }
 {
+    let basis = Basis {
+        galley,
+        style,
+        list: floats,
+    };
     match outcome {
         Outcome::Best(plan, cost) => {
-            let text = saved_text(alloc, galley, style, floats, first, plan, cost)?;
+            let text = saved_text(alloc, &basis, first, plan, cost)?;
             Ok(PageText::Best(text))
         }
         Outcome::NoLegal => {
-            let text = unsaved_text(alloc, galley, style, floats, first)?;
+            let text = unsaved_text(alloc, &basis, first)?;
             Ok(PageText::NoLegal(text))
         }
     }
@@ -256,30 +251,24 @@ pub fn write_comparison<'a, O: Sink, L: Ledger>(
 /// Tells first fit beside the best pages of a galley under a style. The style is read first.
 pub fn compare_course<'a, H: Shelf, O: Sink, L: Ledger>(
     alloc: Global,
-    style: &'a str,
-    galley: &'a str,
-    wrap: Option<u32>,
+    job: PagesJob<'a>,
     shelf: &mut H,
     out: &mut O,
     steps: &mut Steps<L>,
 ) -> Ending<'a>
-    ensures goes { Goes (Some (compare_command style.now galley.now wrap))
+    ensures goes { Goes (Some (command_in (Compare job.entry)))
         (over_shelf (H.held shelf.old) (H.faults shelf.old) (H.faults shelf.new) (H.last_failed shelf.new))
         (over_output O.written O.writes O.faults out.old out.new) result }
     ensures counted { UnlessMemory (status_of result)
-        (IsCounted (Some (compare_command style.now galley.now wrap)) (H.held shelf.old) steps.old steps.new) }
+        (IsCounted (Some (command_in (Compare job.entry))) (H.held shelf.old) steps.old steps.new) }
 {
-    match open_style(alloc, StyleWord::Named(style), shelf) {
+    let file = GalleyFile {
+        alloc,
+        name: job.galley,
+        wrap: job.wrap,
+    };
+    match open_style(alloc, StyleWord::Named(job.style), shelf) {
         Err(ending) => ending,
-        Ok(style) => run_file(
-            alloc,
-            style,
-            galley,
-            Product::Comparison,
-            wrap,
-            shelf,
-            out,
-            steps,
-        ),
+        Ok(style) => run_file(&file, style, Product::Comparison, shelf, out, steps),
     }
 }

@@ -1,8 +1,9 @@
 //! The command `edit`.
 ghost use Rattle.std.specs.Prelude.{◌≡◌, ◌≤◌, ◌^◌, ℕ, List, Option, None, Ok, Some, IfErr, IfOk, IfSome};
 ghost use Rattle.pg_outside.specs.Outside.{over_output, sent};
+ghost use Rattle.pg_command.specs.declared.job.Job.TheVariants.{Edit as AnEdit};
 ghost use Rattle.pg_command.specs.Lines.{status_of};
-ghost use Rattle.pg_command.specs.Words.{edit as edit_command, named};
+ghost use Rattle.pg_command.specs.Words.{command_in, edit as edit_command, named};
 ghost use Rattle.pg_edits.specs.declared.script.ScriptStep.TheVariants.{Show as AShow};
 ghost use Rattle.pg_floats.specs.AreFloats.{float_total, unknown_class};
 ghost use Rattle.pg_session.specs.Shows.{AreCounted, show_of, shows_from};
@@ -16,7 +17,7 @@ ghost use Rattle.pg_command.specs.declared.status.Status.TheVariants.{Done};
 use crate::open::{open_galley, open_script, open_style};
 use crate::paginate::page_text_of;
 use crate::run::float_ending;
-use pg_command::{Ending, StyleWord};
+use pg_command::{EditJob, Ending, StyleWord};
 use pg_edits::{EditFault, ScriptStep};
 use pg_list::{Edit, Galley};
 use pg_outside::{Shelf, Sink};
@@ -25,6 +26,20 @@ use pg_style::Style;
 use pg_table::Steps;
 use std::alloc::Global;
 use std::sync::ledger::Ledger;
+
+// An edit that is asked for, and where memory for it comes from.
+#[derive(Clone, Copy)]
+struct EditTask<'a> {
+    alloc: Global,
+    job: EditJob<'a>,
+}
+
+// A step of a script, and its number, from 1 on.
+#[derive(Clone, Copy)]
+struct Numbered<'a> {
+    step: &'a ScriptStep,
+    number: u64,
+}
 
 // How a run ends where the edit of a step is refused.
 fn refused<'a>(step: u64, fault: EditFault) -> Ending<'a>
@@ -63,21 +78,20 @@ fn show<'a, O: Sink, L: Ledger>(
 fn make_step<'a, O: Sink, L: Ledger>(
     alloc: Global,
     session: &mut Session,
-    step: &ScriptStep,
-    number: u64,
+    numbered: &Numbered,
     labels: bool,
     out: &mut O,
     steps: &mut Steps<L>,
 ) -> Result<bool, Ending<'a>>
-    ensures made { IfOk result (λ legal. IsStep labels step.now session.old session.new legal
+    ensures made { IfOk result (λ legal. IsStep labels numbered.now.step.now session.old session.new legal
         (sent O.written O.writes out.old) (sent O.written O.writes out.new) steps.old steps.new) }
-    ensures not_made { IfErr result (IsNoStep labels step.now number session.old session.new
+    ensures not_made { IfErr result (IsNoStep labels numbered.now.step.now numbered.now.number session.old session.new
         (over_output O.written O.writes O.faults out.old out.new) steps.old steps.new) }
     ensures later { O.faults out.old ≤ O.faults out.new }
 {
-    match step {
+    match numbered.step {
         ScriptStep::Change(edit) => match session.edit(edit) {
-            Err(fault) => Err(refused(number, fault)),
+            Err(fault) => Err(refused(numbered.number, fault)),
             Ok(()) => Ok(true),
         },
         ScriptStep::Show => show(alloc, session, labels, out, steps),
@@ -106,7 +120,8 @@ fn make_each<'a, O: Sink, L: Ledger>(
     let mut number = 0;
     for step in script {
         number += 1;
-        match make_step(alloc, session, step, number, labels, out, steps) {
+        let numbered = Numbered { step, number };
+        match make_step(alloc, session, &numbered, labels, out, steps) {
             Err(ending) => return Err(ending),
             Ok(shown) => legal &= shown,
         }
@@ -142,12 +157,10 @@ fn make_steps<'a, O: Sink, L: Ledger>(
     }
 }
 
-// Reads the script of this name, and makes its steps over a session.
+// Reads the script of a task, and makes its steps over a session.
 fn edit_file<'a, H: Shelf, O: Sink, L: Ledger>(
-    alloc: Global,
+    task: &EditTask<'a>,
     session: &mut Session,
-    name: &'a str,
-    labels: bool,
     shelf: &mut H,
     out: &mut O,
     steps: &mut Steps<L>,
@@ -155,100 +168,98 @@ fn edit_file<'a, H: Shelf, O: Sink, L: Ledger>(
     requires known { unknown_class session.old.galley.blocks session.old.style ≡ None }
     requires few { float_total session.old.galley.blocks session.old.style ≤ 2 ^ 12 }
     ensures goes { GoesThrough
-        (λ held. EditScript labels session.old.style session.old.galley (opened_script name.now (held name.now)))
-        (λ held. ScriptFront labels session.old.style session.old.galley (opened_script name.now (held name.now)))
-        name.now
+        (λ held. EditScript task.now.job.labels session.old.style session.old.galley
+        (opened_script task.now.job.script.now (held task.now.job.script.now)))
+        (λ held. ScriptFront task.now.job.labels session.old.style session.old.galley
+        (opened_script task.now.job.script.now (held task.now.job.script.now)))
+        task.now.job.script.now
         (over_shelf (H.held shelf.old) (H.faults shelf.old) (H.faults shelf.new) (H.last_failed shelf.new))
         (over_output O.written O.writes O.faults out.old out.new) result }
     ensures counted { UnlessMemory (status_of result) (IfSome (H.held shelf.old) (λ held.
-        CountsScript session.old.style (show_of session.old) (opened_script name.now (held name.now))
-        steps.old steps.new)) }
+        CountsScript session.old.style (show_of session.old)
+        (opened_script task.now.job.script.now (held task.now.job.script.now)) steps.old steps.new)) }
 {
-    match open_script(alloc, name, shelf) {
+    match open_script(task.alloc, task.job.script, shelf) {
         Err(ending) => ending,
-        Ok(script) => make_steps(alloc, session, script.as_slice(), labels, out, steps),
+        Ok(script) => make_steps(
+            task.alloc,
+            session,
+            script.as_slice(),
+            task.job.labels,
+            out,
+            steps,
+        ),
     }
 }
 
 // Edits a galley under a style, if the style has the classes of its inserts and its floats are not too many.
 fn edit_galley<'a, H: Shelf, O: Sink, L: Ledger>(
-    alloc: Global,
+    task: &EditTask<'a>,
     galley: Galley,
     style: Style,
-    name: &'a str,
-    labels: bool,
     shelf: &mut H,
     out: &mut O,
     steps: &mut Steps<L>,
 ) -> Ending<'a>
     ensures goes { (style_file galley_file : List ℕ) (wrap : Option ℕ) →
         IfSome (H.held shelf.old) (AreRead style_file galley_file wrap style galley) →
-        Goes (Some (edit_command style_file galley_file name.now labels wrap))
+        Goes (Some (edit_command style_file galley_file task.now.job.script.now task.now.job.labels wrap))
         (over_shelf (H.held shelf.old) (H.faults shelf.old) (H.faults shelf.new) (H.last_failed shelf.new))
         (over_output O.written O.writes O.faults out.old out.new) result }
     ensures counted { UnlessMemory (status_of result) (IfSome (H.held shelf.old) (λ held.
-        CountsEdit (Ok style) (Ok galley) (opened_script name.now (held name.now)) steps.old steps.new)) }
+        CountsEdit (Ok style) (Ok galley) (opened_script task.now.job.script.now (held task.now.job.script.now))
+        steps.old steps.new)) }
 {
-    match Session::new(alloc, galley, style) {
+    match Session::new(task.alloc, galley, style) {
         Err(fault) => float_ending(fault),
-        Ok(mut session) => edit_file(alloc, &mut session, name, labels, shelf, out, steps),
+        Ok(mut session) => edit_file(task, &mut session, shelf, out, steps),
     }
 }
 
-// Reads the galley of this name behind a style, and edits it by the script of the other name.
+// Reads the galley of a task behind a style, and edits it by its script.
 fn edit_styled<'a, H: Shelf, O: Sink, L: Ledger>(
-    alloc: Global,
+    task: &EditTask<'a>,
     style: Style,
-    galley: &'a str,
-    script: &'a str,
-    labels: bool,
-    wrap: Option<u32>,
     shelf: &mut H,
     out: &mut O,
     steps: &mut Steps<L>,
 ) -> Ending<'a>
     ensures goes { (style_file : List ℕ) →
         IfSome (H.held shelf.old) (λ held. opened_style (named style_file) held ≡ Ok style) →
-        Goes (Some (edit_command style_file galley.now script.now labels wrap))
+        Goes (Some (edit_command style_file task.now.job.galley.now task.now.job.script.now task.now.job.labels task.now.job.wrap))
         (over_shelf (H.held shelf.old) (H.faults shelf.old) (H.faults shelf.new) (H.last_failed shelf.new))
         (over_output O.written O.writes O.faults out.old out.new) result }
     ensures counted { UnlessMemory (status_of result) (IfSome (H.held shelf.old) (λ held.
-        CountsEdit (Ok style) (opened galley.now wrap (held galley.now)) (opened_script script.now (held script.now))
-        steps.old steps.new)) }
+        CountsEdit (Ok style) (opened task.now.job.galley.now task.now.job.wrap (held task.now.job.galley.now))
+        (opened_script task.now.job.script.now (held task.now.job.script.now)) steps.old steps.new)) }
 {
-    match open_galley(alloc, galley, wrap, shelf) {
+    match open_galley(task.alloc, task.job.galley, task.job.wrap, shelf) {
         Err(ending) => ending,
-        Ok(galley) => edit_galley(alloc, galley, style, script, labels, shelf, out, steps),
+        Ok(galley) => edit_galley(task, galley, style, shelf, out, steps),
     }
 }
 
-/// Edits the galley of a file by the script of a file, under the style of a file, and writes for each show of the script
-/// what a run writes for the galley as it stands, in one piece, where `labels` is true with the labels of the search.
+/// Edits the galley of a job by its script, under its style, and writes for each show of the script what a run writes for
+/// the galley as it stands, in one piece, where the job asks for labels with those of the search.
 /// The files are read in the order style, galley, script. A change that is refused ends it.
 ///
 /// What was found for one show serves the next: only what the edits between can reach is searched again.
 pub fn edit_course<'a, H: Shelf, O: Sink, L: Ledger>(
     alloc: Global,
-    style: &'a str,
-    galley: &'a str,
-    script: &'a str,
-    labels: bool,
-    wrap: Option<u32>,
+    job: EditJob<'a>,
     shelf: &mut H,
     out: &mut O,
     steps: &mut Steps<L>,
 ) -> Ending<'a>
-    ensures goes { Goes (Some (edit_command style.now galley.now script.now labels wrap))
+    ensures goes { Goes (Some (command_in (AnEdit job.entry)))
         (over_shelf (H.held shelf.old) (H.faults shelf.old) (H.faults shelf.new) (H.last_failed shelf.new))
         (over_output O.written O.writes O.faults out.old out.new) result }
     ensures counted { UnlessMemory (status_of result)
-        (IsCounted (Some (edit_command style.now galley.now script.now labels wrap)) (H.held shelf.old)
-        steps.old steps.new) }
+        (IsCounted (Some (command_in (AnEdit job.entry))) (H.held shelf.old) steps.old steps.new) }
 {
-    match open_style(alloc, StyleWord::Named(style), shelf) {
+    let task = EditTask { alloc, job };
+    match open_style(alloc, StyleWord::Named(job.style), shelf) {
         Err(ending) => ending,
-        Ok(style) => edit_styled(
-            alloc, style, galley, script, labels, wrap, shelf, out, steps,
-        ),
+        Ok(style) => edit_styled(&task, style, shelf, out, steps),
     }
 }

@@ -7,21 +7,22 @@ ghost use Rattle.pg_fold.specs.SheetsText.{fold_text};
 ghost use Rattle.pg_fold.specs.declared.sheets.Sheet.{Sheet};
 ghost use Rattle.law_course.specs.SizeLaws.{LegalAreSmall};
 ghost use Rattle.pg_space.specs.Solves.{Solves};
+ghost use Rattle.pg_command.specs.declared.job.Job.TheVariants.{Fold};
 ghost use Rattle.pg_command.specs.Lines.{status_of};
-ghost use Rattle.pg_command.specs.Words.{fold as fold_command, IsFolds, IsNest};
+ghost use Rattle.pg_command.specs.Words.{IsFolds, IsNest, command_in};
 ghost use Rattle.pg_course.specs.Calls.{Goes, Writes, over_shelf};
 ghost use Rattle.pg_course.specs.Counted.{IsCounted, IsShown, UnlessMemory};
 ghost use Rattle.pg_course.specs.Course.{WritesOne};
 ghost use Rattle.pg_course.specs.Out.{bytes_of, end_of};
 ghost use Rattle.pg_course.specs.Products.{AreSheets, SheetsOut};
 
-use crate::open::open_style;
+use crate::open::{GalleyFile, open_style};
 use crate::paginate::PageText;
 use crate::product::{Product, page_count};
 use crate::run::run_file;
 use crate::write::write_text;
 use law_course::legal_plans_are_small;
-use pg_command::{Ending, StyleWord};
+use pg_command::{Ending, FoldJob, StyleWord};
 use pg_fold::{impose, print_sheets};
 use pg_list::Galley;
 use pg_outside::{Shelf, Sink};
@@ -138,35 +139,32 @@ pub fn write_sheets<'a, O: Sink, L: Ledger>(
 /// The style is read first.
 pub fn fold_course<'a, H: Shelf, O: Sink, L: Ledger>(
     alloc: Global,
-    style: &'a str,
-    galley: &'a str,
-    folds: u8,
-    nest: u8,
-    wrap: Option<u32>,
+    job: FoldJob<'a>,
     shelf: &mut H,
     out: &mut O,
     steps: &mut Steps<L>,
 ) -> Ending<'a>
-    requires folds { IsFolds folds }
-    requires nest { IsNest nest }
-    ensures goes { Goes (Some (fold_command style.now galley.now folds nest wrap))
+    requires folds { IsFolds job.folds }
+    requires nest { IsNest job.nest }
+    ensures goes { Goes (Some (command_in (Fold job.entry)))
         (over_shelf (H.held shelf.old) (H.faults shelf.old) (H.faults shelf.new) (H.last_failed shelf.new))
         (over_output O.written O.writes O.faults out.old out.new) result }
     ensures counted { UnlessMemory (status_of result)
-        (IsCounted (Some (fold_command style.now galley.now folds nest wrap)) (H.held shelf.old)
-        steps.old steps.new) }
+        (IsCounted (Some (command_in (Fold job.entry))) (H.held shelf.old) steps.old steps.new) }
 {
-    match open_style(alloc, StyleWord::Named(style), shelf) {
+    let file = GalleyFile {
+        alloc,
+        name: job.galley,
+        wrap: job.wrap,
+    };
+    match open_style(alloc, StyleWord::Named(job.style), shelf) {
         Err(ending) => ending,
-        Ok(style) => run_file(
-            alloc,
-            style,
-            galley,
-            Product::Sheets { folds, nest },
-            wrap,
-            shelf,
-            out,
-            steps,
-        ),
+        Ok(style) => {
+            let product = Product::Sheets {
+                folds: job.folds,
+                nest: job.nest,
+            };
+            run_file(&file, style, product, shelf, out, steps)
+        }
     }
 }

@@ -7,21 +7,22 @@ ghost use Rattle.pg_marks.specs.Heads.{heads as the_heads, references as the_ref
 ghost use Rattle.pg_marks.specs.HeadsText.{marks_text};
 ghost use Rattle.law_course.specs.SizeLaws.{LegalAreSmall};
 ghost use Rattle.pg_space.specs.Solves.{Solves};
+ghost use Rattle.pg_command.specs.declared.job.Job.TheVariants.{Heads};
 ghost use Rattle.pg_command.specs.Lines.{status_of};
-ghost use Rattle.pg_command.specs.Words.{heads as heads_command};
+ghost use Rattle.pg_command.specs.Words.{command_in};
 ghost use Rattle.pg_course.specs.Calls.{Goes, Writes, over_shelf};
 ghost use Rattle.pg_course.specs.Counted.{IsCounted, IsShown, UnlessMemory};
 ghost use Rattle.pg_course.specs.Course.{WritesOne};
 ghost use Rattle.pg_course.specs.Out.{bytes_of, end_of};
 ghost use Rattle.pg_course.specs.Products.{HeadsOut};
 
-use crate::open::open_style;
+use crate::open::{GalleyFile, open_style};
 use crate::paginate::PageText;
 use crate::product::Product;
 use crate::run::run_file;
 use crate::write::write_text;
 use law_course::{legal_columns_fit, legal_plans_are_small};
-use pg_command::{Ending, StyleWord};
+use pg_command::{Ending, PagesJob, StyleWord};
 use pg_list::Galley;
 use pg_marks::{heads, print_heads, references};
 use pg_outside::{Shelf, Sink};
@@ -125,30 +126,24 @@ pub fn write_heads<'a, O: Sink, L: Ledger>(
 /// first.
 pub fn heads_course<'a, H: Shelf, O: Sink, L: Ledger>(
     alloc: Global,
-    style: &'a str,
-    galley: &'a str,
-    wrap: Option<u32>,
+    job: PagesJob<'a>,
     shelf: &mut H,
     out: &mut O,
     steps: &mut Steps<L>,
 ) -> Ending<'a>
-    ensures goes { Goes (Some (heads_command style.now galley.now wrap))
+    ensures goes { Goes (Some (command_in (Heads job.entry)))
         (over_shelf (H.held shelf.old) (H.faults shelf.old) (H.faults shelf.new) (H.last_failed shelf.new))
         (over_output O.written O.writes O.faults out.old out.new) result }
     ensures counted { UnlessMemory (status_of result)
-        (IsCounted (Some (heads_command style.now galley.now wrap)) (H.held shelf.old) steps.old steps.new) }
+        (IsCounted (Some (command_in (Heads job.entry))) (H.held shelf.old) steps.old steps.new) }
 {
-    match open_style(alloc, StyleWord::Named(style), shelf) {
+    let file = GalleyFile {
+        alloc,
+        name: job.galley,
+        wrap: job.wrap,
+    };
+    match open_style(alloc, StyleWord::Named(job.style), shelf) {
         Err(ending) => ending,
-        Ok(style) => run_file(
-            alloc,
-            style,
-            galley,
-            Product::Heads,
-            wrap,
-            shelf,
-            out,
-            steps,
-        ),
+        Ok(style) => run_file(&file, style, Product::Heads, shelf, out, steps),
     }
 }

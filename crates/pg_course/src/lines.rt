@@ -1,16 +1,17 @@
 //! The command `lines`.
 ghost use Rattle.std.specs.Prelude.{◌≡◌, Ok, Some};
 ghost use Rattle.pg_outside.specs.Outside.{over_output};
-ghost use Rattle.pg_command.specs.Words.{IsLineRule, lines as lines_command};
+ghost use Rattle.pg_command.specs.declared.job.Job.TheVariants.{Lines};
+ghost use Rattle.pg_command.specs.Words.{IsLineRule, command_in};
 ghost use Rattle.law_lines.specs.ParagraphsLaws.{IsRule};
 ghost use Rattle.pg_lines.specs.Answers.{AnswersLines};
-ghost use Rattle.pg_course.specs.Course.{LinesCourse, rule_of};
+ghost use Rattle.pg_course.specs.Course.{LinesCourse};
 ghost use Rattle.pg_course.specs.Calls.{AreSaid, Goes, Writes, over_shelf};
 
 use crate::open::open_paras;
 use crate::show::write_galley;
 use law_lines::{LineFault, LineRule, lines_read_back};
-use pg_command::Ending;
+use pg_command::{Ending, LinesJob};
 use pg_hlist::Paras;
 use pg_lines::break_lines;
 use pg_list::Galley;
@@ -19,19 +20,6 @@ use pg_table::Steps;
 use std::alloc::Global;
 use std::marker::Brand;
 use std::sync::ledger::{Blank, Ledger};
-
-// How paragraphs are broken.
-fn line_rule(width: i32, tolerance: u16, around: u8) -> LineRule
-    requires { IsLineRule width tolerance around }
-    ensures value { result ≡ rule_of width tolerance around }
-    ensures range { IsRule result }
-{
-    LineRule {
-        width,
-        tolerance,
-        around,
-    }
-}
 
 // The galley of paragraphs, with a counter of its own.
 fn counted_galley<L: Ledger>(
@@ -81,25 +69,26 @@ fn write_lines<'a, O: Sink>(
     }
 }
 
-/// Breaks the paragraphs of the file of this name into lines of this width, each line at most so bad as the tolerance
-/// allows, in the best number of lines and up to so many around it, and writes their galley in one piece.
+/// Breaks the paragraphs of the file of a job into lines of its width, each line at most so bad as its tolerance allows,
+/// in the best number of lines and up to so many around it, and writes their galley in one piece.
 pub fn lines_course<'a, H: Shelf, O: Sink>(
     alloc: Global,
-    width: i32,
-    tolerance: u16,
-    around: u8,
-    file: &'a str,
+    job: LinesJob<'a>,
     shelf: &mut H,
     out: &mut O,
 ) -> Ending<'a>
-    requires { IsLineRule width tolerance around }
-    ensures goes { Goes (Some (lines_command width tolerance around file.now))
+    requires { IsLineRule job.width job.tolerance job.around }
+    ensures goes { Goes (Some (command_in (Lines job.entry)))
         (over_shelf (H.held shelf.old) (H.faults shelf.old) (H.faults shelf.new) (H.last_failed shelf.new))
         (over_output O.written O.writes O.faults out.old out.new) result }
 {
-    let rule = line_rule(width, tolerance, around);
-    match open_paras(alloc, file, shelf) {
+    let rule = LineRule {
+        width: job.width,
+        tolerance: job.tolerance,
+        around: job.around,
+    };
+    match open_paras(alloc, job.file, shelf) {
         Err(ending) => ending,
-        Ok(paras) => write_lines(alloc, file, &paras, &rule, out),
+        Ok(paras) => write_lines(alloc, job.file, &paras, &rule, out),
     }
 }

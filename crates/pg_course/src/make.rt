@@ -7,9 +7,8 @@ ghost use Rattle.pg_make.specs.Generated.{made_galley};
 ghost use Rattle.pg_make.specs.Made.{made_style};
 ghost use Rattle.pg_session.specs.Sessions.{IsNew};
 ghost use Rattle.pg_session.specs.Shows.{AreCounted, one_show};
-ghost use Rattle.pg_course.specs.Calls.{Goes, OverShelf, Writes};
+ghost use Rattle.pg_course.specs.Calls.{Goes, OverShelf};
 ghost use Rattle.pg_course.specs.Counted.{UnlessMemory};
-ghost use Rattle.pg_course.specs.Course.{MakeCourse};
 ghost use Rattle.pg_course.specs.Made.{MadeOut};
 ghost use Rattle.pg_course.specs.Out.{bytes_of, end_of};
 
@@ -68,25 +67,6 @@ fn line_under<L: Ledger>(
     line_of(alloc, count, items, &told.outcome, told.labels)
 }
 
-// Writes the line of the galley of so many paragraphs in one piece, and answers how that ends the run.
-fn write_line<'a, O: Sink, L: Ledger>(
-    alloc: Global,
-    count: u32,
-    out: &mut O,
-    steps: &mut Steps<L>,
-) -> Ending<'a>
-    requires { count ≤ 2000 }
-    ensures writes { Writes (MakeCourse count)
-        (over_output O.written O.writes O.faults out.old out.new) result }
-    ensures counted { UnlessMemory (status_of result)
-        (AreCounted made_style (one_show (made_galley count)) steps.old steps.new) }
-{
-    match line_under(alloc, count, steps) {
-        Err(_) => Ending::Memory,
-        Ok(line) => write_text(&line, out),
-    }
-}
-
 /// Makes the galley of so many paragraphs, at most 2000, paginates it with the made style, and writes a line of what
 /// came out in one piece. It reads no file, so that whatever a shelf tells it does the same.
 pub fn make_course<'a, O: Sink, L: Ledger>(
@@ -101,5 +81,8 @@ pub fn make_course<'a, O: Sink, L: Ledger>(
     ensures counted { UnlessMemory (status_of result)
         (AreCounted made_style (one_show (made_galley count)) steps.old steps.new) }
 {
-    write_line(alloc, count, out, steps)
+    match line_under(alloc, count, steps) {
+        Err(_) => Ending::Memory,
+        Ok(line) => write_text(&line, out),
+    }
 }

@@ -23,6 +23,14 @@ use std::alloc::Global;
 /// The most bytes that a file may have.
 const FILE_LIMIT: u64 = 67108864;
 
+/// The file of a galley, the width at which its lines are joined, and where memory for it comes from.
+#[derive(Clone, Copy)]
+pub struct GalleyFile<'a> {
+    pub alloc: Global,
+    pub name: &'a str,
+    pub wrap: Option<u32>,
+}
+
 // Fetches the file of this name, or answers what ends the run.
 fn fetch_file<'a, H: Shelf>(
     alloc: Global,

@@ -2,18 +2,19 @@
 ghost use Rattle.std.specs.Prelude.{◌≡◌, Some, Ok, IfSome};
 ghost use Rattle.pg_outside.specs.Outside.{over_output};
 ghost use Rattle.pg_session.specs.Shows.{AreCounted, one_show};
+ghost use Rattle.pg_command.specs.declared.job.Job.TheVariants.{Run};
 ghost use Rattle.pg_command.specs.Lines.{ending_of, status_of};
-ghost use Rattle.pg_command.specs.Words.{run as run_command, style_name, IsStyle};
+ghost use Rattle.pg_command.specs.Words.{IsStyle, command_in};
 ghost use Rattle.pg_course.specs.Course.{PaginateGalley, RunGalley, RunCourse, opened};
 ghost use Rattle.pg_course.specs.Products.{IsProduct};
 ghost use Rattle.pg_course.specs.Calls.{Goes, GoesOn, Writes, over_shelf};
 ghost use Rattle.pg_course.specs.Counted.{CountsRun, IsCounted, IsShown, UnlessMemory, made_shows, taken_shows};
 
-use crate::open::{open_galley, open_style};
+use crate::open::{GalleyFile, open_galley, open_style};
 use crate::paginate::page_text_of;
 use crate::product::{Product, write_product};
 use crate::write::write_text;
-use pg_command::{Ending, StyleWord};
+use pg_command::{Ending, RunJob};
 use pg_floats::FloatFault;
 use pg_list::Galley;
 use pg_outside::{Shelf, Sink};
@@ -74,61 +75,56 @@ fn run_galley<'a, O: Sink, L: Ledger>(
     }
 }
 
-/// Makes this of the galley of this name under a style, and writes the text in one piece.
+/// Makes this of the galley of a file under a style, and writes the text in one piece.
 pub fn run_file<'a, H: Shelf, O: Sink, L: Ledger>(
-    alloc: Global,
+    file: &GalleyFile<'a>,
     style: Style,
-    name: &'a str,
     product: Product,
-    wrap: Option<u32>,
     shelf: &mut H,
     out: &mut O,
     steps: &mut Steps<L>,
 ) -> Ending<'a>
     requires { IsProduct product }
-    ensures goes { GoesOn (λ held. RunCourse product style (opened name.now wrap (held name.now))) name.now
+    ensures goes { GoesOn (λ held. RunCourse product style
+        (opened file.now.name.now file.now.wrap (held file.now.name.now))) file.now.name.now
         (over_shelf (H.held shelf.old) (H.faults shelf.old) (H.faults shelf.new) (H.last_failed shelf.new))
         (over_output O.written O.writes O.faults out.old out.new) result }
     ensures counted { UnlessMemory (status_of result) (IfSome (H.held shelf.old) (λ held.
-        CountsRun product (Ok style) (opened name.now wrap (held name.now)) steps.old steps.new)) }
+        CountsRun product (Ok style) (opened file.now.name.now file.now.wrap (held file.now.name.now))
+        steps.old steps.new)) }
 {
-    match open_galley(alloc, name, wrap, shelf) {
+    match open_galley(file.alloc, file.name, file.wrap, shelf) {
         Err(ending) => ending,
-        Ok(galley) => run_galley(alloc, galley, style, product, out, steps),
+        Ok(galley) => run_galley(file.alloc, galley, style, product, out, steps),
     }
 }
 
-/// Paginates the galley of this name with the style of this word, which is read first, and writes the text in one
-/// piece, where `labels` is true with the labels of the search behind the pages.
+/// Paginates the galley of a job with its style, which is read first, and writes the text in one piece, where the job
+/// asks for labels with those of the search behind the pages.
 pub fn run_course<'a, H: Shelf, O: Sink, L: Ledger>(
     alloc: Global,
-    style: StyleWord<'a>,
-    name: &'a str,
-    labels: bool,
-    wrap: Option<u32>,
+    job: RunJob<'a>,
     shelf: &mut H,
     out: &mut O,
     steps: &mut Steps<L>,
 ) -> Ending<'a>
-    requires { IsStyle style }
-    ensures goes { Goes (Some (run_command (style_name style.entry) name.now labels wrap))
+    requires { IsStyle job.style }
+    ensures goes { Goes (Some (command_in (Run job.entry)))
         (over_shelf (H.held shelf.old) (H.faults shelf.old) (H.faults shelf.new) (H.last_failed shelf.new))
         (over_output O.written O.writes O.faults out.old out.new) result }
     ensures counted { UnlessMemory (status_of result)
-        (IsCounted (Some (run_command (style_name style.entry) name.now labels wrap)) (H.held shelf.old)
-        steps.old steps.new) }
+        (IsCounted (Some (command_in (Run job.entry))) (H.held shelf.old) steps.old steps.new) }
 {
-    match open_style(alloc, style, shelf) {
+    let file = GalleyFile {
+        alloc,
+        name: job.galley,
+        wrap: job.wrap,
+    };
+    match open_style(alloc, job.style, shelf) {
         Err(ending) => ending,
-        Ok(style) => run_file(
-            alloc,
-            style,
-            name,
-            Product::Pages { labels },
-            wrap,
-            shelf,
-            out,
-            steps,
-        ),
+        Ok(style) => {
+            let product = Product::Pages { labels: job.labels };
+            run_file(&file, style, product, shelf, out, steps)
+        }
     }
 }

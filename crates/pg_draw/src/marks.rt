@@ -1,6 +1,8 @@
 //! The marks of an area, drawn.
 use crate::pieces::{Piece, print};
-use crate::shapes::{Rows, Spot, print_bare, print_block, print_line, print_row, print_strip};
+use crate::shapes::{
+    Rows, Span, Spot, print_bare, print_block, print_line, print_row, print_strip,
+};
 use crate::tell::print_class;
 use pg_draw_page::{
     Gap, Space, View, change_step, gap_of, next_row, row_count, shorter, space_len, space_of, units,
@@ -16,22 +18,25 @@ const STEP: i128 = 260;
 // How wide the line at the left of an insert is, in units.
 const EDGE: i128 = 120;
 
-// What the pointer tells of a box.
-fn print_box_title(
+// How high a box is above its baseline, how deep below it, and how wide, in scaled points.
+#[derive(Clone, Copy)]
+struct BoxSize {
     height: i32,
     depth: i32,
     width: i32,
-    out: &mut Vec<u8>,
-) -> Result<(), AllocError> {
+}
+
+// What the pointer tells of a box.
+fn print_box_title(size: BoxSize, out: &mut Vec<u8>) -> Result<(), AllocError> {
     print(
         out,
         &[
             Piece::Markup("><title>box "),
-            Piece::Length(i64::from(height)),
+            Piece::Length(i64::from(size.height)),
             Piece::Markup(" + "),
-            Piece::Length(i64::from(depth)),
+            Piece::Length(i64::from(size.depth)),
             Piece::Markup(", "),
-            Piece::Length(i64::from(width)),
+            Piece::Length(i64::from(size.width)),
             Piece::Markup(" wide</title></path>"),
         ],
     )
@@ -42,14 +47,13 @@ fn print_letters(
     view: &View<'_>,
     spot: &Spot,
     words: &[u8],
-    top: i128,
+    span: Span,
     base: i128,
-    end: i128,
     out: &mut Vec<u8>,
 ) -> Result<(), AllocError> {
     let size = view.lines.size;
     if row_count(words) > 1 {
-        return print_block(spot, words, top, end, size, false, out);
+        return print_block(spot, words, span, size, false, out);
     }
     let rows = Rows {
         left: spot.left,
@@ -70,30 +74,31 @@ fn print_box(
     view: &View<'_>,
     spot: &Spot,
     mark: &Mark,
-    height: i32,
-    depth: i32,
-    width: i32,
+    size: BoxSize,
     out: &mut Vec<u8>,
 ) -> Result<(), AllocError> {
     let top = spot.top.saturating_add(mark.top);
-    let foot = top.saturating_add(i128::from(height));
+    let foot = top.saturating_add(i128::from(size.height));
     let base = units(foot);
-    let end = units(foot.saturating_add(i128::from(depth)));
-    let across = units(i128::from(width)).saturating_abs();
+    let span = Span {
+        from: units(top),
+        to: units(foot.saturating_add(i128::from(size.depth))),
+    };
+    let across = units(i128::from(size.width)).saturating_abs();
     let words = mark.words.as_slice();
     if row_count(words) == 0 {
-        let half = base.saturating_sub(units(top)) / 2;
+        let half = base.saturating_sub(span.from) / 2;
         print_strip("n", spot.left, across, base.saturating_sub(half), base, out)?;
-        return print_box_title(height, depth, width, out);
+        return print_box_title(size, out);
     }
-    print_strip("b", spot.left, across, units(top), end, out)?;
-    print_box_title(height, depth, width, out)?;
+    print_strip("b", spot.left, across, span.from, span.to, out)?;
+    print_box_title(size, out)?;
     let room = Spot {
         left: spot.left,
         width: across,
         top,
     };
-    print_letters(view, &room, words, units(top), base, end, out)
+    print_letters(view, &room, words, span, base, out)
 }
 
 // One of the parts of a space.
@@ -281,26 +286,32 @@ fn insert_classes(name: AreaName) -> (&'static str, &'static str) {
     }
 }
 
+// An insert: the area that it stands in, its class, and how high it is, in scaled points.
+#[derive(Clone, Copy)]
+struct Insert {
+    area: AreaName,
+    class: u32,
+    size: i32,
+}
+
 // The tint of an insert, with its outline, what the pointer tells of it, and the line at its left.
 fn print_tint(
     view: &View<'_>,
     spot: &Spot,
-    name: AreaName,
-    class: u32,
-    size: i32,
+    insert: Insert,
     out: &mut Vec<u8>,
 ) -> Result<(), AllocError> {
     let top = units(spot.top);
-    let end = units(spot.top.saturating_add(i128::from(size)));
-    let (tint, edge) = insert_classes(name);
+    let end = units(spot.top.saturating_add(i128::from(insert.size)));
+    let (tint, edge) = insert_classes(insert.area);
     print_strip(tint, spot.left, spot.width, top, end, out)?;
     print(out, &[Piece::Markup("><title>")])?;
-    print_class(view, class, out)?;
+    print_class(view, insert.class, out)?;
     print(
         out,
         &[
             Piece::Markup(", "),
-            Piece::Length(i64::from(size)),
+            Piece::Length(i64::from(insert.size)),
             Piece::Markup(" high</title></path>"),
         ],
     )?;
@@ -312,9 +323,7 @@ fn print_insert(
     view: &View<'_>,
     spot: &Spot,
     mark: &Mark,
-    name: AreaName,
-    class: u32,
-    size: i32,
+    insert: Insert,
     out: &mut Vec<u8>,
 ) -> Result<(), AllocError> {
     let here = Spot {
@@ -322,21 +331,25 @@ fn print_insert(
         width: spot.width,
         top: spot.top.saturating_add(mark.top),
     };
-    print_tint(view, &here, name, class, size, out)?;
+    print_tint(view, &here, insert, out)?;
     let top = units(here.top);
-    let end = units(here.top.saturating_add(i128::from(size)));
+    let end = units(here.top.saturating_add(i128::from(insert.size)));
     let room = Spot {
         left: spot.left.saturating_add(300),
         width: spot.width.saturating_sub(600),
         top: here.top,
     };
     let words = mark.words.as_slice();
-    if is_notes(name) {
-        return print_block(&room, words, top, end, view.lines.size, false, out);
+    if is_notes(insert.area) {
+        let whole = Span { from: top, to: end };
+        return print_block(&room, words, whole, view.lines.size, false, out);
     }
-    print_class_label(view, room.left, top, class, size, out)?;
-    let below = top.saturating_add(1000);
-    print_block(&room, words, below, end, view.lines.size, true, out)
+    print_class_label(view, room.left, top, insert, out)?;
+    let below = Span {
+        from: top.saturating_add(1000),
+        to: end,
+    };
+    print_block(&room, words, below, view.lines.size, true, out)
 }
 
 // The class of a float, in its picture.
@@ -344,8 +357,7 @@ fn print_class_label(
     view: &View<'_>,
     left: i128,
     top: i128,
-    class: u32,
-    size: i32,
+    insert: Insert,
     out: &mut Vec<u8>,
 ) -> Result<(), AllocError> {
     print(
@@ -358,12 +370,12 @@ fn print_class_label(
             Piece::Markup("\">"),
         ],
     )?;
-    print_class(view, class, out)?;
+    print_class(view, insert.class, out)?;
     print(
         out,
         &[
             Piece::Markup(", "),
-            Piece::Points(i64::from(size)),
+            Piece::Points(i64::from(insert.size)),
             Piece::Markup(" points</text>"),
         ],
     )
@@ -398,7 +410,7 @@ fn print_mark(
     view: &View<'_>,
     spot: &Spot,
     mark: &Mark,
-    name: AreaName,
+    area: AreaName,
     out: &mut Vec<u8>,
 ) -> Result<(), AllocError> {
     match mark.shape {
@@ -406,9 +418,19 @@ fn print_mark(
             height,
             depth,
             width,
-        } => print_box(view, spot, mark, height, depth, width, out),
+        } => {
+            let size = BoxSize {
+                height,
+                depth,
+                width,
+            };
+            print_box(view, spot, mark, size, out)
+        }
         Shape::Rule { height, depth } => print_rule(spot, mark, height, depth, out),
-        Shape::Insert { class, size } => print_insert(view, spot, mark, name, class, size, out),
+        Shape::Insert { class, size } => {
+            let insert = Insert { area, class, size };
+            print_insert(view, spot, mark, insert, out)
+        }
         _ => Ok(()),
     }
 }

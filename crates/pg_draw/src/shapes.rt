@@ -13,6 +13,13 @@ pub struct Spot {
     pub top: i128,
 }
 
+/// From one height to another, in units.
+#[derive(Clone, Copy)]
+pub struct Span {
+    pub from: i128,
+    pub to: i128,
+}
+
 /// A strip from one height to another, in units, without the end of its tag. What is thinner than a hair is as thick.
 pub fn print_strip(
     class: &'static str,
@@ -174,12 +181,11 @@ fn lesser(one: i128, other: i128) -> i128 {
     if one < other { one } else { other }
 }
 
-/// All rows of letters between two heights, in units: from the first height on, or down to the second.
+/// All rows of letters between two heights: from the first height on, or down to the second.
 pub fn print_block(
     spot: &Spot,
     words: &[u8],
-    from: i128,
-    to: i128,
+    span: Span,
     usual: i128,
     at_end: bool,
     out: &mut Vec<u8>,
@@ -188,7 +194,7 @@ pub fn print_block(
     if count <= 0 {
         return Ok(());
     }
-    let height = to.saturating_sub(from);
+    let height = span.to.saturating_sub(span.from);
     let most = usual.saturating_mul(6) / 5;
     let pitch = larger(
         lesser(quotient(height, count), most),
@@ -196,9 +202,9 @@ pub fn print_block(
     );
     let shown = larger(lesser(count, quotient(height, pitch)), 1);
     let top = if at_end {
-        to.saturating_sub(shown.saturating_mul(pitch))
+        span.to.saturating_sub(shown.saturating_mul(pitch))
     } else {
-        from
+        span.from
     };
     let rows = Rows {
         left: spot.left,

@@ -70,23 +70,29 @@ fn search_of<'a, L: Ledger>(
     }
 }
 
-// The search of files, or what stops the program.
-fn open_search<'a, H: Shelf, L: Ledger>(
-    alloc: Global,
+// The files of which it is told: a style, and a galley with the width at which its lines are joined.
+#[derive(Clone, Copy)]
+struct Files<'a> {
     style: StyleWord<'a>,
     galley: &'a str,
     wrap: Option<u32>,
+}
+
+// The search of files, or what stops the program.
+fn open_search<'a, H: Shelf, L: Ledger>(
+    alloc: Global,
+    files: Files<'a>,
     shelf: &mut H,
     steps: &mut Steps<L>,
 ) -> Result<Search, Stop<'a>>
-    requires { IsStyle style }
-    ensures search { IfOk result (λ search.
-        HasFiles (H.held shelf.old) (style_name style.entry) galley.now wrap search.galley search.style) }
-    ensures stopped { IfErr result (λ stop.
-        Stops (H.held shelf.old) (style_name style.entry) galley.now wrap stop.ending) }
+    requires { IsStyle files.style }
+    ensures search { IfOk result (λ search. HasFiles (H.held shelf.old) (style_name files.entry.style)
+        files.entry.galley.now files.entry.wrap search.galley search.style) }
+    ensures stopped { IfErr result (λ stop. Stops (H.held shelf.old) (style_name files.entry.style)
+        files.entry.galley.now files.entry.wrap stop.ending) }
 {
-    let style = open_style(alloc, style, shelf)?;
-    let galley = open_galley(alloc, galley, wrap, shelf)?;
+    let style = open_style(alloc, files.style, shelf)?;
+    let galley = open_galley(alloc, files.galley, files.wrap, shelf)?;
     search_of(alloc, galley, style, steps)
 }
 
@@ -186,19 +192,17 @@ fn tell_pages<'a, O: Sink, L: Ledger>(
 // Tells of files.
 fn tell_files<'a, H: Shelf, O: Sink, L: Ledger>(
     alloc: Global,
-    style: StyleWord<'a>,
-    galley: &'a str,
-    wrap: Option<u32>,
+    files: Files<'a>,
     form: Form,
     shelf: &mut H,
     out: &mut O,
     steps: &mut Steps<L>,
 ) -> Ending<'a>
-    requires { IsStyle style }
-    ensures { TellsFiles (H.held shelf.old) (style_name style.entry) galley.now wrap form result
-        (O.written out.old) (O.written out.new) }
+    requires { IsStyle files.style }
+    ensures { TellsFiles (H.held shelf.old) (style_name files.entry.style) files.entry.galley.now files.entry.wrap
+        form result (O.written out.old) (O.written out.new) }
 {
-    match open_search(alloc, style, galley, wrap, shelf, steps) {
+    match open_search(alloc, files, shelf, steps) {
         Err(stop) => tell_refusal(alloc, form, stop, out),
         Ok(search) => tell_pages(alloc, form, &search, out, steps),
     }
@@ -244,7 +248,14 @@ fn act<'a, H: Shelf, O: Sink, L: Ledger>(
                 wrap,
                 form,
             },
-        ) => tell_files(alloc, style, galley, wrap, form, shelf, out, steps),
+        ) => {
+            let files = Files {
+                style,
+                galley,
+                wrap,
+            };
+            tell_files(alloc, files, form, shelf, out, steps)
+        }
     }
 }
 

@@ -6,7 +6,7 @@ ghost use Rattle.pg_command.specs.Words.{compare as compare_command, fold as fol
 ghost use Rattle.pg_course.specs.Calls.{Goes, over_shelf};
 ghost use Rattle.pg_course.specs.Counted.{IsCounted, UnlessMemory};
 
-use pg_command::Ending;
+use pg_command::{Ending, FoldJob, PagesJob};
 use pg_outside::{Shelf, Sink};
 use pg_table::Steps;
 use std::alloc::Global;
@@ -28,7 +28,12 @@ pub fn heads_course<'a, H: Shelf, O: Sink, L: Ledger>(
     ensures counted { UnlessMemory (status_of result)
         (IsCounted (Some (heads_command style.now galley.now wrap)) (H.held shelf.old) steps.old steps.new) }
 {
-    pg_course::heads_course(alloc, style, galley, wrap, shelf, out, steps)
+    let job = PagesJob {
+        style,
+        galley,
+        wrap,
+    };
+    pg_course::heads_course(alloc, job, shelf, out, steps)
 }
 
 /// The command `compare`.
@@ -47,7 +52,12 @@ pub fn compare_course<'a, H: Shelf, O: Sink, L: Ledger>(
     ensures counted { UnlessMemory (status_of result)
         (IsCounted (Some (compare_command style.now galley.now wrap)) (H.held shelf.old) steps.old steps.new) }
 {
-    pg_course::compare_course(alloc, style, galley, wrap, shelf, out, steps)
+    let job = PagesJob {
+        style,
+        galley,
+        wrap,
+    };
+    pg_course::compare_course(alloc, job, shelf, out, steps)
 }
 
 /// The command `fold`.
@@ -71,5 +81,12 @@ pub fn fold_course<'a, H: Shelf, O: Sink, L: Ledger>(
         (IsCounted (Some (fold_command style.now galley.now folds nest wrap)) (H.held shelf.old)
         steps.old steps.new) }
 {
-    pg_course::fold_course(alloc, style, galley, folds, nest, wrap, shelf, out, steps)
+    let job = FoldJob {
+        style,
+        galley,
+        folds,
+        nest,
+        wrap,
+    };
+    pg_course::fold_course(alloc, job, shelf, out, steps)
 }

@@ -7,7 +7,7 @@ ghost use Rattle.pg_course.specs.Calls.{Goes, over_shelf};
 ghost use Rattle.pg_course.specs.Complete.{IsComplete};
 ghost use Rattle.pg_course.specs.Counted.{IsCounted, UnlessMemory};
 
-use pg_command::{Ending, StyleWord};
+use pg_command::{CheckJob, EditJob, Ending, RunJob, StyleWord};
 use pg_outside::{Shelf, Sink};
 use pg_table::Steps;
 use std::alloc::Global;
@@ -32,7 +32,13 @@ pub fn run_course<'a, H: Shelf, O: Sink, L: Ledger>(
         (IsCounted (Some (run_command (style_name style.entry) name.now labels wrap)) (H.held shelf.old)
         steps.old steps.new) }
 {
-    pg_course::run_course(alloc, style, name, labels, wrap, shelf, out, steps)
+    let job = RunJob {
+        style,
+        galley: name,
+        labels,
+        wrap,
+    };
+    pg_course::run_course(alloc, job, shelf, out, steps)
 }
 
 /// The command `edit`.
@@ -54,9 +60,14 @@ pub fn edit_course<'a, H: Shelf, O: Sink, L: Ledger>(
         (IsCounted (Some (edit_command style.now galley.now script.now labels wrap)) (H.held shelf.old)
         steps.old steps.new) }
 {
-    pg_course::edit_course(
-        alloc, style, galley, script, labels, wrap, shelf, out, steps,
-    )
+    let job = EditJob {
+        style,
+        galley,
+        script,
+        labels,
+        wrap,
+    };
+    pg_course::edit_course(alloc, job, shelf, out, steps)
 }
 
 /// The command `check`.
@@ -80,5 +91,11 @@ pub fn check_course<'a, H: Shelf, O: Sink, L: Ledger>(
         (over_shelf (H.held shelf.old) (H.faults shelf.old) (H.faults shelf.new) (H.last_failed shelf.new))
         (over_output O.written O.writes O.faults out.old out.new) (status_of result) }
 {
-    pg_course::check_course(alloc, style, galley, output, wrap, shelf, out, steps)
+    let job = CheckJob {
+        style,
+        galley,
+        output,
+        wrap,
+    };
+    pg_course::check_course(alloc, job, shelf, out, steps)
 }

@@ -4,7 +4,7 @@ ghost use Rattle.pg_outside.specs.Outside.{over_output};
 ghost use Rattle.pg_command.specs.Words.{IsLineRule, lines as lines_command, show as show_command};
 ghost use Rattle.pg_course.specs.Calls.{Goes, over_shelf};
 
-use pg_command::Ending;
+use pg_command::{Ending, LinesJob};
 use pg_outside::{Shelf, Sink};
 use std::alloc::Global;
 
@@ -38,5 +38,11 @@ pub fn lines_course<'a, H: Shelf, O: Sink>(
         (over_shelf (H.held shelf.old) (H.faults shelf.old) (H.faults shelf.new) (H.last_failed shelf.new))
         (over_output O.written O.writes O.faults out.old out.new) result }
 {
-    pg_course::lines_course(alloc, width, tolerance, around, file, shelf, out)
+    let job = LinesJob {
+        width,
+        tolerance,
+        around,
+        file,
+    };
+    pg_course::lines_course(alloc, job, shelf, out)
 }

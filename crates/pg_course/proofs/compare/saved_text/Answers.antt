@@ -5,7 +5,7 @@ use Rattle.pg_course.proofs.compare.saved_text.Goals as goal
 
 pub returns : goal.returns
 returns c =
-    both_lines c.args.galley.now c.args.style.now c.args.first.now c.args.plan.now c.args.cost.now
+    both_lines c.args.basis.now.galley.now c.args.basis.now.style.now c.args.first.now c.args.plan.now c.args.cost.now
     c.new-text.result.items c.print_first.new.out.items c.print_best.new.out.items c.requires.fit c.requires.best
     c.requires.cost c.new-text.ensures.items c.in_ok-print_first.ensures
     (subst (λ (n : ℕ). c.print_best.new.out.items ≡ c.print_first.new.out.items ++ best_line n c.args.cost.now)

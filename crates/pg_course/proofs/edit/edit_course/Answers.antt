@@ -14,7 +14,7 @@ use Rattle.pg_course.proofs.edit.edit_course.Goals as goal
 
 pub returns-in-Err-clause-goes : goal.returns-in-Err-clause-goes
 returns-in-Err-clause-goes g c =
-    unstyled_goes c.args.style.now c.args.galley.now c.args.script.now c.args.labels c.args.wrap
+    unstyled_goes c.args.job.style.now c.args.job.galley.now c.args.job.script.now c.args.job.labels c.args.job.wrap
     (over_shelf (g.H.Shelf.held c.args.shelf.now) (g.H.Shelf.faults c.args.shelf.now)
     (g.H.Shelf.faults c.open_style.new.shelf) (g.H.Shelf.last_failed c.open_style.new.shelf))
     (sent g.O.Sink.written g.O.Sink.writes c.args.out.now) (g.O.Sink.faults c.args.out.now) c.in-Err.ending c.in-Err.ensures.stopped
@@ -22,30 +22,31 @@ returns-in-Err-clause-goes g c =
 pub returns-in-Err-clause-counted : goal.returns-in-Err-clause-counted
 returns-in-Err-clause-counted g c =
     whatever (status_of c.in-Err.ending) (all_told (g.H.Shelf.held c.args.shelf.now) (λ held.
-    still_edit (opened_style (named c.args.style.now) held)
-    (opened c.args.galley.now c.args.wrap (held c.args.galley.now))
-    (opened_script c.args.script.now (held c.args.script.now)) c.args.steps.now))
+    still_edit (opened_style (named c.args.job.style.now) held)
+    (opened c.args.job.galley.now c.args.job.wrap (held c.args.job.galley.now))
+    (opened_script c.args.job.script.now (held c.args.job.script.now)) c.args.steps.now))
 
 pub returns-in-Ok-clause-goes : goal.returns-in-Ok-clause-goes
 returns-in-Ok-clause-goes g c =
     let told = g.H.Shelf.held c.args.shelf.now in
     let mid = g.H.Shelf.held c.open_style.new.shelf in
-    goes_earlier (Some (edit c.args.style.now c.args.galley.now c.args.script.now c.args.labels c.args.wrap)) told mid
+    goes_earlier (Some (edit c.args.job.style.now c.args.job.galley.now c.args.job.script.now c.args.job.labels
+    c.args.job.wrap)) told mid
     (g.H.Shelf.faults c.args.shelf.now) (g.H.Shelf.faults c.open_style.new.shelf)
     (g.H.Shelf.faults c.edit_styled.new.shelf) (g.H.Shelf.last_failed c.edit_styled.new.shelf)
     (output_over (sent g.O.Sink.written g.O.Sink.writes c.args.out.now) (sent g.O.Sink.written g.O.Sink.writes c.edit_styled.new.out)
     (g.O.Sink.faults c.args.out.now) (g.O.Sink.faults c.edit_styled.new.out)) c.edit_styled.result
     c.open_style.ensures.same c.open_style.ensures.later
-    (c.edit_styled.ensures.goes c.args.style.now
-    (subst (λ (t : Option Held). IfSome t (λ held. opened_style (named c.args.style.now) held ≡ Ok c.in-Ok.style))
+    (c.edit_styled.ensures.goes c.args.job.style.now
+    (subst (λ (t : Option Held). IfSome t (λ held. opened_style (named c.args.job.style.now) held ≡ Ok c.in-Ok.style))
     (sym c.open_style.ensures.same) c.in-Ok.ensures.style))
 
 pub returns-in-Ok-clause-counted : goal.returns-in-Ok-clause-counted
 returns-in-Ok-clause-counted g c =
     unless_memory (status_of c.edit_styled.result)
     (read_counts (g.H.Shelf.held c.args.shelf.now) (g.H.Shelf.held c.open_style.new.shelf)
-    (λ held. opened_style (named c.args.style.now) held) c.in-Ok.style
+    (λ held. opened_style (named c.args.job.style.now) held) c.in-Ok.style
     (λ (said : Result StyleValue Stop) (held : Held). CountsEdit said
-    (opened c.args.galley.now c.args.wrap (held c.args.galley.now))
-    (opened_script c.args.script.now (held c.args.script.now)) c.args.steps.now c.edit_styled.new.steps)
+    (opened c.args.job.galley.now c.args.job.wrap (held c.args.job.galley.now))
+    (opened_script c.args.job.script.now (held c.args.job.script.now)) c.args.steps.now c.edit_styled.new.steps)
     c.open_style.ensures.same c.in-Ok.ensures.style) c.edit_styled.ensures.counted

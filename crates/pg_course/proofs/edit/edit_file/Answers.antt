@@ -16,7 +16,8 @@ use Rattle.pg_course.proofs.edit.edit_file.Goals as goal
 
 pub returns-in-Err-clause-goes : goal.returns-in-Err-clause-goes
 returns-in-Err-clause-goes g c =
-    script_stops c.args.labels c.args.session.now.style c.args.session.now.galley c.args.name.now
+    script_stops c.args.task.now.job.labels c.args.session.now.style c.args.session.now.galley
+    c.args.task.now.job.script.now
     (over_shelf (g.H.Shelf.held c.args.shelf.now) (g.H.Shelf.faults c.args.shelf.now)
     (g.H.Shelf.faults c.open_script.new.shelf) (g.H.Shelf.last_failed c.open_script.new.shelf))
     (sent g.O.Sink.written g.O.Sink.writes c.args.out.now) (g.O.Sink.faults c.args.out.now) c.in-Err.ending c.in-Err.ensures.stopped
@@ -25,18 +26,19 @@ pub returns-in-Err-clause-counted : goal.returns-in-Err-clause-counted
 returns-in-Err-clause-counted g c =
     whatever (status_of c.in-Err.ending) (all_told (g.H.Shelf.held c.args.shelf.now) (λ held.
     still_script c.args.session.now.style (show_of c.args.session.now)
-    (opened_script c.args.name.now (held c.args.name.now)) c.args.steps.now))
+    (opened_script c.args.task.now.job.script.now (held c.args.task.now.job.script.now)) c.args.steps.now))
 
 pub returns-in-Ok-clause-goes : goal.returns-in-Ok-clause-goes
 returns-in-Ok-clause-goes g c =
-    script_goes c.args.labels c.args.session.now.style c.args.session.now.galley c.args.name.now
+    script_goes c.args.task.now.job.labels c.args.session.now.style c.args.session.now.galley
+    c.args.task.now.job.script.now
     (g.H.Shelf.held c.args.shelf.now) c.in-Ok.script (g.H.Shelf.faults c.args.shelf.now)
     (g.H.Shelf.faults c.open_script.new.shelf) (g.H.Shelf.last_failed c.open_script.new.shelf)
     (output_over (sent g.O.Sink.written g.O.Sink.writes c.args.out.now) (sent g.O.Sink.written g.O.Sink.writes c.make_steps.new.out)
     (g.O.Sink.faults c.args.out.now) (g.O.Sink.faults c.make_steps.new.out)) c.make_steps.result
     c.in-Ok.ensures.script (subst (λ (steps : List ScriptStep). WritesOn
-    (EditSteps c.args.labels c.args.session.now.style c.args.session.now.galley 1 Done steps)
-    (EditFront c.args.labels c.args.session.now.style c.args.session.now.galley steps)
+    (EditSteps c.args.task.now.job.labels c.args.session.now.style c.args.session.now.galley 1 Done steps)
+    (EditFront c.args.task.now.job.labels c.args.session.now.style c.args.session.now.galley steps)
     (output_over (sent g.O.Sink.written g.O.Sink.writes c.args.out.now) (sent g.O.Sink.written g.O.Sink.writes c.make_steps.new.out)
     (g.O.Sink.faults c.args.out.now) (g.O.Sink.faults c.make_steps.new.out)) c.make_steps.result) c.as_slice.ensures
     c.make_steps.ensures.writes)
@@ -46,7 +48,7 @@ returns-in-Ok-clause-counted g c =
     unless_memory (status_of c.make_steps.result) (λ counted.
     when_said (λ (said : Result (List ScriptStep) Stop). CountsScript c.args.session.now.style
     (show_of c.args.session.now) said c.args.steps.now c.make_steps.new.steps) (g.H.Shelf.held c.args.shelf.now)
-    (λ (held : Held). opened_script c.args.name.now (held c.args.name.now)) c.in-Ok.script
+    (λ (held : Held). opened_script c.args.task.now.job.script.now (held c.args.task.now.job.script.now)) c.in-Ok.script
     c.in-Ok.ensures.script (taken_counted c.args.session.now.style c.args.session.now.galley
     (shows_from (show_of c.args.session.now) c.args.session.now.style c.in-Ok.script) c.args.steps.now
     c.make_steps.new.steps c.requires.known c.requires.few

@@ -22,15 +22,18 @@ returns-in-Err-clause-goes g c = λ style galley wrap are.
     let last = g.H.Shelf.last_failed c.args.shelf.now in
     let old = sent g.O.Sink.written g.O.Sink.writes c.args.out.now in
     let faults = g.O.Sink.faults c.args.out.now in
-    subst (λ (end : Ending). Goes (Some (edit style galley c.args.name.now c.args.labels wrap))
+    subst (λ (end : Ending). Goes (Some (edit style galley c.args.task.now.job.script.now c.args.task.now.job.labels
+    wrap))
     (over_shelf told before before last) (output_over old old faults faults) end) (sym c.float_ending.ensures)
-    (refused_goes style galley c.args.name.now c.args.labels wrap c.args.style c.args.galley told before last old faults
+    (refused_goes style galley c.args.task.now.job.script.now c.args.task.now.job.labels wrap c.args.style c.args.galley
+    told before last old faults
     c.in-Err.fault c.in-Err.ensures are)
 
 pub returns-in-Err-clause-counted : goal.returns-in-Err-clause-counted
 returns-in-Err-clause-counted g c =
     whatever (status_of c.float_ending.result) (all_told (g.H.Shelf.held c.args.shelf.now) (λ held.
-    still_edit (Ok c.args.style) (Ok c.args.galley) (opened_script c.args.name.now (held c.args.name.now))
+    still_edit (Ok c.args.style) (Ok c.args.galley) (opened_script c.args.task.now.job.script.now (held
+    c.args.task.now.job.script.now))
     c.args.steps.now))
 
 pub edit_file-requires-clause-known : goal.edit_file-requires-clause-known
@@ -49,15 +52,19 @@ returns-in-Ok-clause-goes g c = λ style galley wrap are.
     (g.H.Shelf.faults c.edit_file.new.shelf) (g.H.Shelf.last_failed c.edit_file.new.shelf) in
     let out = output_over (sent g.O.Sink.written g.O.Sink.writes c.args.out.now) (sent g.O.Sink.written g.O.Sink.writes c.edit_file.new.out)
     (g.O.Sink.faults c.args.out.now) (g.O.Sink.faults c.edit_file.new.out) in
-    taken_goes style galley c.args.name.now c.args.labels wrap c.args.style c.args.galley shelf out c.edit_file.result
+    taken_goes style galley c.args.task.now.job.script.now c.args.task.now.job.labels wrap c.args.style c.args.galley
+    shelf out c.edit_file.result
     c.in-Ok.ensures.1 c.in-Ok.ensures.2 are
     (subst (λ (s : SessionValue). GoesThrough
-    (λ (held : Held). EditScript c.args.labels s.style s.galley (opened_script c.args.name.now (held c.args.name.now)))
-    (λ (held : Held). ScriptFront c.args.labels s.style s.galley (opened_script c.args.name.now (held c.args.name.now)))
-    c.args.name.now shelf out c.edit_file.result) c.in-Ok.ensures.0.is c.edit_file.ensures.goes)
+    (λ (held : Held). EditScript c.args.task.now.job.labels s.style s.galley (opened_script
+    c.args.task.now.job.script.now (held c.args.task.now.job.script.now)))
+    (λ (held : Held). ScriptFront c.args.task.now.job.labels s.style s.galley (opened_script
+    c.args.task.now.job.script.now (held c.args.task.now.job.script.now)))
+    c.args.task.now.job.script.now shelf out c.edit_file.result) c.in-Ok.ensures.0.is c.edit_file.ensures.goes)
 
 pub returns-in-Ok-clause-counted : goal.returns-in-Ok-clause-counted
 returns-in-Ok-clause-counted g c =
     unless_memory (status_of c.edit_file.result) (if_some (g.H.Shelf.held c.args.shelf.now) (λ held counted.
-    subst (λ (s : SessionValue). CountsScript s.style (show_of s) (opened_script c.args.name.now (held c.args.name.now))
+    subst (λ (s : SessionValue). CountsScript s.style (show_of s) (opened_script c.args.task.now.job.script.now (held
+    c.args.task.now.job.script.now))
     c.args.steps.now c.edit_file.new.steps) c.in-Ok.ensures.0.is counted)) c.edit_file.ensures.counted

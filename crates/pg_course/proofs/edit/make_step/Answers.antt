@@ -7,7 +7,8 @@ use Rattle.pg_course.proofs.edit.make_step.Goals as goal
 
 pub returns-in-Show-clause-not_made : goal.returns-in-Show-clause-not_made
 returns-in-Show-clause-not_made g c =
-    subst (λ (step : ScriptStep). IfErr c.show.result (IsNoStep c.args.labels step c.args.number c.args.session.now
+    subst (λ (step : ScriptStep). IfErr c.show.result (IsNoStep c.args.labels step c.args.numbered.now.number
+    c.args.session.now
     c.show.new.session (output_over (sent g.O.Sink.written g.O.Sink.writes c.args.out.now) (sent g.O.Sink.written g.O.Sink.writes c.show.new.out)
     (g.O.Sink.faults c.args.out.now) (g.O.Sink.faults c.show.new.out)) c.args.steps.now c.show.new.steps))
-    (sym c.in-Show.is) (c.show.ensures.not_made c.args.number)
+    (sym c.in-Show.is) (c.show.ensures.not_made c.args.numbered.now.number)

@@ -13,14 +13,14 @@ use Rattle.pg_course.proofs.run.run_course.Goals as goal
 pub returns-in-Err-clause-counted : goal.returns-in-Err-clause-counted
 returns-in-Err-clause-counted g c =
     whatever (status_of c.in-Err.ending) (all_told (g.H.Shelf.held c.args.shelf.now) (λ held.
-    still_run (Pages c.args.labels) (opened_style (style_name c.args.style) held)
-    (opened c.args.name.now c.args.wrap (held c.args.name.now)) c.args.steps.now))
+    still_run (Pages c.args.job.labels) (opened_style (style_name c.args.job.style) held)
+    (opened c.args.job.galley.now c.args.job.wrap (held c.args.job.galley.now)) c.args.steps.now))
 
 pub returns-in-Ok-clause-goes : goal.returns-in-Ok-clause-goes
 returns-in-Ok-clause-goes g c = record {
   settled =
       styled_ends (g.H.Shelf.held c.args.shelf.now) (g.H.Shelf.held c.open_style.new.shelf)
-      (style_name c.args.style) c.in-Ok.style c.args.name.now (Pages c.args.labels) c.args.wrap
+      (style_name c.args.job.style) c.in-Ok.style c.args.job.galley.now (Pages c.args.job.labels) c.args.job.wrap
       (sent g.O.Sink.written g.O.Sink.writes c.args.out.now) (sent g.O.Sink.written g.O.Sink.writes c.run_file.new.out)
       (status_of c.run_file.result) (line_of c.run_file.result) c.in-Ok.ensures.style c.open_style.ensures.same
       c.run_file.ensures.goes.settled;
@@ -29,7 +29,7 @@ returns-in-Ok-clause-goes g c = record {
   write = search rules;
   front =
       styled_begins (g.H.Shelf.held c.args.shelf.now) (g.H.Shelf.held c.open_style.new.shelf)
-      (style_name c.args.style) c.in-Ok.style c.args.name.now (Pages c.args.labels) c.args.wrap
+      (style_name c.args.job.style) c.in-Ok.style c.args.job.galley.now (Pages c.args.job.labels) c.args.job.wrap
       (sent g.O.Sink.written g.O.Sink.writes c.args.out.now) (sent g.O.Sink.written g.O.Sink.writes c.run_file.new.out)
       (status_of c.run_file.result) c.in-Ok.ensures.style c.open_style.ensures.same
       c.run_file.ensures.goes.front;
@@ -42,6 +42,7 @@ pub returns-in-Ok-clause-counted : goal.returns-in-Ok-clause-counted
 returns-in-Ok-clause-counted g c =
     unless_memory (status_of c.run_file.result)
     (λ counted. read_counts (g.H.Shelf.held c.args.shelf.now) (g.H.Shelf.held c.open_style.new.shelf)
-    (λ held. opened_style (style_name c.args.style) held) c.in-Ok.style
-    (λ said held. CountsRun (Pages c.args.labels) said (opened c.args.name.now c.args.wrap (held c.args.name.now)) c.args.steps.now
+    (λ held. opened_style (style_name c.args.job.style) held) c.in-Ok.style
+    (λ said held. CountsRun (Pages c.args.job.labels) said (opened c.args.job.galley.now c.args.job.wrap (held
+    c.args.job.galley.now)) c.args.steps.now
     c.run_file.new.steps) c.open_style.ensures.same c.in-Ok.ensures.style counted) c.run_file.ensures.counted

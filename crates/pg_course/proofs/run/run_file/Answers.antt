@@ -14,7 +14,7 @@ use Rattle.pg_course.proofs.run.run_file.Goals as goal
 
 pub returns-in-Err-clause-goes : goal.returns-in-Err-clause-goes
 returns-in-Err-clause-goes g c =
-    stopped_run c.args.product c.args.style c.args.name.now c.args.wrap
+    stopped_run c.args.product c.args.style c.args.file.now.name.now c.args.file.now.wrap
     (over_shelf (g.H.Shelf.held c.args.shelf.now) (g.H.Shelf.faults c.args.shelf.now)
     (g.H.Shelf.faults c.open_galley.new.shelf) (g.H.Shelf.last_failed c.open_galley.new.shelf))
     (sent g.O.Sink.written g.O.Sink.writes c.args.out.now) (g.O.Sink.faults c.args.out.now) c.in-Err.ending c.in-Err.ensures.stopped
@@ -22,7 +22,8 @@ returns-in-Err-clause-goes g c =
 pub returns-in-Err-clause-counted : goal.returns-in-Err-clause-counted
 returns-in-Err-clause-counted g c =
     whatever (status_of c.in-Err.ending) (all_told (g.H.Shelf.held c.args.shelf.now) (λ held.
-    still_run c.args.product (Ok c.args.style) (opened c.args.name.now c.args.wrap (held c.args.name.now)) c.args.steps.now))
+    still_run c.args.product (Ok c.args.style) (opened c.args.file.now.name.now c.args.file.now.wrap (held
+    c.args.file.now.name.now)) c.args.steps.now))
 
 pub returns-in-Ok-clause-goes : goal.returns-in-Ok-clause-goes
 returns-in-Ok-clause-goes g c =
@@ -34,7 +35,8 @@ returns-in-Ok-clause-goes g c =
           on_settled (status_of end) (when_said (λ (said : Result GalleyValue Stop).
           EndsBy (RunCourse c.args.product c.args.style said) old new (status_of end) (line_of end))
           (g.H.Shelf.held c.args.shelf.now)
-          (λ (held : Held). opened c.args.name.now c.args.wrap (held c.args.name.now)) c.in-Ok.galley
+          (λ (held : Held). opened c.args.file.now.name.now c.args.file.now.wrap (held c.args.file.now.name.now))
+          c.in-Ok.galley
           c.in-Ok.ensures.galley)
           c.run_galley.ensures.writes.settled;
       read = search rules;
@@ -44,7 +46,8 @@ returns-in-Ok-clause-goes g c =
           on_write_fault (status_of end) (when_said (λ (said : Result GalleyValue Stop).
           BeginsBy (RunCourse c.args.product c.args.style said) old new)
           (g.H.Shelf.held c.args.shelf.now)
-          (λ (held : Held). opened c.args.name.now c.args.wrap (held c.args.name.now)) c.in-Ok.galley
+          (λ (held : Held). opened c.args.file.now.name.now c.args.file.now.wrap (held c.args.file.now.name.now))
+          c.in-Ok.galley
           c.in-Ok.ensures.galley)
           c.run_galley.ensures.writes.front;
       memory = search rules;
@@ -55,5 +58,6 @@ pub returns-in-Ok-clause-counted : goal.returns-in-Ok-clause-counted
 returns-in-Ok-clause-counted g c =
     unless_memory (status_of c.run_galley.result) (when_said (λ (said : Result GalleyValue Stop).
     CountsRun c.args.product (Ok c.args.style) said c.args.steps.now c.run_galley.new.steps) (g.H.Shelf.held c.args.shelf.now)
-    (λ (held : Held). opened c.args.name.now c.args.wrap (held c.args.name.now)) c.in-Ok.galley
+    (λ (held : Held). opened c.args.file.now.name.now c.args.file.now.wrap (held c.args.file.now.name.now))
+    c.in-Ok.galley
     c.in-Ok.ensures.galley) c.run_galley.ensures.counted
