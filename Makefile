@@ -2,10 +2,11 @@
 PREFIX = /usr/local
 EXAMPLE = run "$(CURDIR)/examples/latex.toml" "$(CURDIR)/examples/latex-lengths.log"
 DRAWN = "$(CURDIR)/examples/ten-lines.out"
+PROGRAMS = pg/out/pg:pg pg_draw_main/out/pg_draw_main:pg_draw pg_tell_main/out/pg_tell_main:pg_tell
 BIN = $(DESTDIR)$(PREFIX)/bin
 MAN = $(DESTDIR)$(PREFIX)/share/man/man1
 
-.PHONY: try build test draw install
+.PHONY: try build built test draw install
 
 # pages within three minutes, unproved
 try:
@@ -13,9 +14,7 @@ try:
 
 # the three programs, proved: half an hour and more
 build:
-	cd crates/pg && rt run -- $(EXAMPLE) > /dev/null
-	cd crates/pg_draw_main && rt run -- $(DRAWN) > /dev/null
-	cd crates/pg_tell_main && rt run -- --version > /dev/null
+	cd crates && for it in pg_draw_main pg_tell_main; do (cd $$it && rt run -- --version) || exit; done && cd pg && rt run -- make 1
 
 # the gate: every proof, wrong body, test and program
 test:
@@ -25,10 +24,9 @@ test:
 draw:
 	cd crates/pg_draw_main && rt try -- $(DRAWN) > "$(CURDIR)/ten-lines.html" && echo "open ten-lines.html in a browser"
 
+built:
+	@test -x crates/pg/out/pg || { echo "run 'make build' first"; exit 1; }
+
 # the programs and their manual pages; `make -C tex install` puts the LaTeX package, pgtex and its page in place
-install:
-	@test -x crates/pg_tell_main/out/pg_tell_main || { echo "run 'make build' first"; exit 1; }
-	install -D crates/pg/out/pg "$(BIN)/pg"
-	install -D crates/pg_draw_main/out/pg_draw_main "$(BIN)/pg_draw"
-	install -D crates/pg_tell_main/out/pg_tell_main "$(BIN)/pg_tell"
-	install -D -m 644 -t "$(MAN)" man/pg.1 man/pg_draw.1 man/pg_tell.1
+install: built
+	install -D -m 644 -t "$(MAN)" man/*.1 && for it in $(PROGRAMS); do install -D crates/$${it%:*} "$(BIN)/$${it#*:}" || exit; done
