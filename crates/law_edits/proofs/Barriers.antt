@@ -19,6 +19,7 @@ use Rattle.pg_plan.specs.declared.pages.Column.{Column}
 use Rattle.pg_style.specs.Values.{StyleValue}
 use Rattle.pg_column.proofs.Leads.{position_here, position_later}
 use Rattle.pg_lemmas.proofs.Bools.{both_of, by_bool, if_false, if_true, or_cases, or_left, or_right}
+use Rattle.pg_lemmas.proofs.Lists.{any_taken}
 use Rattle.pg_rules.specs.ColumnRules.{does_fit, is_well_formed}
 use Rattle.pg_rules.specs.Floats.{called, float_numbers, flushed, sizes_of}
 use Rattle.pg_rules.specs.Legal.{are_placed, are_ready}
@@ -33,16 +34,6 @@ use Rattle.law_edits.proofs.Steps.{LeadsIn, leads_in}
 use Rattle.law_edits.proofs.Twins.{context_of}
 
 -- ---- a test of the elements of a list
-
-any_taken : {X : Type 0} (p : X → Bool) (n : ℕ) (xs : List X) → list_any p (take n xs) ≡ true → list_any p xs ≡ true
-any_taken p zero xs e = absurd cc
-any_taken p (suc n) [] e = absurd cc
-any_taken p (suc n) (x ∷ xs) e = by (p x) e (any_taken p n xs)
-  where
-    by : (b : Bool) → (b || list_any p (take n xs)) ≡ true → (list_any p (take n xs) ≡ true → list_any p xs ≡ true) →
-        (b || list_any p xs) ≡ true
-    by true e f = refl
-    by false e f = f e
 
 -- where one passes, the first that does, whatever is behind
 record IsFound {X : Type 0} (p : X → Bool) (xs : List X) : Type 0 where

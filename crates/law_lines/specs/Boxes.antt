@@ -6,10 +6,10 @@ use Rattle.pg_scaled.specs.Scaled.{scaled_text}
 use Rattle.pg_scan.specs.Lines.{is_no_feed, dotted}
 use Rattle.pg_list.specs.declared.item.Item.{Item}
 use Rattle.pg_list.specs.declared.item.Item.TheVariants as item
-use Rattle.pg_list.specs.declared.item.Order.TheVariants.{Finite}
 use Rattle.pg_glue.specs.declared.Elastic.{Elastic}
+use Rattle.pg_glue.specs.declared.Sense.{Sense}
 use Rattle.pg_glue.specs.declared.Sense.TheVariants.{Stretch, Shrink}
-use Rattle.pg_glue.specs.Widths.{set_widths}
+use Rattle.pg_glue.specs.Widths.{elastic_of, set_widths}
 use Rattle.pg_hlist.specs.declared.item.HItem.{HItem}
 use Rattle.pg_hlist.specs.declared.item.HItem.TheVariants.{BoxItem, Glue, Kern, Penalty}
 use Rattle.law_lines.specs.declared.rule.LineRule.{LineRule}
@@ -35,13 +35,10 @@ depth_of (item ∷ items) = depth_of items
 
 -- ---- set glue
 
-abbrev pub stretching : HItem → List Elastic
-stretching (Glue width stretch order shrink body) = record { width = width; order = order; amount = stretch } ∷ []
-stretching _ = []
-
-abbrev pub shrinking : HItem → List Elastic
-shrinking (Glue width stretch order shrink body) = record { width = width; order = Finite; amount = shrink } ∷ []
-shrinking _ = []
+-- the glue of an item, as it grows or gives way
+abbrev pub elastic : Sense → HItem → List Elastic
+elastic sense (Glue width stretch order shrink body) = elastic_of sense width stretch order shrink ∷ []
+elastic sense _ = []
 
 abbrev pub own_width : HItem → List ℤ
 own_width (Glue width stretch order shrink body) = width ∷ []
@@ -51,9 +48,9 @@ own_width _ = []
 abbrev pub glue_widths : LineRule → List HItem → List ℤ
 glue_widths rule line =
     if int_lt (line_total line) rule.width
-    then set_widths (flat_map stretching line) (rule.width -ℤ line_total line) Stretch
+    then set_widths (flat_map (elastic Stretch) line) (rule.width -ℤ line_total line) Stretch
     else (if int_lt rule.width (line_total line)
-    then set_widths (flat_map shrinking line) (line_total line -ℤ rule.width) Shrink
+    then set_widths (flat_map (elastic Shrink) line) (line_total line -ℤ rule.width) Shrink
     else flat_map own_width line)
 
 -- ---- what is shown of a line

@@ -12,6 +12,7 @@ use Rattle.pg_rules.specs.Floats.{called, distance_table, entry, float_numbers, 
 use Rattle.pg_rules.specs.IsState.{has_side, not_first, not_some}
 use Rattle.pg_rules.specs.NoWorse.{is_same_side}
 use Rattle.pg_rules.specs.Room.{Document}
+use Rattle.pg_style.specs.Ranges.{max_columns}
 use Rattle.law_moves.specs.Ages.{waits_of}
 
 -- an item stands there, or it is the end; the front of a choice has variant 0
@@ -28,7 +29,7 @@ young_by limit slot (count ∷ waits) ages =
 
 -- the next column is one that a page may have
 abbrev pub has_column : Document → State → Bool
-has_column doc u = nat_le 1 u.column && (nat_le u.column doc.style.columns && nat_le u.column 2)
+has_column doc u = nat_le 1 u.column && (nat_le u.column doc.style.columns && nat_le u.column max_columns)
 
 -- the run exists where one is due; one is due in a second column, and may be in the first of a right page
 abbrev pub has_run_field : Document → State → Bool

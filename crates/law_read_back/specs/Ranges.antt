@@ -3,12 +3,13 @@ use Rattle.std.specs.Prelude.{◌≡◌, ◌<◌, ◌≤◌, ◌^◌, ℕ, Bool,
 use Rattle.std.specs.List.{AllByRecursion}
 use Rattle.pg_plan.specs.declared.states.Label.{Label}
 use Rattle.pg_plan.specs.declared.states.State.{State}
+use Rattle.pg_style.specs.Ranges.{max_columns}
 use Rattle.law_words.specs.Ranges.{AllBelow, IsPrintedPlace, is_wide}
 
 -- a state's fields are in their ranges; its fitness is there only where it is told
 pub record IsPrintedState (fitness : Bool) (u : State) : Type 0 where
   pub place : IsPrintedPlace u.place
-  pub column : (1 ≤ u.column) × (u.column ≤ 2)
+  pub column : (1 ≤ u.column) × (u.column ≤ max_columns)
   pub run : (n : ℕ) → u.run ≡ Some n → n < 2 ^ 8
   pub wide : (z : ℤ) → u.wide ≡ Some z → nat_abs z ≤ 2 ^ 60
   pub fitness_in : (n : ℕ) → u.fitness ≡ Some n → n < 4

@@ -269,11 +269,12 @@ module _ (doc : Document) (top : ℤ) (all : AllByRecursion IsBlock doc.blocks) 
       whole = whole;
     }
 
--- where the first stretch is not passed, its ends suffice
+-- the first ends suffice where no way has a first pick
 module _ (doc : Document) (top : ℤ) (all : AllByRecursion IsBlock doc.blocks) (from : Place)
-    (at : IsPlace doc.blocks from) (stopped : past_stretch doc top nothing (first_items doc.blocks from) ≡ None) where
-  pub stretch_suffices : AreCandidates doc from top (first_ends doc top from)
-  stretch_suffices = record {
+    (at : IsPlace doc.blocks from) (alone : (q : ℕ) (qs : List ℕ) (to : Place) (passed : Passed) (d : ℤ) →
+    Goes doc top nothing (first_items doc.blocks from) (first_front doc.blocks from) (q ∷ qs) to passed d → ⊥) where
+  first_suffice : AreCandidates doc from top (first_ends doc top from)
+  first_suffice = record {
     sound = λ c m. candidate_is doc top all from at [] (first_front doc.blocks from) nothing (pos 0)
         (first_items doc.blocks from) c (start_before doc top all from at)
         (listed_along doc top all from at [] (pos 0) (first_front doc.blocks from) nothing
@@ -302,41 +303,26 @@ module _ (doc : Document) (top : ℤ) (all : AllByRecursion IsBlock doc.blocks) 
           alike : (to : Place) (ps qs : List ℕ) (p : Passed) (x y : ℤ) → ps ≡ qs → x ≡ y →
               made doc top to ps p x ≡ made doc top to qs p y
           alike to ps qs p x y a b = cc
-      by c is usable (q ∷ qs) e (s, (w, (d, (past, more)))) = absurd (let k : None ≡ Some s = sym stopped ∙ past in cc)
+      by c is usable (q ∷ qs) e on = absurd (alone q qs c.to c.passed c.pick_demerits on)
+
+-- where the first stretch is not passed, its ends suffice
+module _ (doc : Document) (top : ℤ) (all : AllByRecursion IsBlock doc.blocks) (from : Place)
+    (at : IsPlace doc.blocks from) (stopped : past_stretch doc top nothing (first_items doc.blocks from) ≡ None) where
+  pub stretch_suffices : AreCandidates doc from top (first_ends doc top from)
+  stretch_suffices = first_suffice doc top all from at none
+    where
+      none : (q : ℕ) (qs : List ℕ) (to : Place) (passed : Passed) (d : ℤ) →
+          Goes doc top nothing (first_items doc.blocks from) (first_front doc.blocks from) (q ∷ qs) to passed d → ⊥
+      none q qs to passed d (s, (w, (paid, (past, more)))) = absurd (let k : None ≡ Some s = sym stopped ∙ past in cc)
 
 -- and so they do where no choice stands behind it
 module _ (doc : Document) (top : ℤ) (all : AllByRecursion IsBlock doc.blocks) (from : Place)
     (at : IsPlace doc.blocks from) (last : variants_at doc.blocks (first_front doc.blocks from) ≡ []) where
   pub end_suffices : AreCandidates doc from top (first_ends doc top from)
-  end_suffices = record {
-    sound = λ c m. candidate_is doc top all from at [] (first_front doc.blocks from) nothing (pos 0)
-        (first_items doc.blocks from) c (start_before doc top all from at)
-        (listed_along doc top all from at [] (pos 0) (first_front doc.blocks from) nothing
-        (first_items doc.blocks from) c m);
-    whole = λ c is usable. by c is usable c.picks refl (way doc top all from at c is usable);
-  }
+  end_suffices = first_suffice doc top all from at none
     where
-      by : (c : Candidate) (is : IsCandidate doc from c) → is_usable doc.style top c.passed ≡ true → (ps : List ℕ) →
-          c.picks ≡ ps →
-          Goes doc top nothing (first_items doc.blocks from) (first_front doc.blocks from) ps c.to c.passed
-          c.pick_demerits →
-          CoversIn (first_ends doc top from) c
-      by c is usable [] e (k, (st, (pass, none))) =
-          let here : IsAmong (made doc top c.to [] c.passed (pos 0)) (first_ends doc top from) =
-          along doc top [] (pos 0) (first_front doc.blocks from) c.to nothing c.passed (first_items doc.blocks from) k
-          st pass
-          (fine doc top all from at c is usable) in
-          let same : made doc top c.to [] c.passed (pos 0) ≡ c =
-          alike c.to [] c.picks c.passed (pos 0) c.pick_demerits (sym e) (sym none) in
-          record {
-            candidate = c;
-            listed = subst (λ (x : Candidate). IsAmong x (first_ends doc top from)) same here;
-            covers = covers_itself c;
-          }
-        where
-          alike : (to : Place) (ps qs : List ℕ) (p : Passed) (x y : ℤ) → ps ≡ qs → x ≡ y →
-              made doc top to ps p x ≡ made doc top to qs p y
-          alike to ps qs p x y a b = cc
-      by c is usable (q ∷ qs) e (s, (w, (d, (past, (there, more))))) = absurd (
+      none : (q : ℕ) (qs : List ℕ) (to : Place) (passed : Passed) (d : ℤ) →
+          Goes doc top nothing (first_items doc.blocks from) (first_front doc.blocks from) (q ∷ qs) to passed d → ⊥
+      none q qs to passed d (s, (w, (paid, (past, (there, more))))) = absurd (
           let k : slice_get [] q ≡ Some w = subst (λ (vs : List Variant). slice_get vs q ≡ Some w) last there in cc
           )

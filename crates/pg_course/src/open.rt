@@ -14,14 +14,11 @@ use pg_edits::{Script, ScriptKind, read_script};
 use pg_hlist::{Paras, read_paras};
 use pg_labels::{Output, OutputFault, read_output};
 use pg_list::Galley;
-use pg_outside::{Fetch, Shelf};
+use pg_outside::{FILE_LIMIT, Fetch, Shelf};
 use pg_showbox::{ListKind, read_galley};
 use pg_style::{Style, plain_style};
 use pg_stylefile::{StyleKind, read_style};
 use std::alloc::Global;
-
-/// The most bytes that a file may have.
-const FILE_LIMIT: u64 = 67108864;
 
 /// The file of a galley, the width at which its lines are joined, and where memory for it comes from.
 #[derive(Clone, Copy)]

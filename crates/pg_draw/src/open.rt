@@ -7,13 +7,10 @@ ghost use Rattle.pg_draw.specs.Texts.{HasDrawing, HasOutput, HasStyle, Stops, St
 use crate::ending::Ending;
 use pg_drawing::{Drawing, read_drawing};
 use pg_labels::{Output, OutputFault, read_output};
-use pg_outside::{Fetch, Shelf};
+use pg_outside::{FILE_LIMIT, Fetch, Shelf};
 use pg_style::Style;
 use pg_stylefile::{StyleKind, read_style};
 use std::alloc::Global;
-
-/// The most bytes that a file may have.
-const FILE_LIMIT: u64 = 67108864;
 
 // What a text with labels says, or else what line the shorter one is at fault at.
 fn otherwise(alloc: Global, text: &[u8], line: u32) -> Result<Output, OutputFault>

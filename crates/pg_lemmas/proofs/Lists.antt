@@ -1,9 +1,9 @@
 -- Lists, and what holds of each of their elements.
 use Rattle.std.proofs.lemmas.List.{reverse-append}
-use Rattle.std.proofs.Common.{◌≡◌, ℕ, zero, suc, take, drop, List, [], ◌∷◌, ◌++◌, arith, ◌∙◌, ◌<◌, ◌≤◌, ◌+◌, ap, subst, sym, refl, length, get_or, take-suc, true, false, Option, Some, None}
-use Rattle.std.specs.List.{AllByRecursion, Contains, range_with_len}
+use Rattle.std.proofs.Common.{◌≡◌, ℕ, zero, suc, take, drop, List, [], ◌∷◌, ◌++◌, arith, ◌∙◌, ◌<◌, ◌≤◌, ◌+◌, ap, subst, sym, refl, length, get_or, take-suc, Bool, true, false, Option, Some, None}
+use Rattle.std.specs.List.{AllByRecursion, Contains, list_any, range_with_len}
 use Rattle.std.proofs.lemmas.Option.{same_Some}
-use Rattle.std.specs.Prelude.{slice_get, is_some, replicate, reverse}
+use Rattle.std.specs.Prelude.{◌||◌, slice_get, is_some, replicate, reverse}
 
 pub all_append : {X : Type 0} (P : X → Type 0) (xs ys : List X) → AllByRecursion P xs → AllByRecursion P ys
     → AllByRecursion P (xs ++ ys)
@@ -54,6 +54,17 @@ no_items (x ∷ xs) h = absurd (omega arith)
 pub zeros_long : (n : ℕ) → length {A = ℕ} (replicate n 0) ≡ n
 zeros_long zero = refl
 zeros_long (suc n) = ap suc (zeros_long n)
+
+-- what passes a test among the first ones passes it among all
+pub any_taken : {X : Type 0} (p : X → Bool) (n : ℕ) (xs : List X) → list_any p (take n xs) ≡ true → list_any p xs ≡ true
+any_taken p zero xs e = absurd cc
+any_taken p (suc n) [] e = absurd cc
+any_taken p (suc n) (x ∷ xs) e = by (p x) e (any_taken p n xs)
+  where
+    by : (b : Bool) → (b || list_any p (take n xs)) ≡ true → (list_any p (take n xs) ≡ true → list_any p xs ≡ true) →
+        (b || list_any p xs) ≡ true
+    by true e f = refl
+    by false e f = f e
 
 -- a range with one more
 pub range_more : (a n : ℕ) → range_with_len a (suc n) ≡ range_with_len a n ++ (a + n) ∷ []

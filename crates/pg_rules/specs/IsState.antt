@@ -8,6 +8,7 @@ use Rattle.pg_list.specs.Places.{items_around}
 use Rattle.pg_plan.specs.declared.states.Side.{Side}
 use Rattle.pg_plan.specs.declared.states.Side.TheVariants.{L, R, S}
 use Rattle.pg_plan.specs.declared.states.State.{State}
+use Rattle.pg_style.specs.Ranges.{max_columns}
 use Rattle.pg_style.specs.declared.style.First.{First}
 use Rattle.pg_style.specs.declared.style.First.TheVariants.{Left, Right, Single}
 use Rattle.pg_list.specs.Flat.{is_same_place, end_of}
@@ -49,7 +50,7 @@ are_young doc _ _ = false
 -- what the state of each beginning keeps, field by field
 pub record IsState (doc : Document) (u : State) : Type 0 where
   pub place : IsPlace doc.blocks u.place
-  pub column : (1 ≤ u.column) × ((u.column ≤ doc.style.columns) × (u.column ≤ 2))
+  pub column : (1 ≤ u.column) × ((u.column ≤ doc.style.columns) × (u.column ≤ max_columns))
   pub side : has_side doc.style.first u.side ≡ true
   -- the run exists where one is due; one is due in a second column, and may be in the first of a right page
   pub run : option_map_or (λ (run : ℕ). is_some (slice_get doc.style.runs run)) u.run true ≡ true

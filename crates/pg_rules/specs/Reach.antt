@@ -67,7 +67,7 @@ pub record IsReach (doc : Document) (from : Place) (reach : ℕ) : Type 0 where
   pub one_more : reach ≡ last.block + 1
   pub greatest : (to : Place) → Reaches doc from to → to.block + 1 ≤ reach
 
--- the least block that an edit touches: its own, or where the last box or rule stands before or after it
+-- the least block that an edit touches: its own, or the one behind the last box or rule, before or after it
 abbrev pub touched : List Block → Edit → ℕ
 touched blocks edit = min edit.at (min (tail blocks) (tail (spliced blocks edit)))
 

@@ -3,7 +3,7 @@ use Rattle.std.specs.Prelude.{◌≡◌, ◌==◌, ℕ, ◌^◌, ◌-◌, ◌≤
 use Rattle.std.specs.Prelude.{Option, None, Result, Ok, Err}
 use Rattle.toml.specs.Data.{Members}
 use Rattle.toml.specs.View.{table_view}
-use Rattle.pg_style.specs.Ranges.{IsLength, IsFoot, AreDemerits}
+use Rattle.pg_style.specs.Ranges.{IsLength, IsFoot, AreDemerits, max_columns}
 use Rattle.pg_scaled.specs.Ranges.{IsScaled}
 use Rattle.pg_stylefile.specs.declared.fault.TableName.{TableName}
 use Rattle.pg_stylefile.specs.declared.fault.StyleKind.TheVariants.{NoRun, OutOfRange}
@@ -29,7 +29,7 @@ head_of table_name members = do
   version ← keyed table_name (codes "version") (whole_of 1 3) members
   _ ← no_fitness_yet table_name version members
   _ ← no_ragged_yet table_name version members
-  columns ← keyed table_name (codes "columns") (whole_of 1 2) members
+  columns ← keyed table_name (codes "columns") (whole_of 1 max_columns) members
   first ← keyed table_name (codes "first") first_of members
   Ok (record { version = version; columns = columns; first = first })
 
@@ -37,7 +37,7 @@ pub record IsHead (head : Head) : Type 0 where
   pub version_from : 1 ≤ head.version
   pub version_to : head.version ≤ 3
   pub columns_from : 1 ≤ head.columns
-  pub columns_to : head.columns ≤ 2
+  pub columns_to : head.columns ≤ max_columns
 
 unfoldable pub lengths_of : TableName → Members → Result Lengths StyleFault
 lengths_of table_name members = do

@@ -11,7 +11,7 @@ ghost use Rattle.pg_stylefile.specs.Root.{subtables_of, no_fitness_yet, no_ragge
 use crate::fault::{Fault, StyleKind};
 use crate::keys::{Keys, MAX_DEMERITS, MAX_DIMENSION};
 use crate::tables::Tables;
-use pg_style::First;
+use pg_style::{First, MAX_COLUMNS};
 use toml::Table;
 
 /// The version, and how pages stand.
@@ -82,7 +82,7 @@ pub fn read_head<'t>(keys: &Keys<'t>) -> Result<Head, Fault<'t>>
     let version = keys.whole("version", 1, 3)?;
     refuse_fitness(keys, version)?;
     refuse_ragged(keys, version)?;
-    let columns = keys.whole("columns", 1, 2)?;
+    let columns = keys.whole("columns", 1, u32::from(MAX_COLUMNS))?;
     let first = keys.first("first")?;
     Ok(Head {
         version: version as u8,

@@ -11,14 +11,11 @@ use pg_command::{Ending, StyleWord};
 use pg_fault_lines::{key_line, line_text, spot_of, toml_fault};
 use pg_fault_words::{LONG_GALLEY, LONG_STYLE, Remark, Row, UNREAD, list_row, style_row, value_at};
 use pg_list::Galley;
-use pg_outside::{Fetch, Shelf};
+use pg_outside::{FILE_LIMIT, Fetch, Shelf};
 use pg_showbox::{ListFault, ListKind, read_galley};
 use pg_style::{Style, plain_style};
 use pg_stylefile::{StyleFault, StyleKind, read_style};
 use std::alloc::{AllocError, Global};
-
-/// The most bytes that a file may have.
-const FILE_LIMIT: u64 = 67108864;
 
 /// The words of a line without a kind.
 pub fn remark_why(remark: Remark) -> Why {

@@ -27,7 +27,7 @@ fn exit_code(status: Status) -> ExitCode
 }
 
 // Serves the words, over the files under the working folder, standard output and standard error.
-fn run<L: Ledger>(rt: &HostRuntime, words: &Vec<String>, blank: Blank) -> Status
+fn run<L: Ledger>(rt: &HostRuntime, words: &Vec<String>, blank: Blank) -> ExitCode
     requires name { blank.name ≡ L.name }
     requires parts { blank.parts ≡ L.parts }
     requires one { blank.parts ≡ 1 }
@@ -36,20 +36,20 @@ fn run<L: Ledger>(rt: &HostRuntime, words: &Vec<String>, blank: Blank) -> Status
     let mut out = StreamSink::new(rt.stdout());
     let mut say = StreamSink::new(rt.stderr());
     let mut steps = Steps::<L>::new(blank);
-    serve(
+    exit_code(serve(
         rt.alloc(),
         words,
         &mut shelf,
         &mut out,
         &mut say,
         &mut steps,
-    )
+    ))
 }
 
 /// Serves the words that the system gives.
 pub fn program(rt: &HostRuntime) -> ExitCode {
     match words_of(rt) {
-        Ok(words) => exit_code(run::<Brand>(rt, &words, Blank::new(1))),
+        Ok(words) => run::<Brand>(rt, &words, Blank::new(1)),
         Err(error) if error.kind() == io::ErrorKind::OutOfMemory => ExitCode::from(NO_MEMORY),
         Err(_) => ExitCode::from(NO_WORDS),
     }

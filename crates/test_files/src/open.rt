@@ -5,14 +5,11 @@ ghost use Rattle.test_files.specs.Opened.{IsGalleyOf, IsStyleOf};
 
 use pg_command::Ending;
 use pg_list::Galley;
-use pg_outside::{Fetch, Shelf};
+use pg_outside::{FILE_LIMIT, Fetch, Shelf};
 use pg_showbox::{ListKind, read_galley};
 use pg_style::Style;
 use pg_stylefile::{StyleKind, read_style};
 use std::alloc::Global;
-
-/// The most bytes that a file may have.
-const FILE_LIMIT: u64 = 67108864;
 
 /// Fetches the file of this name, or answers what ends the run.
 pub fn fetch_file<'a, H: Shelf>(
