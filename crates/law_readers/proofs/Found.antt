@@ -1,7 +1,7 @@
 -- What the paragraphs of a file say is read of it.
-use Rattle.std.proofs.Common.{◌≡◌, ◌∙◌, refl, sym, ap, subst, arith, ℕ, zero, suc, ◌+◌, ◌≤◌, ◌<◌, Bool, true, false, List, [], ◌∷◌, ◌++◌, length, drop, append-nil, append_assoc, length-append, take-append-drop, Option, Some, None}
+use Rattle.std.proofs.Common.{◌≡◌, ◌∙◌, refl, sym, ap, subst, arith, ℕ, zero, suc, ◌+◌, ◌≤◌, ◌<◌, Bool, true, false, List, [], ◌∷◌, ◌++◌, length, append-nil, append_assoc, length-append, Option, Some, None}
 use Rattle.std.specs.Prelude.{codes, if◌then◌else◌, is_some, nat_lt, not, take_while, Result, Ok, Err}
-use Rattle.std.specs.List.{AllByRecursion, prefix_len}
+use Rattle.std.specs.List.{AllByRecursion}
 use Rattle.std.specs.Str.{bytes_eq}
 use Rattle.pg_lemmas.proofs.Bools.{by_bool, if_false, if_true, not_both}
 use Rattle.pg_lemmas.proofs.Lists.{all_append}

@@ -224,21 +224,14 @@ module _ (width : Option ℤ) (old : List Block) (lines : List (List ℕ)) (line
       ∙ append_assoc front (begin ∷ (inner ++ (marker ∷ rest))) (line ∷ [])
       ∙ ap (λ (l : List (List ℕ)). front ++ (begin ∷ l)) (append_assoc inner (marker ∷ rest) (line ∷ []))
 
-  item_step : (within : Within) (node : Node) → s.within ≡ within → HoldsAt within width old lines s →
-      block_line line ≡ Ok (said.Item node) → placed s within (node_item node (behind_point line)) ≡ Ok u →
-      Holds width old (lines ++ line ∷ []) u
-  unfolding placed placed_item
-  item_step Outside node at holds says e = absurd holds
-  item_step Listing node at holds says e =
-      block_step (node_item node (behind_point line)) at holds (inl (one_says node says)) e
-  item_step InChoice node at holds says e = absurd cc
-  item_step (InVariant looseness demerits) node at holds says e =
-      let (_, same) = if_said (nat_lt s.count item_limit)
-      (record s { items = s.items ++ node_item node (behind_point line) ∷ []; has_item = true; count = s.count + 1 })
-      u Limit e in
-      by_state (InVariant looseness demerits)
-      (record s { items = s.items ++ node_item node (behind_point line) ∷ []; has_item = true; count = s.count + 1 })
-      at same (record {
+  -- the variant that is open has one item more, or a longer one
+  variant_grows : (looseness : ℤ) (demerits : ℕ) (items : List Item) (has_item : Bool) (count : ℕ) →
+      s.within ≡ InVariant looseness demerits → record s { items = items; has_item = has_item; count = count } ≡ u →
+      (holds : HoldsVariant width looseness demerits old lines s) → InOrder SaysItem (holds.rest ++ line ∷ []) items →
+      1 ≤ length items → Holds width old (lines ++ line ∷ []) u
+  variant_grows looseness demerits items has_item count at same holds are some =
+      by_state (InVariant looseness demerits) (record s { items = items; has_item = has_item; count = count }) at same
+      (record {
         mine = holds.mine;
         front = holds.front;
         begin = holds.begin;
@@ -252,13 +245,29 @@ module _ (width : Option ℤ) (old : List Block) (lines : List (List ℕ)) (line
         begins = holds.begins;
         variants = holds.variants;
         says = holds.says;
-        items = in_order_more SaysItem holds.rest (line ∷ []) s.items (node_item node (behind_point line)) holds.items
-            (one_says node says);
-        last = λ _. (let long = length-append s.items (node_item node (behind_point line) ∷ []) in omega (arith, long));
+        items = are;
+        last = λ _. some;
         few = holds.few;
         shaped = holds.shaped;
         inserts = holds.inserts;
       })
+
+  item_step : (within : Within) (node : Node) → s.within ≡ within → HoldsAt within width old lines s →
+      block_line line ≡ Ok (said.Item node) → placed s within (node_item node (behind_point line)) ≡ Ok u →
+      Holds width old (lines ++ line ∷ []) u
+  unfolding placed placed_item
+  item_step Outside node at holds says e = absurd holds
+  item_step Listing node at holds says e =
+      block_step (node_item node (behind_point line)) at holds (inl (one_says node says)) e
+  item_step InChoice node at holds says e = absurd cc
+  item_step (InVariant looseness demerits) node at holds says e =
+      let (_, same) = if_said (nat_lt s.count item_limit)
+      (record s { items = s.items ++ node_item node (behind_point line) ∷ []; has_item = true; count = s.count + 1 })
+      u Limit e in
+      let long = length-append s.items (node_item node (behind_point line) ∷ []) in
+      variant_grows looseness demerits (s.items ++ node_item node (behind_point line) ∷ []) true (s.count + 1) at same
+      holds (in_order_more SaysItem holds.rest (line ∷ []) s.items (node_item node (behind_point line)) holds.items
+      (one_says node says)) (omega (arith, long))
 
   -- ---- a barrier
 
@@ -293,26 +302,9 @@ module _ (width : Option ℤ) (old : List Block) (lines : List (List ℕ)) (line
   deeper_step (InVariant looseness demerits) at holds deeper e =
       let (has, same) = if_said s.has_item (last_extended s (InVariant looseness demerits) (behind_point line)) u BadLine e in
       let some = holds.last has in
-      by_state (InVariant looseness demerits) (record s { items = extended (behind_point line) s.items }) at same (record {
-        mine = holds.mine;
-        front = holds.front;
-        begin = holds.begin;
-        inner = holds.inner;
-        marker = holds.marker;
-        rest = holds.rest ++ line ∷ [];
-        kept = holds.kept;
-        blocks = holds.blocks;
-        cut = longer_cut holds.front holds.begin holds.inner holds.marker holds.rest holds.cut;
-        are = holds.are;
-        begins = holds.begins;
-        variants = holds.variants;
-        says = holds.says;
-        items = longer_items holds.rest s.items line some holds.items deeper;
-        last = λ _. longer_some s.items (behind_point line) some;
-        few = holds.few;
-        shaped = holds.shaped;
-        inserts = holds.inserts;
-      })
+      variant_grows looseness demerits (extended (behind_point line) s.items) s.has_item s.count at same holds
+      (longer_items holds.rest s.items line some holds.items deeper)
+      (longer_some s.items (behind_point line) some)
 
   -- ---- markers
 

@@ -1,5 +1,5 @@
 -- Parts in order: one more, and a longer last one.
-use Rattle.std.proofs.Common.{◌≡◌, ◌∙◌, refl, sym, ap, arith, inl, inr, ℕ, suc, ◌+◌, ◌≤◌, Bool, true, false, List, [], ◌∷◌, ◌++◌, length, append-nil, append_assoc, length-append}
+use Rattle.std.proofs.Common.{◌≡◌, ◌∙◌, refl, sym, ap, subst, arith, inl, inr, ℕ, suc, ◌+◌, ◌≤◌, Bool, true, false, List, [], ◌∷◌, ◌++◌, length, append-nil, append_assoc, length-append}
 use Rattle.std.specs.Prelude.{take_while}
 use Rattle.std.specs.List.{prefix_len}
 use Rattle.pg_lemmas.proofs.Lists.{all_append}
@@ -9,10 +9,9 @@ use Rattle.pg_list.specs.declared.item.Item.TheVariants.{Carry}
 use Rattle.pg_list.specs.declared.variants.Variant.{Variant}
 use Rattle.pg_list.specs.declared.blocks.Block.{Block}
 use Rattle.pg_list.specs.declared.blocks.Block.TheVariants.{One, Choice}
-use Rattle.pg_list.specs.Bodies.{block_with_line, extended, extended_blocks, longer, with_line}
+use Rattle.pg_list.specs.Bodies.{block_with_line, extended, extended_blocks, with_line}
 use Rattle.pg_list.specs.Shapes.{fits_first}
 use Rattle.pg_showbox.specs.Nodes.{node_item}
-use Rattle.pg_showbox.specs.declared.node.Node.{Node}
 use Rattle.pg_showbox.proofs.ReadBack.{longer_node}
 use Rattle.law_readers.specs.Galleys.{HaveSameInserts, IsDeeper, SaysBarrier, SaysBlock, SaysItem, behind_point, further_lines}
 use Rattle.law_readers.specs.InOrder.{InOrder}
@@ -29,6 +28,37 @@ in_order_more {A} Says list part (y ∷ xs) x (front, rest, cut, first, more) sa
   first,
   in_order_more Says rest part xs x more says,
 )
+
+-- one line more makes the last part longer, and what it says
+pub record Lengthens {A B : Type 0} (Says : List A → B → Type 0) (Ends : List B → Type 0) (line : A) (grow : B → B)
+    (grown : List B → List B) : Type 0 where
+  pub some : Ends [] → ⊥
+  pub behind : (x y : B) (xs : List B) → Ends (x ∷ y ∷ xs) → Ends (y ∷ xs)
+  pub last : (x : B) → grown (x ∷ []) ≡ grow x ∷ []
+  pub more : (x y : B) (xs : List B) → grown (x ∷ y ∷ xs) ≡ x ∷ grown (y ∷ xs)
+  pub says : (part : List A) (x : B) → Ends (x ∷ []) → Says part x → Says (part ++ line ∷ []) (grow x)
+
+pub in_order_longer : {A B : Type 0} (Says : List A → B → Type 0) (Ends : List B → Type 0) (line : A) (grow : B → B)
+    (grown : List B → List B) → Lengthens Says Ends line grow grown → (list : List A) (xs : List B) → Ends xs →
+    InOrder Says list xs → InOrder Says (list ++ line ∷ []) (grown xs)
+in_order_longer Says Ends line grow grown how list [] ends are = absurd (how.some ends)
+in_order_longer {A} {B} Says Ends line grow grown how list (x ∷ []) ends (front, rest, cut, says, none) =
+    subst (λ (ys : List B). InOrder Says (list ++ line ∷ []) ys) (sym (how.last x)) (
+      front ++ line ∷ [],
+      [],
+      ap (λ (l : List A). l ++ line ∷ []) (cut ∙ ap (λ (l : List A). front ++ l) none ∙ append-nil front)
+          ∙ sym (append-nil (front ++ line ∷ [])),
+      how.says front x ends says,
+      refl,
+    )
+in_order_longer {A} {B} Says Ends line grow grown how list (x ∷ y ∷ xs) ends (front, rest, cut, says, more) =
+    subst (λ (ys : List B). InOrder Says (list ++ line ∷ []) ys) (sym (how.more x y xs)) (
+      front,
+      rest ++ line ∷ [],
+      ap (λ (l : List A). l ++ line ∷ []) cut ∙ append_assoc front rest (line ∷ []),
+      says,
+      in_order_longer Says Ends line grow grown how rest (y ∷ xs) (how.behind x y xs ends) more,
+    )
 
 -- ---- lines in front of one that differs
 
@@ -86,22 +116,14 @@ barrier_longer lines item line says deeper =
 pub longer_items : (lines : List (List ℕ)) (items : List Item) (line : List ℕ) → 1 ≤ length items →
     InOrder SaysItem lines items → IsDeeper line →
     InOrder SaysItem (lines ++ line ∷ []) (extended (behind_point line) items)
-longer_items lines [] line some are deeper = absurd (omega (arith, some))
-longer_items lines (item ∷ []) line some (front, rest, cut, says, none) deeper = (
-  front ++ line ∷ [],
-  [],
-  ap (λ (l : List (List ℕ)). l ++ line ∷ [])
-      (cut ∙ ap (λ (l : List (List ℕ)). front ++ l) none ∙ append-nil front) ∙ sym (append-nil (front ++ line ∷ [])),
-  says_longer front item line says deeper,
-  refl,
-)
-longer_items lines (item ∷ next ∷ items) line some (front, rest, cut, says, more) deeper = (
-  front,
-  rest ++ line ∷ [],
-  ap (λ (l : List (List ℕ)). l ++ line ∷ []) cut ∙ append_assoc front rest (line ∷ []),
-  says,
-  longer_items rest (next ∷ items) line (omega arith) more deeper,
-)
+longer_items lines items line some are deeper = in_order_longer SaysItem (λ (items : List Item). 1 ≤ length items) line
+    (with_line (behind_point line)) (extended (behind_point line)) (record {
+      some = λ none. omega (arith, none);
+      behind = λ x y xs _. omega arith;
+      last = λ x. refl;
+      more = λ x y xs. refl;
+      says = λ part x _ says. says_longer part x line says deeper;
+    }) lines items some are
 
 pub longer_some : (items : List Item) (line : List ℕ) → 1 ≤ length items → 1 ≤ length (extended line items)
 longer_some [] line some = some
@@ -151,22 +173,14 @@ block_longer lines (Choice variants) line one says deeper = absurd one
 pub longer_blocks : (lines : List (List ℕ)) (blocks : List Block) (line : List ℕ) → EndsInItem blocks →
     InOrder SaysBlock lines blocks → IsDeeper line →
     InOrder SaysBlock (lines ++ line ∷ []) (extended_blocks (behind_point line) blocks)
-longer_blocks lines [] line ends are deeper = absurd ends
-longer_blocks lines (block ∷ []) line ends (front, rest, cut, says, none) deeper = (
-  front ++ line ∷ [],
-  [],
-  ap (λ (l : List (List ℕ)). l ++ line ∷ [])
-      (cut ∙ ap (λ (l : List (List ℕ)). front ++ l) none ∙ append-nil front) ∙ sym (append-nil (front ++ line ∷ [])),
-  block_longer front block line ends says deeper,
-  refl,
-)
-longer_blocks lines (block ∷ next ∷ blocks) line ends (front, rest, cut, says, more) deeper = (
-  front,
-  rest ++ line ∷ [],
-  ap (λ (l : List (List ℕ)). l ++ line ∷ []) cut ∙ append_assoc front rest (line ∷ []),
-  says,
-  longer_blocks rest (next ∷ blocks) line ends more deeper,
-)
+longer_blocks lines blocks line ends are deeper = in_order_longer SaysBlock EndsInItem line
+    (block_with_line (behind_point line)) (extended_blocks (behind_point line)) (record {
+      some = λ none. none;
+      behind = λ x y xs behind. behind;
+      last = λ x. refl;
+      more = λ x y xs. refl;
+      says = λ part x one says. block_longer part x line one says deeper;
+    }) lines blocks ends are
 
 last_alone : (block : Block) (blocks : List Block) (line : List ℕ) → 1 ≤ length blocks →
     extended_blocks line (block ∷ blocks) ≡ block ∷ extended_blocks line blocks

@@ -33,7 +33,7 @@ use Rattle.law_readers.specs.LinesRead.{lines_read}
 use Rattle.law_readers.specs.Paragraphs.{IsDeeper, Paragraph, ParagraphFaultsStay, PassesOverLinesOutside, ReadsItsParagraphs, SayParagraphs, SaysItem, begins_paragraph, is_filled, paragraphs}
 use Rattle.law_readers.proofs.Joined.{From, ends_whole, joined_both, joined_from, texts}
 use Rattle.law_readers.proofs.Listed.{if_said, ok_said, said_inside}
-use Rattle.law_readers.proofs.Ordered.{further_more, in_order_more, taken_more, taken_none}
+use Rattle.law_readers.proofs.Ordered.{further_more, in_order_longer, in_order_more, taken_more, taken_none}
 use Rattle.pg_showbox.proofs.ShownLemmas.{then_is}
 use Rattle.law_readers.proofs.Through.{at_inside, fault_line}
 
@@ -118,22 +118,14 @@ says_longer lines item line says deeper = record {
 longer_items : (lines : List (List ℕ)) (items : List HItem) (line : List ℕ) → 1 ≤ length items →
     InOrder SaysItem lines items → IsDeeper line →
     InOrder SaysItem (lines ++ line ∷ []) (extended (behind_point line) items)
-longer_items lines [] line some are deeper = absurd (omega (arith, some))
-longer_items lines (item ∷ []) line some (front, rest, cut, says, none) deeper = (
-  front ++ line ∷ [],
-  [],
-  ap (λ (l : List (List ℕ)). l ++ line ∷ [])
-      (cut ∙ ap (λ (l : List (List ℕ)). front ++ l) none ∙ append-nil front) ∙ sym (append-nil (front ++ line ∷ [])),
-  says_longer front item line says deeper,
-  refl,
-)
-longer_items lines (item ∷ next ∷ items) line some (front, rest, cut, says, more) deeper = (
-  front,
-  rest ++ line ∷ [],
-  ap (λ (l : List (List ℕ)). l ++ line ∷ []) cut ∙ append_assoc front rest (line ∷ []),
-  says,
-  longer_items rest (next ∷ items) line (omega arith) more deeper,
-)
+longer_items lines items line some are deeper = in_order_longer SaysItem (λ (items : List HItem). 1 ≤ length items) line
+    (with_line (behind_point line)) (extended (behind_point line)) (record {
+      some = λ none. omega (arith, none);
+      behind = λ x y xs _. omega arith;
+      last = λ x. refl;
+      more = λ x y xs. refl;
+      says = λ part x _ says. says_longer part x line says deeper;
+    }) lines items some are
 
 extended_length : (items : List HItem) (line : List ℕ) → length (extended line items) ≡ length items
 extended_length [] line = refl

@@ -1,7 +1,7 @@
 -- What a file of paragraphs says, or the first line with a fault.
-use Rattle.std.specs.Prelude.{◌≡◌, ⊤, ℕ, List, [], ◌∷◌, ◌++◌, length, Option, Some, None, Result, Ok, Err, is_some, nat_lt, if◌then◌else◌, codes}
+use Rattle.std.specs.Prelude.{◌≡◌, ℕ, List, [], ◌∷◌, ◌++◌, length, Option, Some, None, Result, Ok, Err, is_some, nat_lt, if◌then◌else◌, codes}
 use Rattle.pg_showbox.specs.declared.kinds.ListKind.{ListKind}
-use Rattle.pg_showbox.specs.declared.kinds.ListKind.TheVariants.{NoListing, BadLine, Limit, Memory}
+use Rattle.pg_showbox.specs.declared.kinds.ListKind.TheVariants.{NoListing, BadLine, Limit}
 use Rattle.pg_showbox.specs.declared.kinds.ListFault.{ListFault}
 use Rattle.pg_scan.specs.Lines.{Line, raw_lines, joined}
 use Rattle.pg_showbox.specs.Parts.{◌>>=◌}
@@ -50,12 +50,6 @@ step s Deeper line = longer_last s s.current (past (codes ".") line)
 
 unfoldable pub line_read : Draft → List ℕ → Result Draft ListKind
 line_read s text = line_parsed (is_some s.current) text >>= (λ parsed. step s parsed text)
-
--- a step that was made, unless memory ran out
-abbrev pub Steps : Result (Unit {0}) ListKind → Result Draft ListKind → Draft → Type 0
-Steps (Ok done) said new = said ≡ Ok new
-Steps (Err Memory) said new = ⊤
-Steps (Err kind) said new = said ≡ Err kind
 
 -- lines that were read, unless memory ran out
 abbrev pub Runs : Result (Unit {0}) ListFault → Result Draft ListFault → Draft → Type 0

@@ -1,7 +1,8 @@
 //! What was read so far.
 ghost use Rattle.std.specs.Prelude.{◌≡◌, OnOk};
 ghost use Rattle.pg_hlist.specs.Items.{IsNodeInRange, node_item};
-ghost use Rattle.pg_hlist.specs.Reading.{Steps, closed, empty, longer_last, placed, step};
+ghost use Rattle.pg_showbox.specs.State.{Steps};
+ghost use Rattle.pg_hlist.specs.Reading.{closed, empty, longer_last, placed, step};
 ghost use Rattle.pg_hlist.specs.ParsedLine.{IsParsedInRange};
 
 use crate::item::{HNode, ParaLine};

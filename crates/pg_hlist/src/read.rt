@@ -2,7 +2,8 @@
 ghost use Rattle.std.specs.Prelude.{◌≡◌, ◌≤◌, ◌<◌, ◌+◌, ◌^◌, length, None};
 ghost use Rattle.pg_scan.specs.Lines.{joined, raw_lines};
 ghost use Rattle.pg_showbox.specs.Reading.{Gives};
-ghost use Rattle.pg_hlist.specs.Reading.{some_paras as some_of, Runs, Steps, line_read, paras_of, run};
+ghost use Rattle.pg_showbox.specs.State.{Steps};
+ghost use Rattle.pg_hlist.specs.Reading.{some_paras as some_of, Runs, line_read, paras_of, run};
 
 use crate::draft::Draft;
 use crate::para::Paras;
@@ -12,7 +13,7 @@ use pg_showbox::{ListFault, ListKind};
 use std::alloc::Global;
 
 // Reads one line.
-#[tactic(auto, using(crate::proofs::RunLemmas::steps_err), unfolding(crate::specs::Reading::line_read))]
+#[tactic(auto, using(pg_showbox::proofs::StateLemmas::steps_err), unfolding(crate::specs::Reading::line_read))]
 fn read_line(alloc: Global, draft: &mut Draft, line: &[u8]) -> Result<(), ListKind>
     ensures { Steps result (line_read draft.old line.now) draft.new }
 {

@@ -1,62 +1,43 @@
 -- Set widths of a line are small.
-use Rattle.std.proofs.Common.{ℕ, suc, ◌+◌, ◌*◌, ◌^◌, ◌≤◌, ◌<◌, arith, List, [], ◌∷◌, ◌++◌, length, length-append, Bool, true, false}
-use Rattle.std.specs.Prelude.{◌==◌, if◌then◌else◌, int_lt, nat_abs, ℤ, pos, negsuc, ◌+ℤ◌, ◌-ℤ◌, ◌*ℤ◌}
+use Rattle.std.proofs.Common.{◌^◌, ◌≤◌, ◌<◌, arith, List, [], ◌∷◌, length, Bool, true, false}
+use Rattle.std.specs.Prelude.{if◌then◌else◌, int_lt, nat_abs, ℤ, ◌-ℤ◌}
 use Rattle.std.specs.List.{AllByRecursion, flat_map}
-use Rattle.std.proofs.Math.Nat.{div-le_self, mul-le-mul}
-use Rattle.std.proofs.lemmas.Int.{ints, unsigned_abs-mul}
-use Rattle.pg_list.specs.declared.item.Order.{Order}
-use Rattle.pg_list.specs.Totals.{is_same_order}
-use Rattle.pg_glue.specs.declared.Elastic.{Elastic}
+use Rattle.std.proofs.lemmas.Int.{ints}
 use Rattle.pg_glue.specs.declared.Sense.{Sense}
 use Rattle.pg_glue.specs.declared.Sense.TheVariants.{Stretch, Shrink}
-use Rattle.pg_glue.specs.Widths.{amounts, chosen, floor_by, set_width, set_widths, share, widths_from, IsPrintable}
+use Rattle.pg_glue.specs.Widths.{amounts, chosen, set_widths, IsPrintable}
 use Rattle.pg_hlist.specs.declared.item.HItem.{HItem}
 use Rattle.pg_hlist.specs.declared.item.HItem.TheVariants.{BoxItem, Glue, Kern, Penalty}
 use Rattle.pg_hlist.specs.Items.{IsInRange}
-use Rattle.pg_lemmas.proofs.Lists.{all_append}
 use Rattle.law_lines.specs.declared.rule.LineRule.{LineRule}
-use Rattle.law_lines.specs.Boxes.{glue_widths, own_width}
+use Rattle.law_lines.specs.Boxes.{elastic, glue_widths, own_width}
 use Rattle.law_lines.specs.ParagraphsLaws.{IsRule}
 use Rattle.law_lines.specs.Lines.{line_total}
-use Rattle.pg_lines.specs.Printed.{elastic, widths_by}
+use Rattle.pg_lines.specs.Printed.{widths_by}
 use Rattle.pg_lines.proofs.SumsLaws.{sums_small}
 use Rattle.pg_glue.proofs.Small.{IsEntry, widths_small}
-
--- ---- shares
 
 -- ---- widths
 
 elastics_are : (sense : Sense) (items : List HItem) → AllByRecursion IsInRange items →
     AllByRecursion IsEntry (flat_map (elastic sense) items)
-elastics_are Stretch [] all = tt
-elastics_are Shrink [] all = tt
+elastics_are sense [] all = tt
 elastics_are Stretch (Glue width stretch order shrink body ∷ items) all =
     ((all.0.0, all.0.1), elastics_are Stretch items all.1)
 elastics_are Shrink (Glue width stretch order shrink body ∷ items) all =
     ((all.0.0, all.0.2), elastics_are Shrink items all.1)
-elastics_are Stretch (BoxItem width height depth body ∷ items) all = elastics_are Stretch items all.1
-elastics_are Stretch (Kern width body ∷ items) all = elastics_are Stretch items all.1
-elastics_are Stretch (Penalty value body ∷ items) all = elastics_are Stretch items all.1
-elastics_are Shrink (BoxItem width height depth body ∷ items) all = elastics_are Shrink items all.1
-elastics_are Shrink (Kern width body ∷ items) all = elastics_are Shrink items all.1
-elastics_are Shrink (Penalty value body ∷ items) all = elastics_are Shrink items all.1
+elastics_are sense (BoxItem width height depth body ∷ items) all = elastics_are sense items all.1
+elastics_are sense (Kern width body ∷ items) all = elastics_are sense items all.1
+elastics_are sense (Penalty value body ∷ items) all = elastics_are sense items all.1
 
 -- no more glue than items
 pub elastics_few : (sense : Sense) (items : List HItem) → length (flat_map (elastic sense) items) ≤ length items
-elastics_few Stretch [] = omega arith
-elastics_few Shrink [] = omega arith
-elastics_few Stretch (Glue width stretch order shrink body ∷ items) =
-    let k = elastics_few Stretch items in omega (arith, k)
-elastics_few Shrink (Glue width stretch order shrink body ∷ items) =
-    let k = elastics_few Shrink items in omega (arith, k)
-elastics_few Stretch (BoxItem width height depth body ∷ items) =
-    let k = elastics_few Stretch items in omega (arith, k)
-elastics_few Stretch (Kern width body ∷ items) = let k = elastics_few Stretch items in omega (arith, k)
-elastics_few Stretch (Penalty value body ∷ items) = let k = elastics_few Stretch items in omega (arith, k)
-elastics_few Shrink (BoxItem width height depth body ∷ items) =
-    let k = elastics_few Shrink items in omega (arith, k)
-elastics_few Shrink (Kern width body ∷ items) = let k = elastics_few Shrink items in omega (arith, k)
-elastics_few Shrink (Penalty value body ∷ items) = let k = elastics_few Shrink items in omega (arith, k)
+elastics_few sense [] = omega arith
+elastics_few sense (Glue width stretch order shrink body ∷ items) =
+    let k = elastics_few sense items in omega (arith, k)
+elastics_few sense (BoxItem width height depth body ∷ items) = let k = elastics_few sense items in omega (arith, k)
+elastics_few sense (Kern width body ∷ items) = let k = elastics_few sense items in omega (arith, k)
+elastics_few sense (Penalty value body ∷ items) = let k = elastics_few sense items in omega (arith, k)
 
 set_printable : (sense : Sense) (excess : ℤ) (items : List HItem) → nat_abs excess < 2 ^ 52 → length items ≤ 2 ^ 11 →
     AllByRecursion IsInRange items → AllByRecursion IsPrintable (set_widths (flat_map (elastic sense) items) excess sense)

@@ -1,20 +1,13 @@
 -- How a line is printed.
-use Rattle.std.specs.Prelude.{◌^◌, List, [], ◌∷◌, ◌++◌, ℤ, pos, neg_ℤ, ◌<ℤ◌, ◌-ℤ◌, int_lt, if◌then◌else◌, ℕ}
+use Rattle.std.specs.Prelude.{List, [], ◌∷◌, ℤ, ◌-ℤ◌, int_lt, if◌then◌else◌, ℕ}
 use Rattle.std.specs.Int.{int_max}
 use Rattle.std.specs.List.{flat_map}
-use Rattle.pg_glue.specs.declared.Elastic.{Elastic}
-use Rattle.pg_glue.specs.declared.Sense.{Sense}
 use Rattle.pg_glue.specs.declared.Sense.TheVariants.{Stretch, Shrink}
 use Rattle.pg_glue.specs.Widths.{set_widths}
 use Rattle.pg_hlist.specs.declared.item.HItem.{HItem}
 use Rattle.pg_hlist.specs.declared.item.HItem.TheVariants.{BoxItem, Glue, Kern, Penalty}
 use Rattle.pg_lines.specs.declared.sizes.BoxSizes.{BoxSizes}
-use Rattle.law_lines.specs.Boxes.{deeper, depth_of, height_of, own_width, set_deeper, shrinking, stretching}
-
--- the glue of an item, as it grows or gives way
-abbrev pub elastic : Sense → HItem → List Elastic
-elastic Stretch item = stretching item
-elastic Shrink item = shrinking item
+use Rattle.law_lines.specs.Boxes.{deeper, depth_of, elastic, height_of, own_width, set_deeper}
 
 -- the set widths of the glue of a line of this total
 abbrev pub widths_by : List HItem → ℤ → ℤ → List ℤ

@@ -2,12 +2,11 @@
 ghost use Rattle.std.specs.Prelude.{◌≡◌, ◌<◌, ◌≤◌, ◌^◌, ◌++◌, OnOk, IfOk, length, nat_abs, ◌-ℤ◌};
 ghost use Rattle.std.specs.List.{flat_map};
 ghost use Rattle.pg_glue.specs.Widths.{set_widths as set_widths_of};
-ghost use Rattle.law_lines.specs.Boxes.{own_width};
-ghost use Rattle.pg_lines.specs.Printed.{elastic, widths_by};
+ghost use Rattle.law_lines.specs.Boxes.{elastic, own_width};
+ghost use Rattle.pg_lines.specs.Printed.{widths_by};
 
 use pg_glue::{Elastic, Sense, set_widths};
 use pg_hlist::HItem;
-use pg_list::Order;
 use pg_scaled::minus;
 use std::alloc::{AllocError, Global};
 
@@ -23,18 +22,7 @@ fn push_elastic(sense: Sense, item: &HItem, list: &mut Vec<Elastic>) -> Result<(
         ..
     } = item
     {
-        list.push(match sense {
-            Sense::Stretch => Elastic {
-                width: *width,
-                order: *order,
-                amount: *stretch,
-            },
-            Sense::Shrink => Elastic {
-                width: *width,
-                order: Order::Finite,
-                amount: *shrink,
-            },
-        })?;
+        list.push(Elastic::of(sense, *width, *stretch, *order, *shrink))?;
     }
     Ok(())
 }

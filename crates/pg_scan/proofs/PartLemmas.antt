@@ -1,10 +1,11 @@
 -- The first part of a text that is cut at a byte.
-use Rattle.std.proofs.Common.{◌≡◌, ◌∙◌, ◌≤◌, ◌<◌, ◌+◌, ℕ, suc, ap, sym, arith, List, [], ◌∷◌, refl, length, take, drop, true, false, subst, inl, inr}
-use Rattle.std.specs.Prelude.{◌==◌}
+use Rattle.std.proofs.Common.{◌≡◌, ◌∙◌, ◌≤◌, ◌<◌, ◌+◌, ℕ, suc, ap, sym, arith, List, [], ◌∷◌, refl, length, take, drop, true, false, subst, inl, inr, nat_eq, get_or}
+use Rattle.std.proofs.Math.Bool.{and-false}
+use Rattle.std.specs.Prelude.{◌==◌, None}
 use Rattle.std.specs.List.{prefix_len}
 use Rattle.std.proofs.lemmas.Bool.{cases_Bool}
 use Rattle.pg_scan.specs.Lines.{onto_first}
-use Rattle.pg_scan.specs.Parts.{parts_of, differs_from}
+use Rattle.pg_scan.specs.Parts.{after, parts_of, differs_from}
 
 cut_step : (s c : ℕ) (cs : List ℕ) → (c == s) ≡ true → (prefix_len (differs_from s) (c ∷ cs) ≡ 0)
     × (parts_of s (c ∷ cs) ≡ [] ∷ parts_of s cs)
@@ -42,3 +43,14 @@ a_part s (c ∷ cs) n e some = elim (cases_Bool (c == s)) [
       subst (λ (j : ℕ). parts_of s (c ∷ cs) ≡ take j (c ∷ cs) ∷ parts_of s (drop (suc j) (c ∷ cs))) (sym here)
       (x.1 ∙ ap (onto_first c) more)
 ]
+
+-- a text of which the second byte is another does not stand in front
+pub another_second : (name bytes : List ℕ) → 2 ≤ length name → nat_eq (get_or bytes 1 0) (get_or name 1 0) ≡ false
+    → after name bytes ≡ None
+unfolding after
+another_second [] bytes long e = absurd (omega arith)
+another_second (a ∷ []) bytes long e = absurd (omega arith)
+another_second (a ∷ b ∷ cs) [] long e = refl
+another_second (a ∷ b ∷ cs) (x ∷ []) long e = rw (and-false (nat_eq x a)) refl
+another_second (a ∷ b ∷ cs) (x ∷ y ∷ ys) long e =
+    rw (e, and-false (nat_eq x a)) refl

@@ -12,6 +12,6 @@ mod numbers;
 mod parts;
 
 pub use bodies::print_dotted;
-pub use lines::{first_line_len, take_line};
+pub use lines::{first_line_len, take_line, whole_line};
 pub use numbers::{capped_value, whole_word};
 pub use parts::{letter_first, named, skip, skip_if, split_part};

@@ -1,5 +1,5 @@
 //! The lines of a text.
-ghost use Rattle.std.specs.Prelude.{◌≡◌, ◌≤◌, ◌<◌, ◌+◌, ◌^◌, length, [], ◌∷◌, MatchOption, IfSome, IfOk};
+ghost use Rattle.std.specs.Prelude.{◌≡◌, ◌≤◌, ◌<◌, ◌+◌, ◌^◌, length, [], ◌∷◌, MatchOption, IfSome, IfOk, ℕ};
 ghost use Rattle.std.specs.List.{prefix_len};
 ghost use Rattle.pg_scan.specs.Lines.{lines_of, raw_lines, trimmed, is_no_feed, is_full as is_full_line, joined};
 
@@ -51,6 +51,21 @@ fn is_full(wrap: Option<u32>, line: &[u8]) -> bool
         None => false,
         Some(width) => line.len() == width as usize,
     }
+}
+
+/// The first line of a text, where it is not joined with what follows it, and what follows it.
+pub fn whole_line(wrap: Option<u32>, text: &[u8]) -> Option<(&[u8], &[u8])>
+    ensures line { IfSome result (λ x. (number : ℕ) → joined wrap number (raw_lines text.now)
+        ≡ record { number = number; text = x.0.now } ∷ joined wrap (number + 1) (raw_lines x.1.now)) }
+    ensures count { IfSome result (λ x. length (raw_lines text.now) ≡ 1 + length (raw_lines x.1.now)) }
+    ensures shorter { IfSome result (λ x. length x.1.now < length text.now) }
+{
+    let (part, after) = split_line(text)?;
+    let line = without_returns(part);
+    if is_full(wrap, line) {
+        return None;
+    }
+    Some((line, after))
 }
 
 /// Puts the first line of a text into `line`, in place of what was there, and answers what follows

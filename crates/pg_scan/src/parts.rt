@@ -1,5 +1,5 @@
 //! Parts of a text.
-ghost use Rattle.std.specs.Prelude.{◌≡◌, ◌<◌, length, [], ◌∷◌, IfSome, MatchOption};
+ghost use Rattle.std.specs.Prelude.{◌≡◌, ◌<◌, length, [], ◌∷◌, IfSome, MatchOption, None, true};
 ghost use Rattle.std.specs.List.{prefix_len};
 ghost use Rattle.std.specs.Option.{option_map};
 ghost use Rattle.pg_scan.specs.Parts.{after, past, named as named_said, begins_with_letter, parts_of, differs_from};
@@ -33,11 +33,24 @@ pub fn letter_first(bytes: &[u8]) -> bool
     }
 }
 
+// Both have a second byte, and these differ, as those of most names do.
+fn differ_early(name: &[u8], bytes: &[u8]) -> bool
+    ensures { result ≡ true → after name.now bytes.now ≡ None }
+{
+    if name.len() < 2 || bytes.len() < 2 {
+        return false;
+    }
+    bytes[1] != name[1]
+}
+
 /// What stands behind a name that no letter follows.
 #[tactic(auto, unfolding(crate::specs::Parts::named))]
 pub fn named<'a>(name: &[u8], bytes: &'a [u8]) -> Option<&'a [u8]>
     ensures { option_map (λ b. b.now) result ≡ named_said name.now bytes.now }
 {
+    if differ_early(name, bytes) {
+        return None;
+    }
     match skip(name, bytes) {
         Some(rest) => { if letter_first(rest) { None } else { Some(rest) } }
         None => None,

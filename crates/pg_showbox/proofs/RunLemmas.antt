@@ -1,10 +1,11 @@
 -- Lines that are read one by one.
-use Rattle.std.proofs.Common.{◌≡◌, ℕ, List, [], ◌∷◌, refl, length, Bool}
-use Rattle.std.specs.Prelude.{Result, Ok, Err, Option}
+use Rattle.std.proofs.Common.{◌≡◌, ℕ, List, [], ◌∷◌, refl, length, Bool, Bor, ap, sym, ◌∙◌}
+use Rattle.std.specs.Prelude.{Result, Ok, Err, Option, Some, None, option_copied, unwrap_or}
 use Rattle.pg_showbox.specs.declared.kinds.ListKind.{ListKind}
 use Rattle.pg_showbox.specs.declared.kinds.ListKind.TheVariants.{NoListing, BadLine, UnknownNode, BadNumber, OutOfRange, Truncated, InfiniteShrink, RunningSize, NegativeSize, ChoiceShape, ChoiceInserts, Limit, Memory}
 use Rattle.pg_showbox.specs.declared.state.ReaderState.{ReaderState}
 use Rattle.pg_scan.specs.Lines.{Line, raw_lines, joined}
+use Rattle.pg_scan.specs.Parts.{or_all}
 use Rattle.pg_showbox.specs.State.{Steps}
 use Rattle.pg_showbox.specs.Reading.{line_read, run, OrMemory}
 use Rattle.pg_scan.proofs.LineLemmas.{no_line}
@@ -33,7 +34,8 @@ pub joined_none : (wrap : Option ℕ) (n : ℕ) (lines : List (List ℕ)) → li
 unfolding joined
 joined_none wrap n lines e = rw e refl
 
-pub err_runs : (kind : ListKind) (said : Result ReaderState ListKind) (new : ReaderState) (P : Type 0) → Steps (Err kind) said new
+-- of any state: lines that are read up to a step that fails
+pub err_runs : {S : Type 0} (kind : ListKind) (said : Result S ListKind) (new : S) (P : Type 0) → Steps (Err kind) said new
     → (said ≡ Err kind → P) → OrMemory kind P
 err_runs NoListing said new P e f = f e
 err_runs BadLine said new P e f = f e
@@ -48,3 +50,9 @@ err_runs ChoiceShape said new P e f = f e
 err_runs ChoiceInserts said new P e f = f e
 err_runs Limit said new P e f = f e
 err_runs Memory said new P e f = tt
+
+-- a line where it stands, or else the one that was put together
+pub line_said : (whole : Option (Bor (List ℕ))) (line said : Bor (List ℕ)) (items : List ℕ) → said ≡ unwrap_or whole line
+    → line.now ≡ items → or_all items (option_copied whole) ≡ said.now
+line_said None line said items e is = sym (ap (λ (text : Bor (List ℕ)). text.now) e ∙ is)
+line_said (Some text) line said items e is = sym (ap (λ (text : Bor (List ℕ)). text.now) e)

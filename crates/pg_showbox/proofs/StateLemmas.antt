@@ -29,7 +29,8 @@ use Rattle.pg_showbox.specs.Nodes.{node_item}
 use Rattle.std.specs.Prelude.{codes}
 use Rattle.pg_showbox.specs.State.{Steps, Counted, Sound, placed, placed_barrier, placed_block, placed_item, longer_last, last_extended, closed, ended, begun_listing, begun_choice, begun_variant, next_variant, whole_choice, ended_choice, or_first, step}
 
-pub steps_err : (kind : ListKind) (said : Result ReaderState ListKind) (new : ReaderState) → said ≡ Err kind
+-- of any state: a step that fails
+pub steps_err : {S : Type 0} (kind : ListKind) (said : Result S ListKind) (new : S) → said ≡ Err kind
     → Steps (Err kind) said new
 steps_err NoListing said new e = e
 steps_err BadLine said new e = e

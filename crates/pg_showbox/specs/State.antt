@@ -140,7 +140,7 @@ step s (said.VariantMark looseness demerits) line = begun_variant s s.within loo
 step s said.EndMark line = ended_choice s s.within
 
 -- a step that was made, unless memory ran out
-abbrev pub Steps : Result (Unit {0}) ListKind → Result ReaderState ListKind → ReaderState → Type 0
+abbrev pub Steps : {S : Type 0} → Result (Unit {0}) ListKind → Result S ListKind → S → Type 0
 Steps (Ok done) said new = said ≡ Ok new
 Steps (Err Memory) said new = ⊤
 Steps (Err kind) said new = said ≡ Err kind

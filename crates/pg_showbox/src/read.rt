@@ -1,7 +1,8 @@
 //! Galley files and item lines, read line by line.
-ghost use Rattle.std.specs.Prelude.{◌≡◌, ◌≤◌, ◌<◌, ◌+◌, ◌^◌, length, IfOk, OnOk, MatchOption, IfSome, ◌∷◌, [], Option, None, true, false};
+ghost use Rattle.std.specs.Prelude.{◌≡◌, ◌≤◌, ◌<◌, ◌+◌, ◌^◌, length, IfOk, OnOk, MatchOption, IfSome, ◌∷◌, [], Option, None, true, false, option_copied};
 ghost use Rattle.std.specs.List.{AllByRecursion};
 ghost use Rattle.pg_scan.specs.Lines.{raw_lines, joined};
+ghost use Rattle.pg_scan.specs.Parts.{or_all};
 ghost use Rattle.pg_showbox.specs.ParsedLine.{IsParsedInRange};
 ghost use Rattle.pg_showbox.specs.State.{Steps, Sound, WithinSound, started, ended};
 ghost use Rattle.pg_showbox.specs.Shown.{IsShownBlock};
@@ -11,8 +12,8 @@ use crate::kinds::{ListFault, ListKind};
 use crate::parsed::{ParsedLine, parse_block_line, parse_galley_line};
 use crate::state::{ReaderState, Within};
 use pg_list::{Blocks, Galley};
-use pg_scan::take_line;
-use std::alloc::Global;
+use pg_scan::{take_line, whole_line};
+use std::alloc::{AllocError, Global};
 
 // The next line stands in a listing.
 fn is_in_listing(within: Within) -> bool
@@ -50,6 +51,31 @@ fn read_line(
     state.step(alloc, parsed, line)
 }
 
+// The first line of a text where it stands, or none where it was put into `line`; what follows it, and the number there.
+fn next_line<'a>(
+    wrap: Option<u32>,
+    number: u32,
+    text: &'a [u8],
+    line: &mut Vec<u8>,
+) -> Result<Option<(Option<&'a [u8]>, &'a [u8], u32)>, AllocError>
+    requires { number + length text.now < 2 ^ 32 }
+    ensures line { IfOk result (λ found. MatchOption found (raw_lines text.now ≡ [])
+        (λ x. joined wrap number (raw_lines text.now)
+        ≡ record { number = number; text = or_all line.new.items (option_copied x.0) } ∷ joined wrap x.2 (raw_lines x.1.now))) }
+    ensures count { IfOk result (λ found. IfSome found
+        (λ x. x.2 + length (raw_lines x.1.now) ≡ number + length (raw_lines text.now))) }
+    ensures shorter { IfOk result (λ found. IfSome found (λ x. length x.1.now < length text.now)) }
+    ensures room { IfOk result (λ found. IfSome found (λ x. x.2 + length x.1.now ≤ number + length text.now)) }
+{
+    if let Some((whole, after)) = whole_line(wrap, text) {
+        return Ok(Some((Some(whole), after, number + 1)));
+    }
+    match take_line(wrap, number, text, line)? {
+        Some((after, next)) => Ok(Some((None, after, next))),
+        None => Ok(None),
+    }
+}
+
 // Reads all lines of a text, the first of which has this number.
 fn read_lines(
     alloc: Global,
@@ -69,7 +95,7 @@ fn read_lines(
     let mut rest = text;
     let mut number = first;
     'lines: while !rest.is_empty() {
-        let (after, next) = match take_line(wrap, number, rest, &mut line) {
+        let (whole, after, next) = match next_line(wrap, number, rest, &mut line) {
             Ok(Some(found)) => found,
             Ok(None) => return Ok(number),
             Err(_) => {
@@ -79,7 +105,7 @@ fn read_lines(
                 });
             }
         };
-        match read_line(alloc, is_file, state, &line) {
+        match read_line(alloc, is_file, state, whole.unwrap_or(&line)) {
             Err(kind) => return Err(ListFault { line: number, kind }),
             Ok(()) => {
                 rest = after;

@@ -1,7 +1,8 @@
 //! What was read so far.
-ghost use Rattle.std.specs.Prelude.{◌≡◌, ◌<◌, ◌≤◌, [], OnOk, length, nat_abs, nat_lt};
+ghost use Rattle.std.specs.Prelude.{◌≡◌, ◌<◌, ◌≤◌, ◌++◌, ◌∷◌, [], OnOk, length, nat_abs, nat_lt};
 ghost use Rattle.pg_list.specs.Shapes.{IsWithinLimits};
 ghost use Rattle.pg_list.specs.Counts.{item_limit};
+ghost use Rattle.pg_list.specs.declared.blocks.Block.TheVariants as block;
 ghost use Rattle.pg_showbox.specs.Nodes.{IsNodeInRange, node_item};
 ghost use Rattle.pg_showbox.specs.ParsedLine.{IsParsedInRange};
 ghost use Rattle.pg_showbox.specs.State.{Steps, Sound, WithinSound, placed, placed_barrier, placed_block, placed_item, begun_listing, longer_last, closed, ended, begun_choice, begun_variant, ended_choice, next_variant, whole_choice, step, started};
@@ -9,9 +10,9 @@ ghost use Rattle.pg_showbox.specs.State.{Steps, Sound, WithinSound, placed, plac
 use crate::kinds::ListKind;
 use crate::node::{Node, item_from};
 use crate::parsed::ParsedLine;
-use pg_list::{Block, Blocks, Bytes, ITEM_LIMIT, Items, Variant, Variants, is_shaped};
+use pg_list::{Block, Blocks, Bytes, ITEM_LIMIT, Item, Items, Variant, Variants, is_shaped};
 use pg_scan::skip_if;
-use std::alloc::Global;
+use std::alloc::{AllocError, Global};
 use std::mem;
 
 /// Where the next line stands: in no listing, in a listing, in a choice before its first variant, or
@@ -35,6 +36,50 @@ pub struct ReaderState {
     pub items: Items,
     pub has_item: bool,
     pub count: u32,
+}
+
+// Adds the item with these numbers and this body, as a block. Each kind is put together where it goes, since an item
+// that is handed on is copied number by number.
+fn push_one(blocks: &mut Blocks, node: Node, body: Bytes) -> Result<(), AllocError>
+    requires { IsNodeInRange node }
+    ensures { OnOk result (blocks.new ≡ blocks.old ++ block.One (node_item node body) ∷ []) }
+{
+    match node {
+        Node::Box { height, depth } => {
+            blocks.push(Block::One(Item::BoxItem {
+                height,
+                depth,
+                body,
+            }))
+        }
+        Node::Rule { height, depth } => {
+            blocks.push(Block::One(Item::Rule {
+                height,
+                depth,
+                body,
+            }))
+        }
+        Node::Glue {
+            width,
+            stretch,
+            order,
+            shrink,
+        } => {
+            blocks.push(Block::One(Item::Glue {
+                width,
+                stretch,
+                order,
+                shrink,
+                body,
+            }))
+        }
+        Node::Kern { width } => blocks.push(Block::One(Item::Kern { width, body })),
+        Node::Penalty { value } => blocks.push(Block::One(Item::Penalty { value, body })),
+        Node::Insert { class, size } => {
+            blocks.push(Block::One(Item::Insert { class, size, body }))
+        }
+        Node::Carry => blocks.push(Block::One(Item::Carry { body })),
+    }
 }
 
 impl ReaderState {
@@ -72,7 +117,7 @@ impl ReaderState {
         let Ok(body) = Bytes::from_slice(alloc, body) else {
             return Err(ListKind::Memory);
         };
-        let Ok(()) = self.blocks.push(Block::One(item_from(node, body))) else {
+        let Ok(()) = push_one(&mut self.blocks, node, body) else {
             return Err(ListKind::Memory);
         };
         self.has_item = true;

@@ -3,8 +3,8 @@ use Rattle.std.proofs.lemmas.Bool.Decides.{nat_tests}
 use Rattle.std.specs.Prelude.{Err, None}
 use Rattle.pg_scan.specs.Lines.{raw_lines, joined}
 use Rattle.pg_hlist.specs.Reading.{run, line_read}
-use Rattle.pg_hlist.proofs.RunLemmas.{run_more, run_fault, run_end, joined_none, err_runs}
-use Rattle.pg_showbox.proofs.RunLemmas.{no_raw_lines}
+use Rattle.pg_hlist.proofs.RunLemmas.{run_more, run_fault, run_end, joined_none}
+use Rattle.pg_showbox.proofs.RunLemmas.{err_runs, no_raw_lines}
 use Rattle.pg_hlist.proofs.read.read_lines.Goals as goal
 
 pub returns-in-Ok-None : goal.returns-in-Ok-None

@@ -1,6 +1,6 @@
 use Rattle.std.proofs.Common.{◌≡◌, ◌++◌, length}
 use Rattle.std.specs.List.{flat_map}
-use Rattle.pg_lines.specs.Printed.{elastic}
+use Rattle.law_lines.specs.Boxes.{elastic}
 use Rattle.pg_lines.proofs.glue.elastics.Given as goal
 
 abbrev pub invariant-items : goal.invariant-items
