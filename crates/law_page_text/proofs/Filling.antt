@@ -15,6 +15,7 @@ use Rattle.pg_list.specs.Totals.{depth, full_size, shrink, top_glue, total}
 use Rattle.pg_list.specs.Whole.{whole_sum, whole_sum_by}
 use Rattle.pg_glue.specs.Widths.{amounts, changes, chosen, set_widths}
 use Rattle.pg_glue.specs.declared.Elastic.{Elastic}
+use Rattle.pg_glue.specs.declared.Sense.{Sense}
 use Rattle.pg_glue.specs.declared.Sense.TheVariants.{Stretch, Shrink}
 use Rattle.pg_glue.proofs.Laws.{changes_all}
 use Rattle.pg_lemmas.proofs.Numbers.{length_is}
@@ -29,7 +30,7 @@ use Rattle.law_columns.specs.Stands.{Stand}
 use Rattle.law_columns.specs.BeginningLaws.{KeepsRules}
 use Rattle.law_columns.proofs.BeginningContracts.{unbroken_keep_rules}
 use Rattle.pg_pages.specs.Gaps.{gaps_above, shows_gaps}
-use Rattle.pg_pages.specs.SetGlue.{elastic, gap_elastic, glue_between, own_sizes as own_gaps, own_width, shrinking, stays_short, stretching}
+use Rattle.pg_pages.specs.SetGlue.{elastic, gap_elastic, glue_between, own_sizes as own_gaps, own_width, stays_short}
 use Rattle.law_columns.proofs.Beginnings.{stand_behind}
 use Rattle.pg_pages.proofs.Excess.{within}
 use Rattle.pg_pages.proofs.TextColumn.{text_fits}
@@ -69,21 +70,9 @@ widths_own a b s x y z p q = rw (p, q) refl
 
 -- ---- between gaps
 
-stretch_same : (items : List Item) → flat_map (elastic Stretch) items ≡ flat_map stretching items
-stretch_same [] = refl
-stretch_same (item ∷ items) = ap (λ more. stretching item ++ more) (stretch_same items)
-
-shrink_same : (items : List Item) → flat_map (elastic Shrink) items ≡ flat_map shrinking items
-shrink_same [] = refl
-shrink_same (item ∷ items) = ap (λ more. shrinking item ++ more) (shrink_same items)
-
-gaps_stretch : (gaps : List Gap) → map (gap_elastic Stretch) gaps ≡ flat_map stretching (map glue_of gaps)
-gaps_stretch [] = refl
-gaps_stretch (gap ∷ gaps) = ap (λ (more : List Elastic). gap_elastic Stretch gap ∷ more) (gaps_stretch gaps)
-
-gaps_shrink : (gaps : List Gap) → map (gap_elastic Shrink) gaps ≡ flat_map shrinking (map glue_of gaps)
-gaps_shrink [] = refl
-gaps_shrink (gap ∷ gaps) = ap (λ (more : List Elastic). gap_elastic Shrink gap ∷ more) (gaps_shrink gaps)
+gaps_elastic : (sense : Sense) (gaps : List Gap) → map (gap_elastic sense) gaps ≡ flat_map (elastic sense) (map glue_of gaps)
+gaps_elastic sense [] = refl
+gaps_elastic sense (gap ∷ gaps) = ap (λ (more : List Elastic). gap_elastic sense gap ∷ more) (gaps_elastic sense gaps)
 
 gaps_own : (gaps : List Gap) → own_gaps gaps ≡ flat_map own_width (map glue_of gaps)
 gaps_own [] = refl
@@ -101,15 +90,10 @@ flat_between f above items below =
     ap (λ more. more ++ flat_map f (map glue_of below)) (flat_two f (map glue_of above) items)
     ∙ flat_two f (map glue_of above ++ items) (map glue_of below)
 
-stretch_all : (above : List Gap) (items : List Item) (below : List Gap) →
-    glue_between Stretch above items below ≡ flat_map stretching (between above items below)
-stretch_all above items below =
-    rw (gaps_stretch above, gaps_stretch below, stretch_same items) (flat_between stretching above items below)
-
-shrink_all : (above : List Gap) (items : List Item) (below : List Gap) →
-    glue_between Shrink above items below ≡ flat_map shrinking (between above items below)
-shrink_all above items below =
-    rw (gaps_shrink above, gaps_shrink below, shrink_same items) (flat_between shrinking above items below)
+elastic_all : (sense : Sense) (above : List Gap) (items : List Item) (below : List Gap) →
+    glue_between sense above items below ≡ flat_map (elastic sense) (between above items below)
+elastic_all sense above items below =
+    rw (gaps_elastic sense above, gaps_elastic sense below) (flat_between (elastic sense) above items below)
 
 own_all : (above : List Gap) (items : List Item) (below : List Gap) →
     (own_gaps above ++ flat_map own_width items ++ own_gaps below) ≡ flat_map own_width (between above items below)
@@ -159,10 +143,10 @@ module _ (topskip maxdepth goal : ℤ) (above : List Gap) (items : List Item) (b
   stretched_fills : height <ℤ goal → pos 0 <ℤ stretch_in all →
       printed (set_widths (glue_between Stretch above items below) (goal -ℤ height) Stretch) ≡ goal
   stretched_fills low more =
-      let list = flat_map stretching all in
+      let list = flat_map (elastic Stretch) all in
       let shares = shared list (goal -ℤ height) (some height goal low) more in
       let sizes = stretched_sizes (goal -ℤ height) (chosen list) (amounts (chosen list) list) [] all in
-      ap (λ (list : List Elastic). printed (set_widths list (goal -ℤ height) Stretch)) (stretch_all above items below)
+      ap (λ (list : List Elastic). printed (set_widths list (goal -ℤ height) Stretch)) (elastic_all Stretch above items below)
       ∙ by (top_glue topskip items) (whole_sum_by full_size items) (depth maxdepth items) goal _ _
       (sizes_of_gaps above) (sizes_of_gaps below) _ sizes (sum_all above items below) shares
     where
@@ -176,13 +160,13 @@ module _ (topskip maxdepth goal : ℤ) (above : List Gap) (items : List Item) (b
   shrunk_fills : goal <ℤ height → pos 0 <ℤ shrink all →
       printed (set_widths (glue_between Shrink above items below) (height -ℤ goal) Shrink) ≡ goal
   shrunk_fills high gives =
-      let list = flat_map shrinking all in
+      let list = flat_map (elastic Shrink) all in
       let sum : amounts (chosen list) list ≡ shrink all =
       ap (λ order. amounts order list) (finite_chosen all) ∙ finite_shrink all in
       let more : pos 0 <ℤ amounts (chosen list) list = subst (λ (z : ℤ). pos 0 <ℤ z) (sym sum) gives in
       let shares = shared list (height -ℤ goal) (some goal height high) more in
       let sizes = shrunk_sizes (height -ℤ goal) (chosen list) (amounts (chosen list) list) [] all in
-      ap (λ (list : List Elastic). printed (set_widths list (height -ℤ goal) Shrink)) (shrink_all above items below)
+      ap (λ (list : List Elastic). printed (set_widths list (height -ℤ goal) Shrink)) (elastic_all Shrink above items below)
       ∙ by (top_glue topskip items) (whole_sum_by full_size items) (depth maxdepth items) goal _ _
       (sizes_of_gaps above) (sizes_of_gaps below) _ sizes (sum_all above items below) shares
     where

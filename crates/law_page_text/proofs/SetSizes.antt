@@ -11,7 +11,7 @@ use Rattle.pg_list.specs.Whole.{whole_sum, whole_sum_by}
 use Rattle.pg_glue.specs.Widths.{change, changes_from, widths_from}
 use Rattle.pg_glue.specs.declared.Elastic.{Elastic}
 use Rattle.pg_glue.specs.declared.Sense.TheVariants.{Stretch, Shrink}
-use Rattle.pg_pages.specs.SetGlue.{own_width, shrinking, stretching}
+use Rattle.pg_pages.specs.SetGlue.{elastic, own_width}
 use Rattle.law_page_text.specs.Heights.{set_sizes}
 
 other_more : (f x s c : ℤ) → x ≡ s +ℤ c → f +ℤ x ≡ (f +ℤ s) +ℤ c
@@ -28,10 +28,10 @@ glue_less w d x s c e = omega (arith, ints, e)
 
 module _ (excess : ℤ) (order : Order) (sum : ℤ) where
   abbrev stretched : List Elastic → List Item → List ℤ
-  stretched front items = widths_from Stretch excess order sum front (flat_map stretching items)
+  stretched front items = widths_from Stretch excess order sum front (flat_map (elastic Stretch) items)
 
   abbrev grown : List Elastic → List Item → ℤ
-  grown front items = whole_sum (changes_from excess order sum front (flat_map stretching items))
+  grown front items = whole_sum (changes_from excess order sum front (flat_map (elastic Stretch) items))
 
   pub stretched_sizes : (front : List Elastic) (items : List Item) →
       set_sizes items (stretched front items) ≡ whole_sum_by full_size items +ℤ grown front items
@@ -60,10 +60,10 @@ module _ (excess : ℤ) (order : Order) (sum : ℤ) where
       (stretched_sizes front items)
 
   abbrev shrunk : List Elastic → List Item → List ℤ
-  shrunk front items = widths_from Shrink excess order sum front (flat_map shrinking items)
+  shrunk front items = widths_from Shrink excess order sum front (flat_map (elastic Shrink) items)
 
   abbrev given : List Elastic → List Item → ℤ
-  given front items = whole_sum (changes_from excess order sum front (flat_map shrinking items))
+  given front items = whole_sum (changes_from excess order sum front (flat_map (elastic Shrink) items))
 
   pub shrunk_sizes : (front : List Elastic) (items : List Item) →
       set_sizes items (shrunk front items) ≡ whole_sum_by full_size items -ℤ given front items

@@ -8,11 +8,12 @@ use Rattle.pg_list.specs.Totals.{depth, full_size, shrink, top_glue}
 use Rattle.pg_list.specs.Whole.{whole_sum_by}
 use Rattle.pg_list.specs.declared.item.Order.TheVariants.{Finite}
 use Rattle.pg_style.specs.declared.style.Gap.{Gap}
+use Rattle.pg_glue.specs.declared.Sense.TheVariants.{Stretch}
 use Rattle.pg_glue.specs.Widths.{amounts, chosen}
 use Rattle.pg_rules.specs.ColumnRules.{segment, text_goal, text_total}
 use Rattle.pg_rules.specs.Room.{ColumnContext, items_of}
 use Rattle.pg_pages.specs.Gaps.{bottom_gaps, gaps_above, note_gaps, shows_gaps}
-use Rattle.pg_pages.specs.SetGlue.{glue_widths, stays_short, stretching}
+use Rattle.pg_pages.specs.SetGlue.{elastic, glue_widths, stays_short}
 
 -- the sizes of items together, each glue of its set width
 abbrev pub set_sizes : List Item → List ℤ → ℤ
@@ -50,7 +51,7 @@ printed_total it n =
 
 -- how much a text stretches with the gaps around it, in the highest order that does not cancel
 abbrev pub stretch_in : List Item → ℤ
-stretch_in items = amounts (chosen (flat_map stretching items)) (flat_map stretching items)
+stretch_in items = amounts (chosen (flat_map (elastic Stretch) items)) (flat_map (elastic Stretch) items)
 
 -- the printed text, with the gaps around it, fills its goal where it is too high and they shrink together, which they do
 -- in versions 1 and 2; where it is too low, is not to stay short and they stretch; and where it is just as high

@@ -1,5 +1,5 @@
 -- The items ahead up to a place, one after another.
-use Rattle.std.proofs.Common.{◌≡◌, refl, sym, ap, ◌∙◌, ℕ, List, [], ◌∷◌, ◌++◌, append_assoc, append-nil, Bool, true, false, Some, None}
+use Rattle.std.proofs.Common.{◌≡◌, sym, ap, ◌∙◌, ℕ, List, [], ◌∷◌, ◌++◌, append_assoc, append-nil, Bool, true, false, Some, None}
 use Rattle.std.specs.Prelude.{◌&&◌, not}
 use Rattle.std.specs.List.{AllByRecursion}
 use Rattle.pg_list.specs.declared.item.Item.{Item}
@@ -7,7 +7,7 @@ use Rattle.pg_list.specs.declared.blocks.Block.{Block}
 use Rattle.pg_list.specs.declared.galley.Place.{Place}
 use Rattle.pg_list.specs.Places.{item_at}
 use Rattle.pg_list.specs.Shapes.{IsBlock}
-use Rattle.pg_list.specs.Flat.{end_of, flat_items_at, is_same_place}
+use Rattle.pg_list.specs.Flat.{flat_items_at, is_same_place}
 use Rattle.pg_column.specs.Ahead.{item_place}
 use Rattle.pg_column.proofs.Ahead.{IsSettled, Named, stop}
 use Rattle.pg_column.proofs.Spans.{behind as later, opened}
@@ -37,9 +37,3 @@ module _ (blocks : List Block) (all : AllByRecursion IsBlock blocks) (at : Place
         (sym (ap (items_to is_end to) (opened blocks all at picks is named item e)
         ∙ if_false (not is_end && is_same_place at to) [] _ f))
         ∙ same
-
-pub between_last : (bs blocks : List Block) → bs ≡ blocks → (is_end : Bool) (to from : Place) (picks : List ℕ) →
-    is_end ≡ is_same_place to (end_of bs) →
-    items_to is_end to (flat_items_at bs from picks)
-    ≡ items_to (is_same_place to (end_of blocks)) to (flat_items_at blocks from picks)
-between_last bs blocks same is_end to from picks e = rw (e, same) refl

@@ -19,7 +19,7 @@ use Rattle.pg_list.specs.Shapes.{IsBlock}
 use Rattle.pg_list.proofs.Sizes.{item_count_cons, items_around_le, picked_le}
 use Rattle.pg_breaks.proofs.Lists.{get_lt}
 use Rattle.pg_list.specs.Flat.{FlatItem, end_of, flat_items_at, flat_items_from, is_same_place, variant_flat_items}
-use Rattle.pg_column.specs.Ahead.{item_place, is_front, leads_to, next_index, picks_behind, settled}
+use Rattle.pg_column.specs.Ahead.{IsStep, item_place, is_front, leads_to, next_index, picks_behind, settled}
 use Rattle.pg_column.proofs.Ahead.{IsSettled, Named, is_settled, named_on, named_settled, settle, step, stop}
 use Rattle.pg_lemmas.proofs.Bools.{by_bool, if_false, if_true}
 use Rattle.pg_lemmas.proofs.Lists.{drop_past}
@@ -70,6 +70,23 @@ module _ (blocks : List Block) (all : AllByRecursion IsBlock blocks) (at : Place
 
     pub shorter : length ahead ≡ suc (length behind)
     shorter = ap length opened
+
+  -- ---- by a step over the next item
+
+  module _ (item : Item) (next : Place) (left : List ℕ) (step : IsStep blocks at picks item next left) where
+    pub step_lists : flat_items_at blocks next left ≡ behind
+    step_lists = ap (λ (q : Place). flat_items_at blocks q left) step.next_is
+        ∙ ap (flat_items_at blocks next_at) step.left_is
+
+    pub step_shorter : length (flat_items_at blocks next left) < length ahead
+    step_shorter = let same = ap length step_lists in let less = shorter item step.item_is in omega (arith, same, less)
+
+    pub step_settled : IsSettled blocks next
+    step_settled = subst (IsSettled blocks) (sym step.next_is) (next_settled item step.item_is)
+
+    pub step_named : Named blocks next left
+    step_named = subst (λ (ps : List ℕ). Named blocks next ps) (sym step.left_is)
+        (subst (λ (q : Place). Named blocks q next_picks) (sym step.next_is) (next_named item step.item_is))
 
   -- ---- whether it leads to a place
 
@@ -238,9 +255,3 @@ pub leads_whole : (bs blocks : List Block) → bs ≡ blocks → (is_end : Bool)
     leads_to is_end to (flat_items_at bs from picks) (length picks)
     ≡ leads_to (is_same_place to (end_of blocks)) to (flat_items_at blocks from picks) (length picks)
 leads_whole bs blocks same is_end to from picks e = rw (e, same) refl
-
-pub walk_last : (bs blocks : List Block) → bs ≡ blocks → (doc : Document) (z room : TextRoom) → z ≡ room → (is_end : Bool)
-    (to from : Place) (picks : List ℕ) → is_end ≡ is_same_place to (end_of bs) → (w : Walked) →
-    walk_to doc z is_end to w (flat_items_at bs from picks)
-    ≡ walk_to doc room (is_same_place to (end_of blocks)) to w (flat_items_at blocks from picks)
-walk_last bs blocks same doc z room r is_end to from picks e w = rw (e, same, r) refl

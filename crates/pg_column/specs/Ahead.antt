@@ -1,9 +1,10 @@
 -- What is ahead of a place, with the picks that are left: the next item, and what is ahead behind it.
-use Rattle.std.specs.Prelude.{ℕ, ◌+◌, ◌-◌, Bool, true, false, ◌==◌, ◌&&◌, not, nat_lt, if◌then◌else◌, List, [], ◌∷◌, length, drop, slice_get, Option, Some, None, is_some}
+use Rattle.std.specs.Prelude.{◌≡◌, ℕ, ◌+◌, ◌-◌, Bool, true, false, ◌==◌, ◌&&◌, not, nat_lt, if◌then◌else◌, List, [], ◌∷◌, length, drop, slice_get, Option, Some, None, is_some}
 use Rattle.pg_list.specs.declared.blocks.Block.{Block}
 use Rattle.pg_list.specs.declared.blocks.Block.TheVariants.{One, Choice}
 use Rattle.pg_list.specs.declared.variants.Variant.{Variant}
 use Rattle.pg_list.specs.declared.galley.Place.{Place}
+use Rattle.pg_list.specs.declared.item.Item.{Item}
 use Rattle.pg_list.specs.Places.{item_at, place}
 use Rattle.pg_list.specs.Flat.{FlatItem, is_same_place}
 
@@ -40,6 +41,13 @@ settled blocks at =
     if at.index == 0 then place at.block 0 0
     else (if is_some (item_at blocks at) then at
     else place (if nat_lt at.block (length blocks) then at.block + 1 else at.block) 0 0)
+
+-- the step over the next item: the item, the place behind it, and the picks left there
+pub record IsStep (blocks : List Block) (at : Place) (left : List ℕ) (item : Item) (next : Place) (behind : List ℕ) :
+    Type 0 where
+  pub item_is : item_at blocks (item_place blocks at left) ≡ Some item
+  pub next_is : next ≡ settled blocks (next_index (item_place blocks at left))
+  pub left_is : behind ≡ picks_behind blocks at left
 
 -- the items ahead lead to a place, or to the end, past a front for each pick that is left
 abbrev pub leads_to : Bool → Place → List FlatItem → ℕ → Bool

@@ -14,11 +14,9 @@ ghost use Rattle.pg_column.specs.Numbers.{IsRoom, text_room};
 ghost use Rattle.pg_column.specs.View.{IsFor, view};
 
 use crate::cost::{TextCost, TextRoom, version_of};
-use crate::items::{
-    blocks_of, from, from_block, is_end, item_place, next_index_of, picks_behind, settled,
-    without_first,
-};
-use crate::span::{Span, ahead, is_reached};
+use crate::items::{blocks_of, from, from_block, is_end, settled, without_first};
+use crate::span::{Span, is_reached};
+use crate::step::next_step;
 use crate::walked::Walked;
 use pg_list::{Block, Galley, Place, Variant};
 use pg_style::Style;
@@ -94,14 +92,13 @@ fn walk(
     let mut at = settled(blocks, start);
     let mut left = picks;
     let mut walked = Walked::start(style);
-    'ahead: while let Some(item) = ahead(blocks, at, left) {
+    'ahead: while let Some(step) = next_step(galley, at, left) {
         if is_reached(is_end, at, to) {
             return walked;
         }
-        walked.pass(galley, style, room, at, item);
-        let here = item_place(blocks, at, left);
-        left = picks_behind(blocks, at, left);
-        at = settled(blocks, next_index_of(here));
+        walked.pass(galley, style, room, at, step.item);
+        at = step.next;
+        left = step.left;
     }
     walked
 }

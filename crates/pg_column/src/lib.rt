@@ -21,15 +21,14 @@ mod items;
 mod judge;
 mod rule;
 mod span;
+mod step;
 mod walk;
 mod walked;
 
 pub use cost::{TextCost, TextRoom, cost_for, give_in, goal_in, is_over, text_cost};
 pub use end::{End, EndList, EndLists};
 pub use gives::area_give;
-pub use items::{
-    blocks_of, is_end, is_same_place, item_place, next_index_of, picks_behind, settled,
-};
+pub use items::{blocks_of, is_same_place};
 pub use judge::{judge_from, judge_text};
-pub use span::{Span, ahead as item_ahead, fits, fits_from, is_reached};
-pub use walk::push_text;
+pub use span::{Span, fits, fits_from};
+pub use walk::{push_between, push_text};

@@ -4,15 +4,16 @@ ghost use Rattle.pg_list.specs.Flat.{end_of, flat_items_at, is_same_place};
 ghost use Rattle.pg_column.specs.Fits.{are_named, does_fit_from};
 ghost use Rattle.pg_column.specs.Between.{behind, column_text, items_to};
 
-use crate::{
-    blocks_of, is_end, is_reached, item_ahead, item_place, next_index_of, picks_behind, settled,
-};
+use crate::items::{blocks_of, is_end, settled};
+use crate::span::is_reached;
+use crate::step::next_step;
 use pg_list::{Galley, Item, Place};
 use pg_plan::Column;
 use std::alloc::AllocError;
 
-// Adds the items from a place up to another, with these picks.
-fn push_between<'a>(
+/// Adds the items from a place up to another, with these picks. Only the items are borrowed. The only refusal is for want
+/// of memory.
+pub fn push_between<'a>(
     galley: &'a Galley,
     start: Place,
     picks: &[u32],
@@ -28,14 +29,13 @@ fn push_between<'a>(
     let is_end = is_end(blocks, to);
     let mut at = settled(blocks, start);
     let mut left = picks;
-    'ahead: while let Some(item) = item_ahead(blocks, at, left) {
+    'ahead: while let Some(step) = next_step(galley, at, left) {
         if is_reached(is_end, at, to) {
             return Ok(());
         }
-        items.push(item)?;
-        let here = item_place(blocks, at, left);
-        left = picks_behind(blocks, at, left);
-        at = settled(blocks, next_index_of(here));
+        items.push(step.item)?;
+        at = step.next;
+        left = step.left;
     }
     Ok(())
 }

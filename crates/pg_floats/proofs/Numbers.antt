@@ -1,7 +1,7 @@
 -- The numbers of the float classes: counted from 0 on, or taken from the classes in order.
 use Rattle.std.proofs.Common.{◌≡◌, ◌≢◌, refl, sym, ap, ◌∙◌, ℕ, zero, suc, ◌+◌, ◌<◌, ◌≤◌, List, [], ◌∷◌, map, arith}
 use Rattle.std.proofs.Common.{Bool, true, false, Some, None, ◌⊎◌, inl, inr}
-use Rattle.std.specs.Prelude.{◌==◌, if◌then◌else◌}
+use Rattle.std.specs.Prelude.{◌==◌, if◌then◌else◌, slice_get}
 use Rattle.std.specs.Option.{option_map_or}
 use Rattle.std.specs.List.{AllByRecursion, filter, range_with_len}
 use Rattle.std.proofs.lemmas.Bool.Decides.{nat_tests}
@@ -52,6 +52,21 @@ other_number class classes n e = by (class.number == n) (differ class.number n e
         (if t then Some class else class_in classes n) None) false ≡ is_float_number classes n
     by true e = absurd (cc)
     by false e = refl
+
+-- where no class is numbered up to m, no float class is
+pub above_number : (m : ℕ) (classes : List Class) (slot n : ℕ) →
+    AllByRecursion (λ (later : Class). m < later.number) classes →
+    slice_get (float_numbers_of classes) slot ≡ Some n → m < n
+above_number m [] slot n all e = absurd (cc)
+above_number m (class ∷ classes) slot n all e =
+    by (is_float_class class) slot (λ k f. above_number m classes k n all.1 f) e
+  where
+    by : (t : Bool) (slot : ℕ) → ((k : ℕ) → slice_get (float_numbers_of classes) k ≡ Some n → m < n) →
+        slice_get (map (λ (class : Class). class.number)
+        (if t then class ∷ filter is_float_class classes else filter is_float_class classes)) slot ≡ Some n → m < n
+    by true zero rest e = let same : class.number ≡ n = cc in let h = all.0 in omega (arith, h, same)
+    by true (suc slot) rest e = rest slot e
+    by false slot rest e = rest slot e
 
 -- a test from one number on
 alike_from : (p q : ℕ → Bool) (a k : ℕ) → ((n : ℕ) → a ≤ n → p n ≡ q n) →

@@ -20,7 +20,7 @@ use Rattle.pg_rules.specs.Floats.{distance_table}
 use Rattle.pg_floats.specs.declared.queue.Late.{Late}
 use Rattle.pg_floats.specs.QueueValue.{AreYoung, IsOf, IsQueue, QueueValue, none, late_in, late_by, late_of}
 use Rattle.pg_floats.specs.QueueValue.{next_table, table_in, float_count_in, with_callout, with_placed}
-use Rattle.pg_floats.proofs.Numbers.{numbers_are}
+use Rattle.pg_floats.proofs.Numbers.{above_number, numbers_are}
 use Rattle.pg_lemmas.proofs.Lists.{zeros_long}
 
 -- ---- tables
@@ -59,20 +59,6 @@ other_table class classes n e = by (class.number == n) (differ class.number n e)
         (if t then Some class else class_in classes n) None) [] ≡ table_of_number classes n
     by true e = absurd (cc)
     by false e = refl
-
-above_number : (m : ℕ) (classes : List Class) (slot n : ℕ) →
-    AllByRecursion (λ (later : Class). m < later.number) classes →
-    slice_get (float_numbers_of classes) slot ≡ Some n → m < n
-above_number m [] slot n all e = absurd (cc)
-above_number m (class ∷ classes) slot n all e =
-    by (is_float_class class) slot (λ k f. above_number m classes k n all.1 f) e
-  where
-    by : (t : Bool) (slot : ℕ) → ((k : ℕ) → slice_get (float_numbers_of classes) k ≡ Some n → m < n) →
-        slice_get (map (λ (class : Class). class.number)
-        (if t then class ∷ filter is_float_class classes else filter is_float_class classes)) slot ≡ Some n → m < n
-    by true zero rest e = let same : class.number ≡ n = cc in let h = all.0 in omega (arith, h, same)
-    by true (suc slot) rest e = rest slot e
-    by false slot rest e = rest slot e
 
 tables_from : (classes : List Class) (slot : ℕ) → AreInOrder classes →
     table_in classes slot ≡ option_map_or (table_of_number classes) (slice_get (float_numbers_of classes) slot) []

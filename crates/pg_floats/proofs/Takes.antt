@@ -1,8 +1,8 @@
 -- The slot-th float class is that of the slot-th number.
-use Rattle.std.proofs.Common.{◌≡◌, ◌≢◌, refl, sym, ap, ◌∙◌, ℕ, zero, suc, ◌-◌, ◌<◌, List, [], ◌∷◌, map, Bool, true, false, Option, Some, None, arith}
+use Rattle.std.proofs.Common.{◌≡◌, ◌≢◌, refl, sym, ap, ◌∙◌, ℕ, zero, suc, ◌-◌, List, [], ◌∷◌, map, Bool, true, false, Option, Some, None, arith}
 use Rattle.std.specs.Prelude.{◌==◌, if◌then◌else◌, slice_get}
 use Rattle.std.specs.Option.{option_map_or}
-use Rattle.std.specs.List.{AllByRecursion, filter}
+use Rattle.std.specs.List.{filter}
 use Rattle.std.proofs.lemmas.Bool.Decides.{nat_tests}
 use Rattle.pg_style.specs.Classes.{class_in, is_float_class, is_float_kind, float_numbers_of}
 use Rattle.pg_style.specs.Ranges.{AreClasses, AreInOrder}
@@ -12,7 +12,7 @@ use Rattle.pg_style.specs.declared.style.Class.{Class}
 use Rattle.pg_style.specs.declared.style.Kind.{Kind}
 use Rattle.pg_style.specs.declared.style.Kind.TheVariants.{Note, Float}
 use Rattle.pg_rules.specs.Floats.{float_kind}
-use Rattle.pg_floats.proofs.Numbers.{numbers_are}
+use Rattle.pg_floats.proofs.Numbers.{above_number, numbers_are}
 use Rattle.pg_floats.specs.Spots.{next_takes, takes_in, takes_slot}
 
 module _ (takes : Area → Bool) where
@@ -50,20 +50,6 @@ module _ (takes : Area → Bool) where
           (if t then Some class else class_in classes n) None) false ≡ takes_number classes n
       by true e = absurd (cc)
       by false e = refl
-
-  above_number : (m : ℕ) (classes : List Class) (slot n : ℕ) →
-      AllByRecursion (λ (later : Class). m < later.number) classes →
-      slice_get (float_numbers_of classes) slot ≡ Some n → m < n
-  above_number m [] slot n all e = absurd (cc)
-  above_number m (class ∷ classes) slot n all e =
-      by (is_float_class class) slot (λ k f. above_number m classes k n all.1 f) e
-    where
-      by : (t : Bool) (slot : ℕ) → ((k : ℕ) → slice_get (float_numbers_of classes) k ≡ Some n → m < n) →
-          slice_get (map (λ (class : Class). class.number)
-          (if t then class ∷ filter is_float_class classes else filter is_float_class classes)) slot ≡ Some n → m < n
-      by true zero rest e = let same : class.number ≡ n = cc in let h = all.0 in omega (arith, h, same)
-      by true (suc slot) rest e = rest slot e
-      by false slot rest e = rest slot e
 
   takes_from : (classes : List Class) (slot : ℕ) → AreInOrder classes →
       takes_in takes classes slot

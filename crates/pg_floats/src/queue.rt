@@ -1,4 +1,4 @@
-//! The floats that wait to be placed.
+//! The floats that wait to be placed. The search does not use it: its states hold the ages of what waits, class by class.
 ghost use Rattle.std.specs.Prelude.{◌≡◌, ◌↔◌, ◌<◌, ◌≤◌, ◌+◌, ◌^◌, [], None, Some, OnOk, OnErr, IfOk, IfSome, IsNone};
 ghost use Rattle.std.specs.Prelude.{MatchResult, length, sum, take, slice_get, slice_index, drop};
 ghost use Rattle.std.specs.List.{AllByRecursion};

@@ -5,7 +5,6 @@ pub mod FirstLine
 pub mod Printed
 pub mod Sums
 pub mod GapLists
-pub mod Between
 pub mod Widths
 pub mod Excess
 pub mod Rooms

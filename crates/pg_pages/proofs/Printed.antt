@@ -4,7 +4,6 @@ use Rattle.std.specs.Prelude.{◌&&◌, not, if◌then◌else◌}
 use Rattle.std.specs.List.{flat_map, prefix_len, range_with_len}
 use Rattle.std.specs.Borrow.{Bor}
 use Rattle.pg_glue.specs.declared.Sense.{Sense}
-use Rattle.pg_glue.specs.declared.Sense.TheVariants.{Stretch, Shrink}
 use Rattle.pg_list.specs.declared.item.Item.{Item}
 use Rattle.pg_list.specs.declared.item.Item.TheVariants.{BoxItem, Rule, Glue, Kern, Penalty, Insert, Carry}
 use Rattle.pg_list.specs.Shapes.{is_box, is_discardable}
@@ -88,20 +87,13 @@ inserted_append number xs ys = filter_map-append (inserted_body number) xs ys
 
 pub elastics_few : (sense : Sense) (items : List Item) → length (flat_map (elastic sense) items) ≤ length items
 elastics_few sense [] = omega arith
-elastics_few Stretch (Glue width stretch order shrink body ∷ items) = let k = elastics_few Stretch items in omega (arith, k)
-elastics_few Shrink (Glue width stretch order shrink body ∷ items) = let k = elastics_few Shrink items in omega (arith, k)
-elastics_few Stretch (BoxItem height depth body ∷ items) = let k = elastics_few Stretch items in omega (arith, k)
-elastics_few Shrink (BoxItem height depth body ∷ items) = let k = elastics_few Shrink items in omega (arith, k)
-elastics_few Stretch (Rule height depth body ∷ items) = let k = elastics_few Stretch items in omega (arith, k)
-elastics_few Shrink (Rule height depth body ∷ items) = let k = elastics_few Shrink items in omega (arith, k)
-elastics_few Stretch (Kern width body ∷ items) = let k = elastics_few Stretch items in omega (arith, k)
-elastics_few Shrink (Kern width body ∷ items) = let k = elastics_few Shrink items in omega (arith, k)
-elastics_few Stretch (Penalty value body ∷ items) = let k = elastics_few Stretch items in omega (arith, k)
-elastics_few Shrink (Penalty value body ∷ items) = let k = elastics_few Shrink items in omega (arith, k)
-elastics_few Stretch (Insert class size body ∷ items) = let k = elastics_few Stretch items in omega (arith, k)
-elastics_few Shrink (Insert class size body ∷ items) = let k = elastics_few Shrink items in omega (arith, k)
-elastics_few Stretch (Carry body ∷ items) = let k = elastics_few Stretch items in omega (arith, k)
-elastics_few Shrink (Carry body ∷ items) = let k = elastics_few Shrink items in omega (arith, k)
+elastics_few sense (Glue width stretch order shrink body ∷ items) = let k = elastics_few sense items in omega (arith, k)
+elastics_few sense (BoxItem height depth body ∷ items) = let k = elastics_few sense items in omega (arith, k)
+elastics_few sense (Rule height depth body ∷ items) = let k = elastics_few sense items in omega (arith, k)
+elastics_few sense (Kern width body ∷ items) = let k = elastics_few sense items in omega (arith, k)
+elastics_few sense (Penalty value body ∷ items) = let k = elastics_few sense items in omega (arith, k)
+elastics_few sense (Insert class size body ∷ items) = let k = elastics_few sense items in omega (arith, k)
+elastics_few sense (Carry body ∷ items) = let k = elastics_few sense items in omega (arith, k)
 
 -- ---- the front
 

@@ -118,13 +118,20 @@ module _ (it : ColumnContext) (style : IsStyle it.document.style) (may : MayPrin
       it.document.style.float_column.count (before_bottom it) it.column.bottom style.bottom_in.count_in
       style.float_column_in.count_in allowed_are.1
 
-  pub top_give_is : (part : Gap → ℤ) → checked_give part (floats it.document.blocks it.document.style) true
-      it.document.style.top it.before it.column.top ≡ top_give part it
+  -- what an area's gaps give where its counts are allowed
+  abbrev top_part : (Gap → ℤ) → ℤ
+  top_part part =
+      checked_give part (floats it.document.blocks it.document.style) true it.document.style.top it.before it.column.top
+
+  abbrev bottom_part : (Gap → ℤ) → List ℕ → ℤ
+  bottom_part part below = checked_give part (floats it.document.blocks it.document.style) true it.document.style.bottom
+      below it.column.bottom
+
+  pub top_give_is : (part : Gap → ℤ) → top_part part ≡ top_give part it
   top_give_is part = checked (is_top_allowed it)
       (has_all (floats it.document.blocks it.document.style) it.before it.column.top) _ allowed_are.0
 
-  pub bottom_give_is : (part : Gap → ℤ) → checked_give part (floats it.document.blocks it.document.style) true
-      it.document.style.bottom (before_bottom it) it.column.bottom ≡ bottom_give part it
+  pub bottom_give_is : (part : Gap → ℤ) → bottom_part part (before_bottom it) ≡ bottom_give part it
   bottom_give_is part = checked (is_bottom_allowed it)
       (has_all (floats it.document.blocks it.document.style) (before_bottom it) it.column.bottom) _ allowed_are.1
 
@@ -134,6 +141,17 @@ module _ (it : ColumnContext) (style : IsStyle it.document.style) (may : MayPrin
     pub top_shrink : t.shrink ≡ top_give gap_shrink it
     pub bottom_stretch : b.stretch ≡ bottom_give gap_stretch it
     pub bottom_shrink : b.shrink ≡ bottom_give gap_shrink it
+
+  -- from what each area gives by itself
+  pub given_from : (below : List ℕ) (t b : Give) → below ≡ before_bottom it → t.stretch ≡ top_part gap_stretch →
+      t.shrink ≡ top_part gap_shrink → b.stretch ≡ bottom_part gap_stretch below →
+      b.shrink ≡ bottom_part gap_shrink below → AreGiven t b
+  given_from below t b is longer shorter lower_longer lower_shorter = record {
+    top_stretch = longer ∙ top_give_is gap_stretch;
+    top_shrink = shorter ∙ top_give_is gap_shrink;
+    bottom_stretch = lower_longer ∙ (ap (bottom_part gap_stretch) is ∙ bottom_give_is gap_stretch);
+    bottom_shrink = lower_shorter ∙ (ap (bottom_part gap_shrink) is ∙ bottom_give_is gap_shrink);
+  }
 
   pub given_is : (t b : Give) → AreGiven t b → plus_give t b ≡ (text_room it).give
   given_is t b are = same _ _ _ _ (sum are.top_stretch are.bottom_stretch) (sum are.top_shrink are.bottom_shrink)

@@ -30,18 +30,12 @@ elastics_are Stretch (Glue width stretch order shrink body ∷ items) all =
     ((all.0.0, all.0.1), elastics_are Stretch items all.1)
 elastics_are Shrink (Glue width stretch order shrink body ∷ items) all =
     ((all.0.0, all.0.2), elastics_are Shrink items all.1)
-elastics_are Stretch (BoxItem height depth body ∷ items) all = elastics_are Stretch items all.1
-elastics_are Stretch (Rule height depth body ∷ items) all = elastics_are Stretch items all.1
-elastics_are Stretch (Kern width body ∷ items) all = elastics_are Stretch items all.1
-elastics_are Stretch (Penalty value body ∷ items) all = elastics_are Stretch items all.1
-elastics_are Stretch (Insert class size body ∷ items) all = elastics_are Stretch items all.1
-elastics_are Stretch (Carry body ∷ items) all = elastics_are Stretch items all.1
-elastics_are Shrink (BoxItem height depth body ∷ items) all = elastics_are Shrink items all.1
-elastics_are Shrink (Rule height depth body ∷ items) all = elastics_are Shrink items all.1
-elastics_are Shrink (Kern width body ∷ items) all = elastics_are Shrink items all.1
-elastics_are Shrink (Penalty value body ∷ items) all = elastics_are Shrink items all.1
-elastics_are Shrink (Insert class size body ∷ items) all = elastics_are Shrink items all.1
-elastics_are Shrink (Carry body ∷ items) all = elastics_are Shrink items all.1
+elastics_are sense (BoxItem height depth body ∷ items) all = elastics_are sense items all.1
+elastics_are sense (Rule height depth body ∷ items) all = elastics_are sense items all.1
+elastics_are sense (Kern width body ∷ items) all = elastics_are sense items all.1
+elastics_are sense (Penalty value body ∷ items) all = elastics_are sense items all.1
+elastics_are sense (Insert class size body ∷ items) all = elastics_are sense items all.1
+elastics_are sense (Carry body ∷ items) all = elastics_are sense items all.1
 
 gaps_are : (sense : Sense) (gaps : List Gap) → AllByRecursion IsGap gaps →
     AllByRecursion IsEntry (map (gap_elastic sense) gaps)

@@ -1,14 +1,12 @@
 -- How the printer goes along items, floats, columns and pages. It is proved to print the page text; nobody need believe
 -- what stands here.
-use Rattle.std.specs.Prelude.{◌≡◌, ◌<◌, ◌+◌, codes, decimal, ℕ, Bool, not, if◌then◌else◌, List, [], ◌∷◌, ◌++◌, length, map, drop, Some, Vec, ℤ, ◌^◌}
+use Rattle.std.specs.Prelude.{◌<◌, ◌+◌, codes, decimal, ℕ, Bool, not, if◌then◌else◌, List, [], ◌∷◌, ◌++◌, length, map, drop, Vec, ℤ, ◌^◌}
 use Rattle.std.specs.Borrow.{Bor}
 use Rattle.std.specs.declared.alloc.Global.{Global}
 use Rattle.std.specs.List.{flat_map, take_while}
 use Rattle.pg_list.specs.declared.item.Item.{Item}
 use Rattle.pg_list.specs.declared.item.Item.TheVariants.{Glue}
 use Rattle.pg_list.specs.declared.blocks.Block.{Block}
-use Rattle.pg_list.specs.declared.galley.Place.{Place}
-use Rattle.pg_list.specs.Places.{item_at}
 use Rattle.pg_list.specs.Shapes.{is_box}
 use Rattle.pg_style.specs.Classes.{is_float_class}
 use Rattle.pg_style.specs.declared.style.Class.{Class}
@@ -24,17 +22,7 @@ use Rattle.pg_pages.specs.Gaps.{hung_gaps, hung_text, note_gaps, set_gap, shows_
 use Rattle.pg_words.specs.Written.{line, whole_text}
 use Rattle.pg_scaled.specs.Scaled.{scaled_text}
 use Rattle.pg_pages.specs.SetGlue.{own_sizes, own_width, widths_by}
-use Rattle.pg_column.specs.Ahead.{item_place, next_index, picks_behind, settled}
 use Rattle.pg_column.specs.Between.{behind}
-
--- ---- items
-
--- the step over the next item: the item, the place behind it, and the picks left there
-pub record IsStep (blocks : List Block) (at : Place) (left : List ℕ) (item : Item) (next : Place) (behind : List ℕ) :
-    Type 0 where
-  pub item_is : item_at blocks (item_place blocks at left) ≡ Some item
-  pub next_is : next ≡ settled blocks (next_index (item_place blocks at left))
-  pub left_is : behind ≡ picks_behind blocks at left
 
 -- ---- the text area
 

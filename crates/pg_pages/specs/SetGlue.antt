@@ -9,32 +9,21 @@ use Rattle.pg_list.specs.Break.{is_spent}
 use Rattle.pg_glue.specs.declared.Elastic.{Elastic}
 use Rattle.pg_glue.specs.declared.Sense.{Sense}
 use Rattle.pg_glue.specs.declared.Sense.TheVariants.{Stretch, Shrink}
-use Rattle.pg_glue.specs.Widths.{set_widths}
+use Rattle.pg_glue.specs.Widths.{elastic_of, set_widths}
 use Rattle.pg_style.specs.Values.{StyleValue}
 use Rattle.pg_style.specs.declared.style.Gap.{Gap}
 use Rattle.pg_rules.specs.Room.{ColumnContext, items_of}
 use Rattle.pg_rules.specs.ColumnRules.{segment, text_total, text_goal}
 use Rattle.pg_pages.specs.Gaps.{bottom_gaps, gaps_above, note_gaps}
 
-abbrev pub stretching : Item → List Elastic
-stretching (Glue width stretch order shrink body) =
-    record { width = width; order = order; amount = stretch } ∷ []
-stretching _ = []
-
-abbrev pub shrinking : Item → List Elastic
-shrinking (Glue width stretch order shrink body) =
-    record { width = width; order = Finite; amount = shrink } ∷ []
-shrinking _ = []
-
 -- the glue of an item, as it grows or gives way
 abbrev pub elastic : Sense → Item → List Elastic
-elastic Stretch item = stretching item
-elastic Shrink item = shrinking item
+elastic sense (Glue width stretch order shrink body) = elastic_of sense width stretch order shrink ∷ []
+elastic sense _ = []
 
 -- the same of a gap
 abbrev pub gap_elastic : Sense → Gap → Elastic
-gap_elastic Stretch gap = record { width = gap.size; order = Finite; amount = gap.stretch }
-gap_elastic Shrink gap = record { width = gap.size; order = Finite; amount = gap.shrink }
+gap_elastic sense gap = elastic_of sense gap.size gap.stretch Finite gap.shrink
 
 abbrev pub own_width : Item → List ℤ
 own_width (Glue width stretch order shrink body) = width ∷ []

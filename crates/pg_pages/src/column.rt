@@ -31,11 +31,11 @@ use crate::matter::Matter;
 use crate::number_line::print_numbers;
 use crate::parts::{end_line, print_bytes};
 use crate::seats::{Seat, added, room_of};
-use crate::segment::{items_between, trimmed};
+use crate::segment::trimmed;
 use crate::text::print_items_set;
 use pg_breaks::is_spent;
-use pg_column::{TextCost, blocks_of, is_same_place};
-use pg_list::{Galley, Item};
+use pg_column::{TextCost, blocks_of, is_same_place, push_between};
+use pg_list::{Galley, Item, Place};
 use pg_plan::Column;
 use pg_style::{AreaRule, Gap, Style};
 use std::alloc::{AllocError, Global};
@@ -193,6 +193,15 @@ fn print_text_area(
     print_items_set(style.topskip, items, widths, out)
 }
 
+// How many blocks begin from a place on, before another; each has an item.
+fn blocks_between(start: Place, to: Place) -> usize {
+    if start.block < to.block {
+        (to.block - start.block) as usize
+    } else {
+        0
+    }
+}
+
 // The items of a column's text, those before its first box or rule included.
 fn text_between<'a>(
     alloc: Global,
@@ -204,13 +213,15 @@ fn text_between<'a>(
         ≡ items_to (is_same_place column.now.to (end_of galley.now.blocks)) column.now.to
         (flat_items_at galley.now.blocks column.now.from column.now.picks)) }
 {
-    items_between(
-        alloc,
+    let mut items = Vec::with_capacity(alloc, blocks_between(column.from, column.to))?;
+    push_between(
         galley,
         column.from,
         column.picks.as_slice(),
         column.to,
-    )
+        &mut items,
+    )?;
+    Ok(items)
 }
 
 // The bodies of the floats, and how many are placed before the top area and before the bottom area of a column.

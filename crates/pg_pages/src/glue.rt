@@ -24,18 +24,7 @@ fn push_elastic(sense: Sense, item: &Item, list: &mut Vec<Elastic>) -> Result<()
         ..
     } = item
     {
-        list.push(match sense {
-            Sense::Stretch => Elastic {
-                width: *width,
-                order: *order,
-                amount: *stretch,
-            },
-            Sense::Shrink => Elastic {
-                width: *width,
-                order: Order::Finite,
-                amount: *shrink,
-            },
-        })?;
+        list.push(Elastic::of(sense, *width, *stretch, *order, *shrink))?;
     }
     Ok(())
 }
@@ -44,14 +33,7 @@ fn push_elastic(sense: Sense, item: &Item, list: &mut Vec<Elastic>) -> Result<()
 fn gap_elastic(sense: Sense, gap: &Gap) -> Elastic
     ensures { result ≡ gap_elastic_of sense gap.now }
 {
-    Elastic {
-        width: gap.size,
-        order: Order::Finite,
-        amount: match sense {
-            Sense::Stretch => gap.stretch,
-            Sense::Shrink => gap.shrink,
-        },
-    }
+    Elastic::of(sense, gap.size, gap.stretch, Order::Finite, gap.shrink)
 }
 
 // Adds gaps.
