@@ -1,12 +1,15 @@
 -- What no room changes of candidates that are each the only one of their place, one after another.
 use Rattle.std.proofs.Common.{◌≡◌, refl, sym, ap, ◌∙◌, subst, ℕ, zero, suc, ◌+◌, List, [], ◌∷◌, ◌++◌, append-nil, length, drop, arith, Some, ℤ}
 use Rattle.std.specs.Prelude.{slice_get}
+use Rattle.std.specs.List.{AllByRecursion}
 use Rattle.std.proofs.lemmas.List.{append_assoc}
+use Rattle.pg_lemmas.proofs.Lists.{get_all}
 use Rattle.pg_rules.specs.Room.{Document}
 use Rattle.law_walk.specs.Candidates.{Candidate}
 use Rattle.pg_candidates.specs.Alone.{AreNearAlone, IsNearAlone}
-use Rattle.pg_candidates.specs.Nears.{AreNear, NearValue}
+use Rattle.pg_candidates.specs.Nears.{AreNear, ArePicks, NearValue}
 use Rattle.pg_candidates.specs.Seen.{AreServedBefore}
+use Rattle.pg_candidates.specs.Taken.{IsPlain}
 use Rattle.pg_candidates.proofs.Needed.{near_all, none_served, served_next}
 
 -- the first of what is left stands at the index, and the others are left behind it
@@ -19,6 +22,10 @@ cut_at (suc n) (x ∷ xs) y ys e =
     let q : suc n + 1 ≡ suc (n + 1) = omega arith in
     let there = cut_at n xs y ys e in
     (there.0, ap (λ (k : ℕ). drop k (x ∷ xs)) q ∙ there.1)
+
+-- candidates without picks
+no_picks : (cs : List Candidate) → AllByRecursion IsPlain cs → ArePicks cs []
+no_picks cs plain = λ i c e. sym (get_all IsPlain cs i c plain e).0
 
 module _ (doc : Document) (most : ℤ) where
   -- one for each
@@ -60,11 +67,12 @@ module _ (doc : Document) (most : ℤ) where
       (served_on all (n + 1) cs (olds ++ near ∷ []) nears there.1
       (served_next doc most all n olds served near are.0.at c there.0 are.0.near are.0.until) are.1))
 
-  -- so these are what no room changes of the candidates
-  pub near_alone : (cs : List Candidate) (nears : List NearValue) → AreNearAlone doc most 0 cs nears →
-      AreNear doc most cs (record { candidates = cs; nears = nears })
-  near_alone cs nears are =
+  -- so these are what no room changes of the candidates, where none has picks
+  pub near_alone : (cs : List Candidate) (ps : List (List ℕ)) (nears : List NearValue) → ps ≡ [] →
+      AllByRecursion IsPlain cs → AreNearAlone doc most 0 cs nears →
+      AreNear doc most cs (record { picks = ps; nears = nears })
+  near_alone cs ps nears none plain are =
       let q : 0 + length cs ≡ length cs = omega arith in
       let served = subst (λ (k : ℕ). AreServedBefore doc most cs k nears) q
       (served_on cs 0 cs [] nears refl (none_served doc most cs) are) in
-      near_all doc most cs served.seen nears served.all served.are
+      near_all doc most cs ps served.seen nears (subst (ArePicks cs) (sym none) (no_picks cs plain)) served.all served.are

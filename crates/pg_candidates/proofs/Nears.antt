@@ -1,5 +1,5 @@
 -- A candidate's end in a room.
-use Rattle.std.proofs.Common.{◌≡◌, refl, sym, ap, ◌∙◌, subst, ℤ, List, [], ◌∷◌, ◌++◌, append-nil, arith, Bool, false, true, ◌-ℤ◌}
+use Rattle.std.proofs.Common.{◌≡◌, refl, sym, ap, ◌∙◌, subst, ℕ, ℤ, List, [], ◌∷◌, ◌++◌, append-nil, arith, Bool, false, true, ◌-ℤ◌}
 use Rattle.std.specs.Prelude.{◌&&◌, ◌||◌, not, int_le, int_lt, nat_le}
 use Rattle.std.specs.List.{AllByRecursion}
 use Rattle.std.proofs.lemmas.Int.{ints}
@@ -60,12 +60,12 @@ module _ (doc : Document) (most : ℤ) (room : TextRoom) (it : Candidate) (near 
       (fits it.passed.bound (most_room room)) (is.least room ∙ not_below (most_room room) near.least high)
       ∙ sym tolerable_is
 
-  pub end_is : (ds : List Candidate) → picks_at ds near.at ≡ it.picks → end_of ds (end_by near cost) ≡ end_in doc room it
-  end_is ds there = end_same near.to it.to (picks_at ds near.at) it.picks cost (cost_in doc room it) near.pick_demerits
+  pub end_is : (ps : List (List ℕ)) → picks_at ps near.at ≡ it.picks → end_of ps (end_by near cost) ≡ end_in doc room it
+  end_is ps there = end_same near.to it.to (picks_at ps near.at) it.picks cost (cost_in doc room it) near.pick_demerits
       it.pick_demerits is.to there cost_is is.pick_demerits
 
   -- the best with this candidate's end
-  module _ (cs ds : List Candidate) (there : picks_at ds near.at ≡ it.picks) (bs : List End)
+  module _ (cs : List Candidate) (ps : List (List ℕ)) (there : picks_at ps near.at ≡ it.picks) (bs : List End)
       (best : AreBest (text_ends doc room cs) bs) (high : int_lt (most_room room) near.least ≡ false) where
     pub best_refused : (near.kind.is_forced || nat_le cost.badness doc.style.tolerance) ≡ false →
         AreBest (text_ends doc room (cs ++ it ∷ [])) bs
@@ -73,10 +73,10 @@ module _ (doc : Document) (most : ℤ) (room : TextRoom) (it : Candidate) (near 
         (if_false (keeps_text doc room it) _ _ (keeps_is high ∙ off)) (keep_more doc room cs it bs best)
 
     pub best_kept : (near.kind.is_forced || nat_le cost.badness doc.style.tolerance) ≡ true → (new : List End) →
-        new ≡ insert_end (end_of ds (end_by near cost)) bs → AreBest (text_ends doc room (cs ++ it ∷ [])) new
+        new ≡ insert_end (end_of ps (end_by near cost)) bs → AreBest (text_ends doc room (cs ++ it ∷ [])) new
     best_kept on new e = subst (AreBest (text_ends doc room (cs ++ it ∷ [])))
         (if_true (keeps_text doc room it) _ _ (keeps_is high ∙ on)
-        ∙ (ap (λ (x : End). insert_end x bs) (sym (end_is ds there)) ∙ sym e)) (keep_more doc room cs it bs best)
+        ∙ (ap (λ (x : End). insert_end x bs) (sym (end_is ps there)) ∙ sym e)) (keep_more doc room cs it bs best)
 
 -- ---- one turn of the loop
 
@@ -107,12 +107,10 @@ best_same doc room cs bs best =
     subst (λ (xs : List Candidate). AreBest (text_ends doc room xs) bs) (sym (append-nil cs)) best
 
 -- of the whole list
-pub best_of_all : (doc : Document) (most : ℤ) (room : TextRoom) (cs ds : List Candidate) → ds ≡ cs →
-    (nears whole : List NearValue) → whole ≡ nears → (bs : List End) →
-    (AllByRecursion (IsNearIn doc most ds) whole → AreBest (text_ends doc room (needed_in room.size ds whole)) bs) →
+pub best_of_all : (doc : Document) (most : ℤ) (room : TextRoom) (cs : List Candidate) (nears whole : List NearValue) →
+    whole ≡ nears → (bs : List End) →
+    (AllByRecursion (IsNearIn doc most cs) whole → AreBest (text_ends doc room (needed_in room.size cs whole)) bs) →
     AllByRecursion (IsNearIn doc most cs) nears → AreBest (text_ends doc room (needed_in room.size cs nears)) bs
-best_of_all doc most room cs ds same nears whole all bs h =
-    subst (λ (xs : List Candidate). AllByRecursion (IsNearIn doc most xs) nears →
-    AreBest (text_ends doc room (needed_in room.size xs nears)) bs) same
-    (subst (λ (ns : List NearValue). AllByRecursion (IsNearIn doc most ds) ns →
-    AreBest (text_ends doc room (needed_in room.size ds ns)) bs) all h)
+best_of_all doc most room cs nears whole all bs h =
+    subst (λ (ns : List NearValue). AllByRecursion (IsNearIn doc most cs) ns →
+    AreBest (text_ends doc room (needed_in room.size cs ns)) bs) all h

@@ -1,6 +1,6 @@
 -- The candidates that are needed in a room suffice there.
 use Rattle.std.proofs.Common.{◌≡◌, refl, sym, ap, ◌∙◌, subst, ℕ, zero, suc, ◌+◌, ◌≤◌, ◌<◌, ◌⊎◌, inl, inr, List, [], ◌∷◌, ◌++◌, append-nil, length, map, take, arith, Bool, true, false, Option, Some, None, IfSome, ℤ, ◌≤ℤ◌}
-use Rattle.std.specs.Prelude.{if◌then◌else◌, get_or, nat_lt, option_map, slice_get}
+use Rattle.std.specs.Prelude.{if◌then◌else◌, get_or, nat_lt, option_map, slice_get, unwrap_or}
 use Rattle.std.specs.Ordering.{ordering_reverse}
 use Rattle.std.specs.declared.cmp.Ordering.TheVariants.{Equal}
 use Rattle.std.proofs.lemmas.Cmp.{tied_itself}
@@ -20,7 +20,7 @@ use Rattle.law_walk.proofs.BestLaws.{among_contains, contains_among, end_total, 
 use Rattle.law_walk.proofs.Complete.{among_left, among_right}
 use Rattle.law_walk.proofs.Ends.{kept_listed, kept_of}
 use Rattle.pg_column.specs.declared.cost.TextRoom.{TextRoom}
-use Rattle.pg_candidates.specs.Nears.{IsWithin, AreNear, IsHopelessFrom, IsNear, IsNearIn, IsServedFrom, IsWorst, NearValue, NearsValue, Suffice, is_needed, kind_at, needed_in, needed_of, one_at}
+use Rattle.pg_candidates.specs.Nears.{IsWithin, AreNear, ArePicks, all_picks, IsHopelessFrom, IsNear, IsNearIn, IsServedFrom, IsWorst, NearValue, NearsValue, Suffice, is_needed, kind_at, needed_in, needed_of, one_at}
 use Rattle.pg_candidates.specs.Seen.{AreSeen, AreServed, AreServedBefore, HasServer, IsLeading}
 use Rattle.pg_candidates.specs.View.{candidate_of}
 use Rattle.pg_candidates.specs.declared.candidate.Candidate.{Candidate as CandidateParts}
@@ -62,12 +62,6 @@ found_at ps i x less is =
     slice_get-map candidate_of ps i
     ∙ ap (option_map candidate_of) (slice_get_read ps (length ps) i x refl within is)
 
-pub some_at : (ps : List CandidateParts) (i : ℕ) → i < length ps →
-    (c : Candidate) × (slice_get (map candidate_of ps) i ≡ Some c)
-some_at [] i l = absurd (omega (arith, l))
-some_at (p ∷ ps) zero l = (candidate_of p, refl)
-some_at (p ∷ ps) (suc i) l = some_at ps i (omega (arith, l))
-
 pub missing_at : (ps : List CandidateParts) (i : ℕ) → length ps ≤ i → slice_get (map candidate_of ps) i ≡ None
 missing_at ps i le = slice_get-map candidate_of ps i ∙ ap (option_map candidate_of) (slice_get_past ps i le)
 
@@ -76,12 +70,6 @@ missing_at ps i le = slice_get-map candidate_of ps i ∙ ap (option_map candidat
 pub not_in_room : (room : ℤ) (cs : List Candidate) (near : NearValue) → is_needed room near.until ≡ false →
     needed_of room cs near ≡ []
 not_in_room room cs near e = if_false (is_needed room near.until) (one_at (slice_get cs near.at)) [] e
-
-pub not_in_list : (room : ℤ) (cs : List Candidate) (near : NearValue) → slice_get cs near.at ≡ None →
-    needed_of room cs near ≡ []
-not_in_list room cs near e =
-    ap (λ (o : Option Candidate). if is_needed room near.until then one_at o else []) e
-    ∙ either_way (is_needed room near.until) []
 
 pub in_room : (room : ℤ) (cs : List Candidate) (near : NearValue) (c : Candidate) →
     is_needed room near.until ≡ true → slice_get cs near.at ≡ Some c → needed_of room cs near ≡ c ∷ []
@@ -169,9 +157,11 @@ module _ (doc : Document) (most : ℤ) (cs : List Candidate) (seen : List ℕ) (
         is_needed room.size near.until ≡ false → HasServer doc room (needed_in room.size cs nears) c) →
         AreServed doc most cs (seen ++ at ∷ []) (nears ++ near ∷ [])
     served_one other = record {
-      right = all_push (IsNearIn doc most cs) nears near are.right
-          (λ d e. subst (λ (x : Candidate). IsNear doc most x near)
-          (same_Some c d (sym there ∙ (ap (slice_get cs) (sym at_is) ∙ e))) is);
+      right = all_push (IsNearIn doc most cs) nears near are.right (record {
+        candidate = c;
+        there = ap (slice_get cs) at_is ∙ there;
+        is = is;
+      });
       served = λ i d room gives a here keeps. elim (last_or seen at i a) [
         | inl p ↦ longer room d (are.served i d room gives p here keeps)
         | inr p ↦
@@ -269,11 +259,11 @@ none_seen doc most cs = record {
   leading = tt;
 }
 
-pub near_all : (doc : Document) (most : ℤ) (cs : List Candidate) (order : List ℕ) (nears : List NearValue) →
-    ((i : ℕ) → i < length cs → IsAmong i order) → AreServed doc most cs order nears →
-    AreNear doc most cs (record { candidates = cs; nears = nears })
-near_all doc most cs order nears all are = record {
-  same = refl;
+pub near_all : (doc : Document) (most : ℤ) (cs : List Candidate) (ps : List (List ℕ)) (order : List ℕ)
+    (nears : List NearValue) → ArePicks cs ps → ((i : ℕ) → i < length cs → IsAmong i order) →
+    AreServed doc most cs order nears → AreNear doc most cs (record { picks = ps; nears = nears })
+near_all doc most cs ps order nears listed all are = record {
+  picks = listed;
   right = are.right;
   suffice = λ room gives. record {
     among = λ x a.
@@ -301,14 +291,11 @@ near_all doc most cs order nears all are = record {
 -- the best of those that are needed are the best of all
 pub best_of_near : (doc : Document) (most : ℤ) (room : TextRoom) (cs : List Candidate) (it : NearsValue) (bs : List End) →
     AreNear doc most cs it → IsWithin most room →
-    (AllByRecursion (IsNearIn doc most it.candidates) it.nears →
-    AreBest (text_ends doc room (needed_in room.size it.candidates it.nears)) bs) →
-    AreBest (text_ends doc room cs) bs
+    (ArePicks cs it.picks → AllByRecursion (IsNearIn doc most cs) it.nears →
+    AreBest (text_ends doc room (needed_in room.size cs it.nears)) bs) → AreBest (text_ends doc room cs) bs
 best_of_near doc most room cs it bs near within best =
     best_of_some (text_ends doc room cs) (text_ends doc room (needed_in room.size cs it.nears)) bs
-    (near.suffice room within)
-    (subst (λ (ds : List Candidate). AllByRecursion (IsNearIn doc most ds) it.nears →
-    AreBest (text_ends doc room (needed_in room.size ds it.nears)) bs) near.same best near.right)
+    (near.suffice room within) (best near.picks near.right)
 
 -- one after another, as they stand
 pub none_served : (doc : Document) (most : ℤ) (cs : List Candidate) → AreServedBefore doc most cs 0 []
@@ -343,12 +330,20 @@ module _ (doc : Document) (most : ℤ) (cs : List Candidate) (n : ℕ) (nears : 
       refl tt is until in
       record { seen = h.seen ++ n ∷ []; all = seen_up_to h.seen n h.all; are = seen.served }
 
+-- the picks of candidates, one after another
+are_picks : (cs : List Candidate) → ArePicks cs (all_picks cs)
+are_picks cs i c e =
+    ap (λ (o : Option (List ℕ)). unwrap_or o []) (slice_get-map (λ (d : Candidate). d.picks) cs i)
+    ∙ ap (λ (o : Option Candidate). unwrap_or (option_map (λ (d : Candidate). d.picks) o) []) e
+
 -- made of a slice that holds these
-pub near_made : (doc : Document) (most : ℤ) (cs : List Candidate) (ps : List CandidateParts) (nears : List NearValue) →
-    map candidate_of ps ≡ cs → AreServedBefore doc most (map candidate_of ps) (length ps) nears →
-    AreNear doc most cs (record { candidates = cs; nears = nears })
-near_made doc most cs ps nears p h =
-    near_all doc most cs h.seen nears
+pub near_made : (doc : Document) (most : ℤ) (cs : List Candidate) (ps : List CandidateParts) (nears : List NearValue)
+    (listed : List (List ℕ)) → map candidate_of ps ≡ cs → listed ≡ all_picks cs →
+    AreServedBefore doc most (map candidate_of ps) (length ps) nears →
+    AreNear doc most cs (record { picks = listed; nears = nears })
+near_made doc most cs ps nears listed p all h =
+    near_all doc most cs listed h.seen nears
+    (subst (ArePicks cs) (sym all) (are_picks cs))
     (λ i less. h.all i (subst (λ (n : ℕ). i < n) (sym (ap length p) ∙ length-map ps candidate_of) less))
     (subst (λ (xs : List Candidate). AreServed doc most xs h.seen nears) p h.are)
 

@@ -83,13 +83,14 @@ best_too_low doc room cs c least bs low is best = subst (AreBest (text_ends doc 
 pub best_below : (doc : Document) (most : ℤ) (room : TextRoom) (cs ds : List Candidate) (near : NearValue)
     (bs : List End) → most_room room <ℤ near.least → IsNearIn doc most ds near → AreBest (text_ends doc room cs) bs →
     AreBest (text_ends doc room (cs ++ needed_of room.size ds near)) bs
-best_below doc most room cs ds near bs low is best = by (is_needed room.size near.until) (slice_get ds near.at) refl
+best_below doc most room cs ds near bs low is best =
+    subst (λ (o : Option Candidate).
+    AreBest (text_ends doc room (cs ++ (if is_needed room.size near.until then one_at o else []))) bs) (sym is.there)
+    (by (is_needed room.size near.until))
   where
-    by : (b : Bool) (o : Option Candidate) → slice_get ds near.at ≡ o →
-        AreBest (text_ends doc room (cs ++ (if b then one_at o else []))) bs
-    by false o e = best_same doc room cs bs best
-    by true None e = best_same doc room cs bs best
-    by true (Some c) e = best_too_low doc room cs c near.least bs low (is c e).least best
+    by : (b : Bool) → AreBest (text_ends doc room (cs ++ (if b then is.candidate ∷ [] else []))) bs
+    by false = best_same doc room cs bs best
+    by true = best_too_low doc room cs is.candidate near.least bs low is.is.least best
 
 -- ---- a room below the least one of a text
 

@@ -1,6 +1,6 @@
 -- Candidates along a stretch, each with what no room changes of it, as a walk hands them on.
 use Rattle.std.specs.Prelude.{◌≡◌, ◌+◌, ℕ, List, [], ◌∷◌, ◌++◌, IfSome, ℤ}
-use Rattle.std.proofs.Common.{refl, sym, ap, ◌∙◌, append-nil}
+use Rattle.std.proofs.Common.{refl, sym, subst, ◌∙◌, append-nil}
 use Rattle.std.proofs.lemmas.List.{append_assoc}
 use Rattle.pg_rules.specs.Legal.{document}
 use Rattle.pg_rules.specs.Room.{Document}
@@ -23,23 +23,21 @@ AreNearAlone doc most n (c ∷ cs) [] = ⊥
 AreNearAlone doc most n (c ∷ cs) (near ∷ nears) =
     IsNearAlone doc most n c near × AreNearAlone doc most (n + 1) cs nears
 
--- that is so of all that were taken, under a style
-abbrev pub AreTaken : StyleValue → AllRooms → Type 0
-AreTaken style it = AreNearAlone (document it.galley.now style) it.most.stretch 0 it.candidates it.nears.items
+-- that is so of these candidates, taken under a style
+abbrev pub AreTaken : StyleValue → List Candidate → AllRooms → Type 0
+AreTaken style cs it = AreNearAlone (document it.galley.now style) it.most.stretch 0 cs it.nears.items
 
--- with more candidates for the same rooms
+-- for the same rooms, and where those before were taken of some candidates, these are of them and more
 pub record TookAlone (style : StyleValue) (old new : AllRooms) (more : List Candidate) : Type 0 where
   pub galley : new.galley.now ≡ old.galley.now
   pub most : new.most ≡ old.most
-  pub candidates : new.candidates ≡ old.candidates ++ more
-  pub taken : AreTaken style old → AreTaken style new
+  pub taken : (cs : List Candidate) → AreTaken style cs old → AreTaken style (cs ++ more) new
 
 pub none_alone : (style : StyleValue) (a : AllRooms) → TookAlone style a a []
 none_alone style a = record {
   galley = refl;
   most = refl;
-  candidates = sym (append-nil a.candidates);
-  taken = λ taken. taken;
+  taken = λ cs taken. subst (λ (xs : List Candidate). AreTaken style xs a) (sym (append-nil cs)) taken;
 }
 
 pub both_alone : (style : StyleValue) (a b c : AllRooms) (xs ys : List Candidate) → TookAlone style a b xs →
@@ -47,7 +45,6 @@ pub both_alone : (style : StyleValue) (a b c : AllRooms) (xs ys : List Candidate
 both_alone style a b c xs ys p q = record {
   galley = q.galley ∙ p.galley;
   most = q.most ∙ p.most;
-  candidates = q.candidates
-      ∙ (ap (λ (zs : List Candidate). zs ++ ys) p.candidates ∙ append_assoc a.candidates xs ys);
-  taken = λ taken. q.taken (p.taken taken);
+  taken = λ cs taken.
+      subst (λ (zs : List Candidate). AreTaken style zs c) (append_assoc cs xs ys) (q.taken (cs ++ xs) (p.taken cs taken));
 }

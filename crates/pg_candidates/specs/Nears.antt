@@ -1,5 +1,5 @@
 -- What is worked out once of candidates for several rooms.
-use Rattle.std.specs.Prelude.{◌≡◌, ◌<◌, ◌^◌, ◌≤◌, ◌≤ℤ◌, ◌<ℤ◌, ◌+ℤ◌, ◌-ℤ◌, ◌&&◌, ℕ, Bool, true, false, if◌then◌else◌, not, List, [], ◌∷◌, flat_map, Option, Some, None, IfSome, ℤ, pos, int_le, int_lt, nat_abs, slice_get, unwrap_or}
+use Rattle.std.specs.Prelude.{◌≡◌, ◌<◌, ◌^◌, ◌≤◌, ◌≤ℤ◌, ◌<ℤ◌, ◌+ℤ◌, ◌-ℤ◌, ◌&&◌, ℕ, Bool, true, false, if◌then◌else◌, not, List, [], ◌∷◌, flat_map, map, Option, Some, None, IfSome, ℤ, pos, int_le, int_lt, nat_abs, slice_get, unwrap_or}
 use Rattle.std.specs.List.{AllByRecursion}
 use Rattle.std.specs.declared.cmp.Ordering.TheVariants.{Equal}
 use Rattle.pg_list.specs.declared.blocks.Block.{Block}
@@ -47,10 +47,18 @@ pub record IsWellKept (notes : ℤ) (given : Give) : Type 0 where
   pub stretch : nat_abs given.stretch ≤ 2 ^ 34
   pub shrink : nat_abs given.shrink ≤ 2 ^ 34
 
--- candidates, and what no room changes of each
+-- the picks of candidates, and what no room changes of each
 pub record NearsValue : Type 0 where
-  pub candidates : List Candidate
+  pub picks : List (List ℕ)
   pub nears : List NearValue
+
+-- those of candidates
+abbrev pub all_picks : List Candidate → List (List ℕ)
+all_picks cs = map (λ (c : Candidate). c.picks) cs
+
+-- by its index these tell the picks of each candidate, where an index behind the last tells none
+abbrev pub ArePicks : List Candidate → List (List ℕ) → Type 0
+ArePicks cs ps = (i : ℕ) (c : Candidate) → slice_get cs i ≡ Some c → unwrap_or (slice_get ps i) [] ≡ c.picks
 
 -- the gaps of a room's areas are stretched by no more than this, and shrunk by no less than 0
 pub record IsWithin (most : ℤ) (room : TextRoom) : Type 0 where
@@ -122,8 +130,10 @@ pub record IsNear (doc : Document) (most : ℤ) (c : Candidate) (near : NearValu
   pub worst : IfSome near.worst (IsWorstCost doc.style most near.kind near.totals near.give)
 
 -- of the candidate at its index
-abbrev pub IsNearIn : Document → ℤ → List Candidate → NearValue → Type 0
-IsNearIn doc most cs near = (c : Candidate) → slice_get cs near.at ≡ Some c → IsNear doc most c near
+pub record IsNearIn (doc : Document) (most : ℤ) (cs : List Candidate) (near : NearValue) : Type 0 where
+  pub candidate : Candidate
+  pub there : slice_get cs near.at ≡ Some candidate
+  pub is : IsNear doc most candidate near
 
 -- ---- what is needed in a room
 
@@ -150,10 +160,10 @@ pub record Suffice (all some : List End) : Type 0 where
   pub among : (x : End) → IsAmong x some → IsAmong x all
   pub there : (y : End) → IsAmong y all → (x : End) × (IsAmong x some × ((end_cmp x y ≡ Equal) × IsUnder x y))
 
--- what no room changes of these candidates, and in each room the ends of those that are needed suffice, where the gaps of
--- the areas give no more than this
+-- what no room changes of these candidates, with their picks, and in each room the ends of those that are needed suffice,
+-- where the gaps of the areas give no more than this
 pub record AreNear (doc : Document) (most : ℤ) (cs : List Candidate) (it : NearsValue) : Type 0 where
-  pub same : it.candidates ≡ cs
+  pub picks : ArePicks cs it.picks
   pub right : AllByRecursion (IsNearIn doc most cs) it.nears
   pub suffice : (room : TextRoom) → IsWithin most room →
       Suffice (text_ends doc room cs) (text_ends doc room (needed_in room.size cs it.nears))

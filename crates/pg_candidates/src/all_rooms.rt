@@ -1,8 +1,8 @@
 //! The candidates along a stretch, for all rooms, found on the way.
 ghost use Rattle.std.specs.Prelude.{◌≡◌, ◌<◌, ◌^◌, [], IfOk, nat_abs};
 
-use crate::candidate::CandidateList;
-use crate::making::first_near;
+use crate::candidate::ROOM;
+use crate::making::{first_with, goal_for, near_first};
 use crate::near::Near;
 use crate::taking::{TakesEnds, WalkEnd};
 use pg_hops::Needs;
@@ -12,16 +12,12 @@ use pg_style::{Give, Style};
 use std::alloc::{AllocError, Global};
 use std::rc::Rc;
 
-// For how many candidates there is room at once, as in a list of them.
-const ROOM: usize = 1024;
-
-/// The candidates along a stretch, each taken as a walk comes to it with what no room changes of it. Each is the only one of
-/// its place.
+/// What no room changes of the candidates along a stretch, each taken as a walk comes to it. Each is the only one of its
+/// place.
 #[derive(Drop)]
 pub struct AllRooms<'a> {
     pub(crate) galley: &'a Galley,
     pub(crate) most: Give,
-    pub(crate) candidates: CandidateList,
     pub(crate) nears: Vec<Near>,
     ghost stretch: { nat_abs most.stretch < 2 ^ 40 },
 }
@@ -34,13 +30,11 @@ impl<'a> AllRooms<'a> {
         requires { nat_abs most.stretch < 2 ^ 40 }
         ensures galley { IfOk result (λ it. it.galley.now ≡ galley.now) }
         ensures most { IfOk result (λ it. it.most ≡ most) }
-        ensures candidates { IfOk result (λ it. it.candidates ≡ []) }
         ensures nears { IfOk result (λ it. it.nears.items ≡ []) }
     {
         Ok(AllRooms {
             galley,
             most,
-            candidates: CandidateList::with_room(alloc)?,
             nears: Vec::with_capacity(alloc, ROOM)?,
         })
     }
@@ -58,9 +52,12 @@ impl TakesEnds for AllRooms<'_> {
     #[inline(always)]
     fn take(&mut self, style: &Style, needs: &Needs, end: &WalkEnd) -> Result<(), AllocError> {
         let at = self.nears.len();
-        let (_, near) = first_near(self.galley, style, &self.most, at, end, needs);
-        self.nears.push(near)?;
-        self.candidates.take(style, needs, end)
+        let most = &self.most;
+        let goal = goal_for(style, most, &end.passed.sums, &needs.give);
+        let first = first_with(self.galley, at, goal, end, needs);
+        self.nears
+            .push(near_first(style, most, first, goal, end, needs))?;
+        Ok(())
     }
 
     ghost none_taken = { none_alone };

@@ -4,20 +4,20 @@ ghost use Rattle.std.specs.Option.{option_map};
 ghost use Rattle.std.specs.Ordering.{nat_cmp, ordering_then};
 ghost use Rattle.std.specs.List.{AllWithin, insert};
 ghost use Rattle.std.specs.List.Sorted.{IsPartitionPoint, IsPartitionedBy};
+ghost use Rattle.std.specs.Rc.{rc_value};
 ghost use Rattle.pg_plan.specs.Order.{picks_cmp, place_cmp};
 ghost use Rattle.law_walk.specs.Best.{Ascend, insert_end, is_better as is_better_of};
 ghost use Rattle.pg_candidates.specs.RoomEnds.{end_of, ends_of, picks_at};
 ghost use Rattle.pg_candidates.specs.Spots.{is_before as is_before_of, spot_in};
-ghost use Rattle.pg_candidates.specs.View.{candidate_of};
 ghost use Rattle.pg_candidates.specs.declared.room_end.RoomEnd.{RoomEnd as ARoomEnd};
 
-use crate::candidate::Candidate;
 use crate::room_end::{RoomEnd, picks_of};
 use pg_column::TextCost;
 use pg_list::Place;
-use pg_plan::compare_picks;
+use pg_plan::{Picks, compare_picks};
 use std::alloc::AllocError;
 use std::cmp::Ordering;
+use std::rc::Rc;
 
 // Where an end goes among others: in front of the next, in its place, or nowhere, since it is no better.
 #[derive(Clone, Copy)]
@@ -63,43 +63,36 @@ fn price(cost: &TextCost, pick_demerits: i64) -> i128
     i128::from(cost.demerits) + i128::from(pick_demerits)
 }
 
-// The picks of the candidate with this number, and none where there is none.
-fn listed_picks(candidates: &[Candidate], at: usize) -> &[u32]
-    ensures { result.now ≡ picks_at (map candidate_of candidates.now) at }
+// The picks with this number, and none where there are none.
+fn listed_picks(listed: &[Rc<Picks>], at: usize) -> &[u32]
+    ensures { result.now ≡ picks_at (map rc_value listed.now) at }
 {
-    match picks_of(candidates, at) {
+    match picks_of(listed, at) {
         Some(picks) => picks.as_slice(),
         None => &[],
     }
 }
 
-// Compares the picks of the candidates with these numbers. Few ends are so alike that they are looked at.
+// Compares the picks with these numbers. Few ends are so alike that they are looked at.
 #[inline(never)]
-fn compare_listed(candidates: &[Candidate], one: usize, other: usize) -> Ordering
-    ensures { result ≡ picks_cmp (picks_at (map candidate_of candidates.now) one)
-        (picks_at (map candidate_of candidates.now) other) }
+fn compare_listed(listed: &[Rc<Picks>], one: usize, other: usize) -> Ordering
+    ensures { result ≡ picks_cmp (picks_at (map rc_value listed.now) one)
+        (picks_at (map rc_value listed.now) other) }
 {
-    compare_picks(
-        listed_picks(candidates, one),
-        listed_picks(candidates, other),
-    )
+    compare_picks(listed_picks(listed, one), listed_picks(listed, other))
 }
 
 // Whether an end costs less than another, or the same with picks that are not after.
-fn is_better(candidates: &[Candidate], one: &RoomEnd, other: &RoomEnd) -> bool
-    ensures { result ≡ is_better_of (end_of (map candidate_of candidates.now) one.now)
-        (end_of (map candidate_of candidates.now) other.now) }
+fn is_better(listed: &[Rc<Picks>], one: &RoomEnd, other: &RoomEnd) -> bool
+    ensures { result ≡ is_better_of (end_of (map rc_value listed.now) one.now)
+        (end_of (map rc_value listed.now) other.now) }
 {
     let own = price(&one.cost, one.pick_demerits);
     let its = price(&other.cost, other.pick_demerits);
     if own < its {
         return true;
     }
-    own <= its
-        && !matches!(
-            compare_listed(candidates, one.at, other.at),
-            Ordering::Greater
-        )
+    own <= its && !matches!(compare_listed(listed, one.at, other.at), Ordering::Greater)
 }
 
 // How many of the ends stand before one more, by a look from the last one back. Ends come in the order of their places, so
@@ -119,17 +112,17 @@ fn count_before(ends: &[RoomEnd], end: &RoomEnd) -> usize
 }
 
 // Where an end goes at this index.
-fn spot_at(candidates: &[Candidate], ends: &[RoomEnd], at: usize, end: &RoomEnd) -> Spot
+fn spot_at(listed: &[Rc<Picks>], ends: &[RoomEnd], at: usize, end: &RoomEnd) -> Spot
     ensures { result ≡ spot_in
-        (option_map (end_of (map candidate_of candidates.now)) (slice_get ends.now at))
-        (end_of (map candidate_of candidates.now) end.now) }
+        (option_map (end_of (map rc_value listed.now)) (slice_get ends.now at))
+        (end_of (map rc_value listed.now) end.now) }
 {
     let Some(other) = ends.get(at) else {
         return Spot::Before;
     };
     match compare_ends(&end.to, end.cost.fitness, &other.to, other.cost.fitness) {
         Ordering::Equal => {
-            if is_better(candidates, end, other) {
+            if is_better(listed, end, other) {
                 Spot::Instead
             } else {
                 Spot::Nowhere
@@ -154,7 +147,7 @@ fn put_behind(ends: &mut Vec<RoomEnd>, at: usize, end: RoomEnd) -> Result<(), Al
 
 // Puts an end in behind so many others that are in order, where it belongs, or nowhere where it is no better.
 fn put_in(
-    candidates: &[Candidate],
+    listed: &[Rc<Picks>],
     ends: &mut Vec<RoomEnd>,
     at: usize,
     end: RoomEnd,
@@ -163,12 +156,12 @@ fn put_in(
     requires point { IsPartitionedBy (λ (other : ARoomEnd). is_before_of other end) ends.old.items →
         IsPartitionPoint (λ (other : ARoomEnd). is_before_of other end ≡ true)
         (λ (other : ARoomEnd). is_before_of other end ≡ false) ends.old.items at }
-    ensures { OnOk result (Ascend (ends_of (map candidate_of candidates.now) ends.old.items) →
-        ends_of (map candidate_of candidates.now) ends.new.items
-        ≡ insert_end (end_of (map candidate_of candidates.now) end)
-        (ends_of (map candidate_of candidates.now) ends.old.items)) }
+    ensures { OnOk result (Ascend (ends_of (map rc_value listed.now) ends.old.items) →
+        ends_of (map rc_value listed.now) ends.new.items
+        ≡ insert_end (end_of (map rc_value listed.now) end)
+        (ends_of (map rc_value listed.now) ends.old.items)) }
 {
-    match spot_at(candidates, ends.as_slice(), at, &end) {
+    match spot_at(listed, ends.as_slice(), at, &end) {
         Spot::Before => put_behind(ends, at, end)?,
         Spot::Instead => ends[at] = end,
         Spot::Nowhere => {}
@@ -191,36 +184,32 @@ fn is_behind_all(ends: &[RoomEnd], end: &RoomEnd) -> bool
 
 // Adds an end to those that are in order, wherever it stands among them. Few ends come this way.
 #[inline(never)]
-fn keep_among(
-    candidates: &[Candidate],
-    ends: &mut Vec<RoomEnd>,
-    end: RoomEnd,
-) -> Result<(), AllocError>
-    ensures { OnOk result (Ascend (ends_of (map candidate_of candidates.now) ends.old.items) →
-        ends_of (map candidate_of candidates.now) ends.new.items
-        ≡ insert_end (end_of (map candidate_of candidates.now) end)
-        (ends_of (map candidate_of candidates.now) ends.old.items)) }
+fn keep_among(listed: &[Rc<Picks>], ends: &mut Vec<RoomEnd>, end: RoomEnd) -> Result<(), AllocError>
+    ensures { OnOk result (Ascend (ends_of (map rc_value listed.now) ends.old.items) →
+        ends_of (map rc_value listed.now) ends.new.items
+        ≡ insert_end (end_of (map rc_value listed.now) end)
+        (ends_of (map rc_value listed.now) ends.old.items)) }
 {
     let at = count_before(ends.as_slice(), &end);
-    put_in(candidates, ends, at, end)
+    put_in(listed, ends, at, end)
 }
 
 /// Adds an end to those that are in order, one for each place and fitness; the better one stays. Nearly all ends come in the
 /// order of their places: one that stands behind the last is compared with no other, and put behind it without a call.
 #[inline(always)]
 pub(crate) fn keep_best(
-    candidates: &[Candidate],
+    listed: &[Rc<Picks>],
     ends: &mut Vec<RoomEnd>,
     end: RoomEnd,
 ) -> Result<(), AllocError>
-    ensures { OnOk result (Ascend (ends_of (map candidate_of candidates.now) ends.old.items) →
-        ends_of (map candidate_of candidates.now) ends.new.items
-        ≡ insert_end (end_of (map candidate_of candidates.now) end)
-        (ends_of (map candidate_of candidates.now) ends.old.items)) }
+    ensures { OnOk result (Ascend (ends_of (map rc_value listed.now) ends.old.items) →
+        ends_of (map rc_value listed.now) ends.new.items
+        ≡ insert_end (end_of (map rc_value listed.now) end)
+        (ends_of (map rc_value listed.now) ends.old.items)) }
 {
     if is_behind_all(ends.as_slice(), &end) {
         ends.push(end)?;
         return Ok(());
     }
-    keep_among(candidates, ends, end)
+    keep_among(listed, ends, end)
 }

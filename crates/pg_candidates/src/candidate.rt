@@ -12,7 +12,7 @@ use std::marker::Model;
 use std::rc::Rc;
 
 // For how many candidates there is room at once: few places have more, and what is not used costs nothing.
-const ROOM: usize = 1024;
+pub(crate) const ROOM: usize = 1024;
 
 /// Where columns from a place may end: the picks of the choices that begin on the way, what is passed, and the demerits
 /// of the variants picked. The candidates along one stretch share their picks.
@@ -63,15 +63,6 @@ impl CandidateList {
         Ok(CandidateList {
             items: Vec::with_capacity(alloc, ROOM)?,
         })
-    }
-
-    // No candidates. No memory is taken.
-    pub(crate) fn none(alloc: Global) -> CandidateList
-        ensures { result ≡ [] }
-    {
-        CandidateList {
-            items: Vec::new(alloc),
-        }
     }
 
     /// Adds a candidate behind the others.

@@ -107,7 +107,8 @@ fn worst_cost(
 
 // Of a candidate that is the first of its place, with a goal at which its badness is the worst, if one was found. Where its end
 // is not needed from there on, no numbers are worked out for that.
-fn near_first(
+#[inline(always)]
+pub(crate) fn near_first(
     style: &Style,
     most: &Give,
     first: First,
@@ -126,10 +127,11 @@ fn near_first(
         IfSome result.until (IsHopelessFrom (document g style.now) most.now.stretch (end_of end.now)) }
 {
     let until = until_alone(style, first.kind, first.worst);
-    if until.is_some() {
-        return near_of(first.at, first.kind, until, None, end, needs);
-    }
-    let worst = worst_cost(style, most, first.kind, goal, &end.passed.sums, &needs.give);
+    let worst = if until.is_some() {
+        None
+    } else {
+        worst_cost(style, most, first.kind, goal, &end.passed.sums, &needs.give)
+    };
     near_of(first.at, first.kind, until, worst, end, needs)
 }
 
@@ -186,7 +188,7 @@ fn rooms_vary(style: &Style) -> bool {
 
 // A goal at which the badness of a candidate is the worst, if one is asked for and was found. Where there is one room, nothing
 // else is asked of it.
-fn goal_for(style: &Style, most: &Give, sums: &Sums, give: &Give) -> Option<i64>
+pub(crate) fn goal_for(style: &Style, most: &Give, sums: &Sums, give: &Give) -> Option<i64>
     requires most { nat_abs most.now.stretch < 2 ^ 40 }
     requires give { nat_abs give.now.stretch ≤ 2 ^ 34 }
     ensures { IfSome result (IsWorstGoal style.now most.now.stretch sums.now.totals give.now) }
@@ -206,34 +208,29 @@ fn kind_of(galley: &Galley, end: &WalkEnd) -> EndKind
     kind_at(galley, end.to)
 }
 
-// The first candidate of its place, to an end with these needs, and what no room changes of it.
+// The first candidate of its place, to an end with these needs, with a goal at which its badness is the worst, if one was
+// found.
 #[inline(always)]
-pub(crate) fn first_near(
+pub(crate) fn first_with(
     galley: &Galley,
-    style: &Style,
-    most: &Give,
     at: usize,
+    goal: Option<i64>,
     end: &WalkEnd,
     needs: &Needs,
-) -> (First, Near)
-    requires most { nat_abs most.now.stretch < 2 ^ 40 }
-    requires needs { AreNeeds style.now (view end.now.passed.now) needs.now }
-    ensures first { result.0.at ≡ at }
-    ensures kind { result.0.kind ≡ kind_at_of galley.now.blocks end.now.to }
-    ensures worst { IfSome result.0.worst (IsWorst style.now most.now.stretch (end_of end.now)) }
-    ensures at { result.1.at ≡ at }
-    ensures near { IsNear (document galley.now style.now) most.now.stretch (end_of end.now) result.1 }
-    ensures until { IfSome result.1.until (IsHopelessFrom (document galley.now style.now) most.now.stretch
-        (end_of end.now)) }
+) -> First
+    requires goal { IfSome goal (λ least. nat_abs least < 2 ^ 52) }
+    requires notes { nat_abs needs.now.notes < 2 ^ 51 }
+    ensures at { result.at ≡ at }
+    ensures kind { result.kind ≡ kind_at_of galley.now.blocks end.now.to }
+    ensures worst { (style : StyleValue) (most : ℤ) → AreNeeds style (view end.now.passed.now) needs.now →
+        IfSome goal (IsWorstGoal style most end.now.passed.now.sums.totals needs.now.give) →
+        IfSome result.worst (IsWorst style most (end_of end.now)) }
 {
-    let goal = goal_for(style, most, &end.passed.sums, &needs.give);
-    let first = First {
+    First {
         at,
         kind: kind_of(galley, end),
         worst: room_for(needs.notes, goal),
-    };
-    let near = near_first(style, most, first, goal, end, needs);
-    (first, near)
+    }
 }
 
 // The first candidate of its place and what no room changes of it.
@@ -254,7 +251,11 @@ fn first_of(
         (candidate_of candidate.now)) }
 {
     let needs = Needs::of(style, &candidate.passed);
-    first_near(galley, style, most, at, &candidate.as_end(), &needs)
+    let end = candidate.as_end();
+    let goal = goal_for(style, most, &end.passed.sums, &needs.give);
+    let first = first_with(galley, at, goal, &end, &needs);
+    let near = near_first(style, most, first, goal, &end, &needs);
+    (first, near)
 }
 
 // What no room changes of the candidates so far, and the first one of the last place.

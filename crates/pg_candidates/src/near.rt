@@ -4,7 +4,6 @@ ghost use Rattle.pg_column.specs.Numbers.{IsRoom, most_room};
 ghost use Rattle.pg_candidates.specs.RoomEnds.{picks_at};
 ghost use Rattle.pg_candidates.specs.Nears.{at_goal as at_goal_of, is_needed as is_needed_of, worst_at as worst_at_of};
 
-use crate::candidate::CandidateList;
 use crate::kind::EndKind;
 use crate::room_end::picks_of;
 use pg_column::{TextCost, TextRoom};
@@ -15,6 +14,7 @@ use pg_style::Give;
 use pg_sums::Sums;
 use std::alloc::Global;
 use std::marker::Model;
+use std::rc::Rc;
 
 /// What no room changes of a candidate, in scaled points: which one of the list it is, where its end is, the sums of what
 /// was passed, the height of its notes and what their skips give, the demerits of its picks, the kind of its end, the room
@@ -104,37 +104,40 @@ impl Near {
     }
 }
 
-/// Candidates from one place, and what no room changes of each, in an order in which ends may stand.
+/// What no room changes of candidates from one place, in an order in which ends may stand, and the picks of each. Where no
+/// candidate has picks, none are listed.
 #[derive(Drop)]
 pub struct NearList {
-    pub(crate) candidates: CandidateList,
+    pub(crate) picks: Vec<Rc<Picks>>,
     pub(crate) nears: Vec<Near>,
 }
 
 impl Model for NearList {
+    ghost use Rattle.std.specs.Prelude.{map};
+    ghost use Rattle.std.specs.Rc.{rc_value};
     ghost use Rattle.pg_candidates.specs.Nears.{NearsValue};
 
     ghost Value = { NearsValue };
 
-    ghost view = { λ a. record { candidates = a.candidates; nears = a.nears.items } };
+    ghost view = { λ a. record { picks = map rc_value a.picks.items; nears = a.nears.items } };
 }
 
 impl NearList {
     /// No candidates. No memory is taken.
     pub fn none(alloc: Global) -> NearList
-        ensures { result.candidates ≡ [] }
+        ensures { result.picks ≡ [] }
     {
         NearList {
-            candidates: CandidateList::none(alloc),
+            picks: Vec::new(alloc),
             nears: Vec::new(alloc),
         }
     }
 
-    /// The picks of the candidate with this number, if there is one.
+    /// The picks of the candidate with this number, if some are listed.
     pub fn picks_of(&self, at: usize) -> Option<&Picks>
-        ensures some { IfSome result (λ picks. picks.now ≡ picks_at self.now.candidates at) }
-        ensures none { IfNone result (picks_at self.now.candidates at ≡ []) }
+        ensures some { IfSome result (λ picks. picks.now ≡ picks_at self.now.picks at) }
+        ensures none { IfNone result (picks_at self.now.picks at ≡ []) }
     {
-        picks_of(self.candidates.as_slice(), at)
+        picks_of(self.picks.as_slice(), at)
     }
 }

@@ -1,6 +1,7 @@
 //! The ends in a room among candidates.
 ghost use Rattle.std.specs.Prelude.{◌≡◌, ◌<◌, ◌^◌, ◌≤ℤ◌, ◌-ℤ◌, ◌||◌, ◌++◌, ◌∷◌, [], ℤ, List, false, int_lt, map, nat_le, OnOk, IfOk, IfSome, nat_abs};
 ghost use Rattle.std.specs.List.{AllByRecursion};
+ghost use Rattle.std.specs.Rc.{rc_value};
 ghost use Rattle.pg_list.specs.GalleyValue.{GalleyValue};
 ghost use Rattle.pg_list.specs.declared.galley.Place.{Place as APlace};
 ghost use Rattle.pg_column.specs.Numbers.{IsRoom, cost_for as cost_for_goal, most_room};
@@ -11,8 +12,9 @@ ghost use Rattle.pg_rules.specs.Legal.{document};
 ghost use Rattle.law_walk.specs.Best.{AreBest};
 ghost use Rattle.law_walk.specs.Candidates.{AreCandidates, Candidate as ACandidate, has_text as has_text_of, kept_ends, text_ends};
 ghost use Rattle.pg_candidates.specs.Alone.{AreTaken};
-ghost use Rattle.pg_candidates.specs.Nears.{AreNear, IsNear, IsNearIn, IsWithin, IsWorstCost, needed_in, needed_of};
+ghost use Rattle.pg_candidates.specs.Nears.{AreNear, ArePicks, all_picks, IsNear, IsNearIn, IsWithin, IsWorstCost, needed_in, needed_of};
 ghost use Rattle.pg_candidates.specs.RoomEnds.{end_by, ends_of, picks_at};
+ghost use Rattle.pg_candidates.specs.Taken.{IsPlain};
 ghost use Rattle.pg_candidates.specs.View.{candidate_of};
 
 use crate::all_rooms::AllRooms;
@@ -25,9 +27,11 @@ use crate::room_end::{RoomEnd, all_with_picks};
 use law_walk::laws::candidates_give_ends;
 use pg_column::{EndList, TextCost, TextRoom, cost_for};
 use pg_list::Galley;
+use pg_plan::Picks;
 use pg_scaled::minus;
 use pg_style::{Give, Style};
 use std::alloc::{AllocError, Global};
+use std::rc::Rc;
 
 // For how many ends there is room at once: few rooms have more.
 const ROOM: usize = 256;
@@ -96,43 +100,43 @@ fn end_with(near: &Near, cost: TextCost) -> RoomEnd
 fn keep_end(
     style: &Style,
     room: &TextRoom,
-    candidates: &[Candidate],
+    listed: &[Rc<Picks>],
     near: &Near,
     ends: &mut Vec<RoomEnd>,
 ) -> Result<(), AllocError>
     requires size { IsRoom room.now }
     requires high { int_lt (most_room room.now) near.now.least ≡ false }
     ensures { OnOk result ((g : GalleyValue) (most : ℤ) → room.now.give.stretch ≤ℤ most → (cs : List ACandidate)
-        (c : ACandidate) → picks_at (map candidate_of candidates.now) near.now.at ≡ c.picks →
+        (c : ACandidate) → picks_at (map rc_value listed.now) near.now.at ≡ c.picks →
         IsNear (document g style.now) most c near.now →
         AreBest (text_ends (document g style.now) room.now cs)
-        (ends_of (map candidate_of candidates.now) ends.old.items) →
+        (ends_of (map rc_value listed.now) ends.old.items) →
         AreBest (text_ends (document g style.now) room.now (cs ++ c ∷ []))
-        (ends_of (map candidate_of candidates.now) ends.new.items)) }
+        (ends_of (map rc_value listed.now) ends.new.items)) }
 {
     let cost = cost_of(style, room, near);
     if !is_tolerable(style, near.kind, cost.badness) {
         return Ok(());
     }
-    keep_best(candidates, ends, end_with(near, cost))
+    keep_best(listed, ends, end_with(near, cost))
 }
 
 // Adds the end of the candidate that this is of, where it is needed in a room.
 fn keep_near(
     style: &Style,
     room: &TextRoom,
-    candidates: &[Candidate],
+    listed: &[Rc<Picks>],
     near: &Near,
     ends: &mut Vec<RoomEnd>,
 ) -> Result<(), AllocError>
     requires size { IsRoom room.now }
-    ensures { OnOk result ((g : GalleyValue) (most : ℤ) → room.now.give.stretch ≤ℤ most → (cs : List ACandidate) →
-        IsNearIn (document g style.now) most (map candidate_of candidates.now) near.now →
+    ensures { OnOk result ((g : GalleyValue) (most : ℤ) → room.now.give.stretch ≤ℤ most → (cs ds : List ACandidate) →
+        ArePicks ds (map rc_value listed.now) → IsNearIn (document g style.now) most ds near.now →
         AreBest (text_ends (document g style.now) room.now cs)
-        (ends_of (map candidate_of candidates.now) ends.old.items) →
+        (ends_of (map rc_value listed.now) ends.old.items) →
         AreBest (text_ends (document g style.now) room.now
-        (cs ++ needed_of room.now.size (map candidate_of candidates.now) near.now))
-        (ends_of (map candidate_of candidates.now) ends.new.items)) }
+        (cs ++ needed_of room.now.size ds near.now))
+        (ends_of (map rc_value listed.now) ends.new.items)) }
 {
     if near.is_too_low(room) {
         return Ok(());
@@ -140,10 +144,7 @@ fn keep_near(
     if !near.is_needed(room) {
         return Ok(());
     }
-    if near.at >= candidates.len() {
-        return Ok(());
-    }
-    keep_end(style, room, candidates, near, ends)
+    keep_end(style, room, listed, near, ends)
 }
 
 /// Whether a room is at least the style's least.
@@ -166,14 +167,15 @@ impl NearList {
     ) -> Result<Vec<RoomEnd>, AllocError>
         requires { IsRoom room.now }
         ensures best { IfOk result (λ ends. (g : GalleyValue) (most : ℤ) → room.now.give.stretch ≤ℤ most →
-            AllByRecursion (IsNearIn (document g style.now) most self.now.candidates) self.now.nears →
-            AreBest (text_ends (document g style.now) room.now
-            (needed_in room.now.size self.now.candidates self.now.nears)) (ends_of self.now.candidates ends.items)) }
+            (cs : List ACandidate) → ArePicks cs self.now.picks →
+            AllByRecursion (IsNearIn (document g style.now) most cs) self.now.nears →
+            AreBest (text_ends (document g style.now) room.now (needed_in room.now.size cs self.now.nears))
+            (ends_of self.now.picks ends.items)) }
     {
-        let candidates = self.candidates.as_slice();
+        let listed = self.picks.as_slice();
         let mut ends = Vec::with_capacity(alloc, self.nears.len().min(ROOM))?;
         'each: for near in self.nears.as_slice() {
-            keep_near(style, room, candidates, near, &mut ends)?;
+            keep_near(style, room, listed, near, &mut ends)?;
         }
         Ok(ends)
     }
@@ -192,14 +194,15 @@ impl NearList {
         room: &TextRoom,
     ) -> Result<Vec<RoomEnd>, AllocError>
         requires { IsRoom room.now }
-        ensures best { IfOk result (λ ends. (most : ℤ) → room.now.give.stretch ≤ℤ most →
-            AllByRecursion (IsNearIn (document galley.now style.now) most self.now.candidates) self.now.nears →
-            AreBest (kept_ends (document galley.now style.now) room.now
-            (needed_in room.now.size self.now.candidates self.now.nears)) (ends_of self.now.candidates ends.items)) }
+        ensures best { IfOk result (λ ends. (most : ℤ) → room.now.give.stretch ≤ℤ most → (cs : List ACandidate) →
+            ArePicks cs self.now.picks →
+            AllByRecursion (IsNearIn (document galley.now style.now) most cs) self.now.nears →
+            AreBest (kept_ends (document galley.now style.now) room.now (needed_in room.now.size cs self.now.nears))
+            (ends_of self.now.picks ends.items)) }
         ensures ends { IfOk result (λ ends. (from : APlace) (top most : ℤ) (cs : List ACandidate) →
             AreNear (document galley.now style.now) most cs self.now → IsWithin most room.now →
             most_room room.now ≤ℤ top → AreCandidates (document galley.now style.now) from top cs →
-            AreEnds (document galley.now style.now) from room.now (ends_of self.now.candidates ends.items)) }
+            AreEnds (document galley.now style.now) from room.now (ends_of self.now.picks ends.items)) }
     {
         style.stays_in_range();
         let _ = galley.blocks().as_slice();
@@ -221,18 +224,30 @@ impl NearList {
         room: &TextRoom,
     ) -> Result<EndList, AllocError>
         requires { IsRoom room.now }
-        ensures best { IfOk result (λ ends. (most : ℤ) → room.now.give.stretch ≤ℤ most →
-            AllByRecursion (IsNearIn (document galley.now style.now) most self.now.candidates) self.now.nears →
-            AreBest (kept_ends (document galley.now style.now) room.now
-            (needed_in room.now.size self.now.candidates self.now.nears)) ends) }
+        ensures best { IfOk result (λ ends. (most : ℤ) → room.now.give.stretch ≤ℤ most → (cs : List ACandidate) →
+            ArePicks cs self.now.picks →
+            AllByRecursion (IsNearIn (document galley.now style.now) most cs) self.now.nears →
+            AreBest (kept_ends (document galley.now style.now) room.now (needed_in room.now.size cs self.now.nears))
+            ends) }
         ensures ends { IfOk result (λ ends. (from : APlace) (top most : ℤ) (cs : List ACandidate) →
             AreNear (document galley.now style.now) most cs self.now → IsWithin most room.now →
             most_room room.now ≤ℤ top → AreCandidates (document galley.now style.now) from top cs →
             AreEnds (document galley.now style.now) from room.now ends) }
     {
         let ends = self.room_ends(alloc, galley, style, room)?;
-        all_with_picks(alloc, self.candidates.as_slice(), ends.as_slice())
+        all_with_picks(alloc, self.picks.as_slice(), ends.as_slice())
     }
+}
+
+// The picks of each candidate, shared with it.
+fn picks_of_all(alloc: Global, candidates: &[Candidate]) -> Result<Vec<Rc<Picks>>, AllocError>
+    ensures { IfOk result (λ listed. map rc_value listed.items ≡ all_picks (map candidate_of candidates.now)) }
+{
+    let mut picks = Vec::with_capacity(alloc, candidates.len())?;
+    for candidate in candidates {
+        picks.push(Rc::clone(&candidate.picks)?)?;
+    }
+    Ok(picks)
 }
 
 impl CandidateList {
@@ -252,21 +267,20 @@ impl CandidateList {
         ensures { IfOk result (AreNear (document galley.now style.now) most.now.stretch self) }
     {
         let nears = nears_of(alloc, galley, style, most, self.as_slice())?;
-        Ok(NearList {
-            candidates: self,
-            nears,
-        })
+        let picks = picks_of_all(alloc, self.as_slice())?;
+        Ok(NearList { picks, nears })
     }
 }
 
 impl AllRooms<'_> {
-    /// The candidates that were taken, with what no room changes of each.
+    /// What no room changes of the candidates that were taken, none of which has picks.
     pub fn into_near(self) -> NearList
-        ensures { (style : StyleValue) → AreTaken style self.entry →
-            AreNear (document self.entry.galley.now style) self.entry.most.stretch self.entry.candidates result }
+        ensures { (style : StyleValue) (cs : List ACandidate) → AllByRecursion IsPlain cs →
+            AreTaken style cs self.entry →
+            AreNear (document self.entry.galley.now style) self.entry.most.stretch cs result }
     {
         NearList {
-            candidates: self.candidates,
+            picks: Vec::new(*self.nears.allocator()),
             nears: self.nears,
         }
     }

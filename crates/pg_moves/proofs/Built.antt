@@ -11,7 +11,6 @@ use Rattle.pg_plan.specs.declared.pages.PageMove.{PageMove}
 use Rattle.pg_plan.specs.declared.states.State.{State}
 use Rattle.pg_candidates.specs.RoomEnds.{end_of, picks_at}
 use Rattle.pg_candidates.specs.declared.room_end.RoomEnd.{RoomEnd}
-use Rattle.law_walk.specs.Candidates.{Candidate}
 use Rattle.pg_rules.specs.Cost.{run_demerits}
 use Rattle.pg_rules.specs.Follow.{fills_page, keeps_run, other_side, turns}
 use Rattle.pg_rules.specs.Room.{Document}
@@ -70,7 +69,7 @@ module _ (doc : Document) (u : State) (laid : Laid) (is : laid ≡ laid_of doc u
       ap (λ (v : State). step v by cost) s ∙ (ap (λ (v : PageMove). step next v cost) m ∙ ap (step next move) p)
 
   -- the step of a column of text to an end
-  pub end_is : (cs : List Candidate) (end : RoomEnd) (settled : Settled) (to : State) (by : PageMove) (cost : ℤ) →
+  pub end_is : (cs : List (List ℕ)) (end : RoomEnd) (settled : Settled) (to : State) (by : PageMove) (cost : ℤ) →
       to ≡ state_behind doc.style u laid end.to (kept_fitness doc.style end.cost.fitness) settled.ages →
       by ≡ move_of u laid.layout end.to (picks_at cs end.at) → cost ≡ cost_at doc.style u laid end settled.price →
       Settles doc u end.to laid.after (Some settled) → step to by cost ≡ listed_end doc u laid.layout (end_of cs end)
@@ -92,7 +91,7 @@ module _ (doc : Document) (u : State) (laid : Laid) (is : laid ≡ laid_of doc u
       (p ∙ ap (λ (price : ℤ). pos doc.style.float_column.demerits +ℤ price) (price_is u.place settled settles))
 
   -- the state that is asked about, and the cost, are those of the step
-  pub asked_is : (cs : List Candidate) (end : RoomEnd) (settled : Settled) (it new : Behind) (cost : ℤ) →
+  pub asked_is : (cs : List (List ℕ)) (end : RoomEnd) (settled : Settled) (it new : Behind) (cost : ℤ) →
       new ≡ record it {
         state = record it.state { place = end.to; fitness = kept_fitness doc.style end.cost.fitness };
       } → IsBehind doc.style u laid settled it → cost ≡ (end.cost.demerits +ℤ end.pick_demerits)

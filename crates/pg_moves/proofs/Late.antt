@@ -1,10 +1,9 @@
 -- Ends of which is remembered that they come too late, and those that are left.
-use Rattle.std.proofs.Common.{◌≡◌, refl, sym, subst, ◌<◌, Bool, List, [], ◌∷◌, ◌++◌, append_assoc, ◌∙◌, length, arith, ℤ}
+use Rattle.std.proofs.Common.{◌≡◌, refl, sym, subst, ◌<◌, ℕ, Bool, List, [], ◌∷◌, ◌++◌, append_assoc, ◌∙◌, length, arith, ℤ}
 use Rattle.std.specs.Prelude.{◌+ℤ◌, Option, Some, true}
 use Rattle.std.specs.List.{AllByRecursion}
 use Rattle.pg_lemmas.proofs.Lists.{all_append, all_parts}
 use Rattle.law_moves.specs.Steps.{fitness_cost, kept_fitness}
-use Rattle.law_walk.specs.Candidates.{Candidate}
 use Rattle.pg_candidates.specs.RoomEnds.{picks_at}
 use Rattle.pg_candidates.specs.declared.room_end.RoomEnd.{RoomEnd}
 use Rattle.pg_layouts.specs.Layouts.{move_of}
@@ -84,7 +83,7 @@ skip_more style u it ends rest after end reached next is skips asked same late =
 -- ---- their steps
 
 module _ (doc : Document) (u : State) (laid : Laid) (is : laid ≡ laid_of doc u laid.layout) (spared : State → ℤ → Bool)
-    (cs : List Candidate) (settled : Settled) where
+    (cs : List (List ℕ)) (settled : Settled) where
   -- a place at which the column may end
   abbrev IsOpen : RoomEnd → Type 0
   IsOpen end = IsOpenAt doc u laid settled end.to

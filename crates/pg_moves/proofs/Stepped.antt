@@ -27,7 +27,7 @@ use Rattle.pg_sources.specs.Document.{before_of}
 use Rattle.pg_sources.specs.declared.calls.Before.{Before}
 use Rattle.pg_rooms.specs.Laid.{laid_of}
 use Rattle.pg_rooms.specs.declared.laid.Laid.{Laid}
-use Rattle.pg_rooms.specs.PlaceEnds.{AreFrontEnds, AreGroups, AreRoomEnds, all_ends, ends_behind, ends_in, ends_left, groups_in, higher_end, room_behind}
+use Rattle.pg_rooms.specs.PlaceEnds.{AreFrontEndsOf, AreGroups, AreRoomEnds, all_ends, ends_behind, ends_in, ends_left, groups_in, higher_end, room_behind}
 use Rattle.pg_rooms.specs.declared.behind.Behind.{Behind}
 use Rattle.pg_rooms.specs.declared.grouping.Group.{Group}
 use Rattle.pg_rooms.specs.declared.place_ends.PlaceEnds.{PlaceEnds}
@@ -41,11 +41,11 @@ use Rattle.pg_moves.specs.Thinned.{Adds}
 use Rattle.pg_moves.proofs.Added.{adds_more, adds_none, adds_one, adds_same, adds_spared}
 
 -- the steps to ends with the picks of these candidates
-abbrev pub listed_of : Document → State → List Candidate → Layout → List RoomEnd → List (Step State PageMove)
+abbrev pub listed_of : Document → State → List (List ℕ) → Layout → List RoomEnd → List (Step State PageMove)
 listed_of doc u cs layout ends = listed_with doc u (λ it. ends_of cs ends) layout
 
 module _ (doc : Document) (u : State) (laid : Laid) (is : laid ≡ laid_of doc u laid.layout)
-    (spared : State → ℤ → Bool) (cs : List Candidate) where
+    (spared : State → ℤ → Bool) (cs : List (List ℕ)) where
   after_is : laid.after ≡ placed_with doc.style u.placed laid.layout
   after_is = ap (λ (it : Laid). it.after) is
 
@@ -185,7 +185,7 @@ module _ (doc : Document) (u : State) (laid : Laid) (is : laid ≡ laid_of doc u
         )) ends all
 
 -- the steps to some ends and then to others
-pub listed_append : (doc : Document) (u : State) (cs : List Candidate) (layout : Layout) (first later : List RoomEnd) →
+pub listed_append : (doc : Document) (u : State) (cs : List (List ℕ)) (layout : Layout) (first later : List RoomEnd) →
     listed_of doc u cs layout (first ++ later) ≡ listed_of doc u cs layout first ++ listed_of doc u cs layout later
 listed_append doc u cs layout first later =
     ap (λ (ends : List End). map (listed_end doc u layout) (filter (goes_on doc u layout) ends))
@@ -195,7 +195,7 @@ listed_append doc u cs layout first later =
     (filter (goes_on doc u layout) (ends_of cs later)))
 
 -- the steps to one more end, read with any default
-pub steps_more : (doc : Document) (u : State) (spared : State → ℤ → Bool) (cs : List Candidate) (layout : Layout)
+pub steps_more : (doc : Document) (u : State) (spared : State → ℤ → Bool) (cs : List (List ℕ)) (layout : Layout)
     (ends : List RoomEnd) (i : ℕ) (d : RoomEnd) (old mid new : List (Step State PageMove)) → i < length ends →
     Adds spared old (listed_of doc u cs layout (take i ends)) mid →
     Adds spared mid (listed_of doc u cs layout (get_or ends i d ∷ [])) new →
@@ -249,7 +249,7 @@ steps_there doc u None it = refl
 steps_there doc u (Some behind) it = by (room_behind behind it.room)
   where
     by : (left : Option TextRoom) → option_map_or (λ (x : TextRoom).
-        steps_at doc u behind.ends.walk.near.candidates behind.ends.rooms.items x it) left []
+        steps_at doc u behind.ends.walk.near.picks behind.ends.rooms.items x it) left []
         ≡ listed_with doc u (λ _. option_map_or (λ (x : TextRoom).
         map (higher_end behind.by) (ends_left behind x)) left []) it.layout
     by None = refl
@@ -261,7 +261,7 @@ steps_all : (doc : Document) (u : State) (kept : PlaceEnds) (it : Laid) →
 steps_all doc u kept it = by (has_text doc.style it.room)
   where
     first : List End
-    first = ends_of kept.walk.near.candidates (ends_in kept.rooms.items it.room)
+    first = ends_of kept.walk.near.picks (ends_in kept.rooms.items it.room)
 
     by : (b : Bool) → (if b then listed_with doc u (λ _. first) it.layout ++ steps_behind doc u kept.behind it else [])
         ≡ listed_with doc u (λ _. if b then first ++ ends_behind kept.behind it.room else []) it.layout
@@ -291,19 +291,19 @@ all_at P (y ∷ ys) zero d less all = all.0
 all_at P (y ∷ ys) (suc i) d less all = all_at P ys i d (omega (arith, less)) all.1
 
 -- some steps were added, and with those to the ends that are left they are those to all ends
-pub record Going (doc : Document) (u : State) (spared : State → ℤ → Bool) (cs : List Candidate) (layout : Layout)
+pub record Going (doc : Document) (u : State) (spared : State → ℤ → Bool) (cs : List (List ℕ)) (layout : Layout)
     (ends rest : List RoomEnd) (old mid : List (Step State PageMove)) : Type 0 where
   pub gone : List (Step State PageMove)
   pub adds : Adds spared old gone mid
   pub whole : gone ++ listed_of doc u cs layout rest ≡ listed_of doc u cs layout ends
 
 -- before the first group nothing was
-pub not_gone : (doc : Document) (u : State) (spared : State → ℤ → Bool) (cs : List Candidate) (layout : Layout)
+pub not_gone : (doc : Document) (u : State) (spared : State → ℤ → Bool) (cs : List (List ℕ)) (layout : Layout)
     (ends : List RoomEnd) (old : List (Step State PageMove)) → Going doc u spared cs layout ends ends old old
 not_gone doc u spared cs layout ends old = record { gone = []; adds = adds_none spared old; whole = refl }
 
 -- the steps to the first of the ends that are left, and then to those behind these
-pub going_more : (doc : Document) (u : State) (spared : State → ℤ → Bool) (cs : List Candidate) (layout : Layout)
+pub going_more : (doc : Document) (u : State) (spared : State → ℤ → Bool) (cs : List (List ℕ)) (layout : Layout)
     (ends rest first later : List RoomEnd) (old mid new : List (Step State PageMove)) → rest ≡ first ++ later →
     Going doc u spared cs layout ends rest old mid → Adds spared mid (listed_of doc u cs layout first) new →
     Going doc u spared cs layout ends later old new
@@ -317,7 +317,7 @@ going_more doc u spared cs layout ends rest first later old mid new is so_far k 
 }
 
 -- one group more: the steps to its ends, and then to those behind it
-group_more : (doc : Document) (u : State) (spared : State → ℤ → Bool) (cs : List Candidate) (layout : Layout) (n : ℕ)
+group_more : (doc : Document) (u : State) (spared : State → ℤ → Bool) (cs : List (List ℕ)) (layout : Layout) (n : ℕ)
     (ends rest later : List RoomEnd) (old mid new : List (Step State PageMove)) → later ≡ drop n rest →
     Going doc u spared cs layout ends rest old mid →
     Adds spared mid (listed_of doc u cs layout (take n rest)) new → Going doc u spared cs layout ends later old new
@@ -325,7 +325,7 @@ group_more doc u spared cs layout n ends rest later old mid new l so_far k =
     going_more doc u spared cs layout ends rest (take n rest) later old mid new
     (sym (take-append-drop n rest) ∙ ap (λ (xs : List RoomEnd). take n rest ++ xs) (sym l)) so_far k
 
-pub group_next : (doc : Document) (u : State) (spared : State → ℤ → Bool) (cs : List Candidate) (layout : Layout)
+pub group_next : (doc : Document) (u : State) (spared : State → ℤ → Bool) (cs : List (List ℕ)) (layout : Layout)
     (groups left after : List Group) (group : Group) (before : Before) (ends rest first later : List RoomEnd)
     (old mid new : List (Step State PageMove)) → left ≡ group ∷ after → before ≡ group.before →
     first ≡ take group.count rest → later ≡ drop group.count rest →
@@ -347,7 +347,7 @@ group_next doc u spared cs layout groups left after group before ends rest first
     )
 
 -- where no end is left
-pub all_gone : (doc : Document) (u : State) (spared : State → ℤ → Bool) (cs : List Candidate) (layout : Layout)
+pub all_gone : (doc : Document) (u : State) (spared : State → ℤ → Bool) (cs : List (List ℕ)) (layout : Layout)
     (ends rest : List RoomEnd) (old new : List (Step State PageMove)) → rest ≡ [] →
     Going doc u spared cs layout ends rest old new → Adds spared old (listed_of doc u cs layout ends) new
 all_gone doc u spared cs layout ends rest old new none got =
@@ -357,7 +357,7 @@ all_gone doc u spared cs layout ends rest old new none got =
     got.adds
 
 -- where no group is left
-pub groups_done : (doc : Document) (u : State) (spared : State → ℤ → Bool) (cs : List Candidate) (layout : Layout)
+pub groups_done : (doc : Document) (u : State) (spared : State → ℤ → Bool) (cs : List (List ℕ)) (layout : Layout)
     (groups left : List Group) (ends rest : List RoomEnd) (old new : List (Step State PageMove)) → length left < 1 →
     (AreGroups doc groups ends → AreGroups doc left rest × Going doc u spared cs layout ends rest old new) →
     AreGroups doc groups ends → Adds spared old (listed_of doc u cs layout ends) new
@@ -367,7 +367,7 @@ groups_done doc u spared cs layout groups (group ∷ left) ends rest old new les
     absurd (omega (arith, less))
 
 -- the steps to the ends that are kept of a room
-pub in_room : (doc : Document) (u : State) (spared : State → ℤ → Bool) (it : Laid) (all cs : List Candidate)
+pub in_room : (doc : Document) (u : State) (spared : State → ℤ → Bool) (it : Laid) (all : List Candidate) (cs : List (List ℕ))
     (rooms : List RoomEnds) (room : TextRoom) (groups : List Group) (ends : List RoomEnd)
     (old new : List (Step State PageMove)) → groups ≡ groups_in rooms room → ends ≡ ends_in rooms room →
     (AreGroups doc groups ends → Adds spared old (listed_of doc u cs it.layout ends) new) →
@@ -381,19 +381,20 @@ in_room doc u spared it all cs rooms room groups ends old new g e step right =
 pub behind_added : (doc : Document) (u : State) (spared : State → ℤ → Bool) (it : Laid) (behind : Behind)
     (left : Option TextRoom) (room : TextRoom) (old new : List (Step State PageMove)) →
     left ≡ room_behind behind it.room → left ≡ Some room →
-    (AllByRecursion (AreRoomEnds doc behind.ends.walk.near.candidates behind.ends.walk.near.candidates)
+    ((all : List Candidate) → AllByRecursion (AreRoomEnds doc all behind.ends.walk.near.picks)
     behind.ends.rooms.items → Adds spared old
-    (steps_at doc u behind.ends.walk.near.candidates behind.ends.rooms.items room it) new) →
-    AreFrontEnds doc behind.ends → Adds spared old (steps_behind doc u (Some behind) it) new
-behind_added doc u spared it behind left room old new is some step are = subst (λ (o : Option TextRoom).
+    (steps_at doc u behind.ends.walk.near.picks behind.ends.rooms.items room it) new) →
+    (all : List Candidate) → AreFrontEndsOf doc all behind.ends →
+    Adds spared old (steps_behind doc u (Some behind) it) new
+behind_added doc u spared it behind left room old new is some step all are = subst (λ (o : Option TextRoom).
     Adds spared old (option_map_or (λ (x : TextRoom).
-    steps_at doc u behind.ends.walk.near.candidates behind.ends.rooms.items x it) o []) new)
-    (sym some ∙ is) (step are.rooms)
+    steps_at doc u behind.ends.walk.near.picks behind.ends.rooms.items x it) o []) new)
+    (sym some ∙ is) (step all are.rooms)
 
 module _ (doc : Document) (u : State) (spared : State → ℤ → Bool) (it : Laid) (kept : PlaceEnds)
     (text : has_text doc.style it.room ≡ true) where
   abbrev first_steps : List (Step State PageMove)
-  first_steps = steps_at doc u kept.walk.near.candidates kept.rooms.items it.room it
+  first_steps = steps_at doc u kept.walk.near.picks kept.rooms.items it.room it
 
   -- those along the first stretch, and then those behind the front
   added_on : (old mid new : List (Step State PageMove)) → Adds spared old first_steps mid →
@@ -411,12 +412,12 @@ module _ (doc : Document) (u : State) (spared : State → ℤ → Bool) (it : La
 
   -- where something is
   pub added_both : (behind : Behind) (old mid new : List (Step State PageMove)) → kept.behind ≡ Some behind →
-      IfSome kept.behind (λ (b : Behind). AreFrontEnds doc b.ends) → Adds spared old first_steps mid →
-      (AreFrontEnds doc behind.ends → Adds spared mid (steps_behind doc u (Some behind) it) new) →
+      (all : List Candidate) → IfSome kept.behind (λ (b : Behind). AreFrontEndsOf doc all b.ends) →
+      Adds spared old first_steps mid → (AreFrontEndsOf doc all behind.ends → Adds spared mid (steps_behind doc u (Some behind) it) new) →
       Adds spared old (all_steps_in doc u kept it) new
-  added_both behind old mid new some are first step = added_on old mid new first
+  added_both behind old mid new some all are first step = added_on old mid new first
       (subst (λ (o : Option Behind). Adds spared mid (steps_behind doc u o it) new) (sym some)
-      (step (subst (λ (o : Option Behind). IfSome o (λ (b : Behind). AreFrontEnds doc b.ends)) some are)))
+      (step (subst (λ (o : Option Behind). IfSome o (λ (b : Behind). AreFrontEndsOf doc all b.ends)) some are)))
 
 -- the steps of one layout more
 pub layouts_more : {X : Type 0} (f : X → List (Step State PageMove)) (spared : State → ℤ → Bool)

@@ -25,12 +25,12 @@ IsLaid it = it.laid.now ≡ laid_of (doc_at it) it.state.now it.laid.now.layout
 
 -- the column up to an end, by the picks of the end's candidate
 abbrev pub move_at : TextColumn → RoomEnd → PageMove
-move_at it end = move_of it.state.now it.laid.now.layout end.to (picks_at it.near.now.candidates end.at)
+move_at it end = move_of it.state.now it.laid.now.layout end.to (picks_at it.near.now.picks end.at)
 
 -- the steps to ends, by the picks of their candidates
 abbrev pub steps_to : TextColumn → List RoomEnd → List (Step State PageMove)
 steps_to it ends =
-    listed_with (doc_at it) it.state.now (λ layout. ends_of it.near.now.candidates ends) it.laid.now.layout
+    listed_with (doc_at it) it.state.now (λ layout. ends_of it.near.now.picks ends) it.laid.now.layout
 
 -- the state behind the column up to some end, where this is left and paid
 abbrev pub IsBehindIt : TextColumn → Settled → Behind → Type 0

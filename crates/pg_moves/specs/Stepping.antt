@@ -14,7 +14,7 @@ use Rattle.pg_plan.specs.declared.pages.PageMove.{PageMove}
 use Rattle.pg_rules.specs.Room.{Document}
 use Rattle.pg_table.specs.declared.step.Step.{Step}
 use Rattle.pg_layouts.specs.declared.layout.Layout.{Layout}
-use Rattle.law_walk.specs.Candidates.{Candidate, has_text}
+use Rattle.law_walk.specs.Candidates.{has_text}
 use Rattle.pg_candidates.specs.RoomEnds.{ends_of}
 use Rattle.pg_candidates.specs.declared.room_end.RoomEnd.{RoomEnd}
 use Rattle.law_moves.specs.Laws.{AreEndsOf}
@@ -70,23 +70,23 @@ abbrev pub IsOpenAt : Document → State → Laid → Settled → Place → Type
 IsOpenAt doc u laid settled at =
     (opens doc u at laid.after ≡ true) × Settles doc u at laid.after (Some settled)
 
--- the steps to the ends in a room, with the picks of these candidates, where a layout is that of the column
-abbrev pub steps_at : Document → State → List Candidate → List RoomEnds → TextRoom → Laid → List (Step State PageMove)
-steps_at doc u cs rooms room it = listed_with doc u (λ layout. ends_of cs (ends_in rooms room)) it.layout
+-- the steps to the ends in a room, by number with these picks, where a layout is that of the column
+abbrev pub steps_at : Document → State → List (List ℕ) → List RoomEnds → TextRoom → Laid → List (Step State PageMove)
+steps_at doc u ps rooms room it = listed_with doc u (λ layout. ends_of ps (ends_in rooms room)) it.layout
 
 -- those to the ends behind a front, in what the room of a layout leaves there
 abbrev pub steps_behind : Document → State → Option BehindFront → Laid → List (Step State PageMove)
 steps_behind doc u None it = []
 steps_behind doc u (Some behind) it =
     option_map_or
-    (λ (left : TextRoom). steps_at doc u behind.ends.walk.near.candidates behind.ends.rooms.items left it)
+    (λ (left : TextRoom). steps_at doc u behind.ends.walk.near.picks behind.ends.rooms.items left it)
     (room_behind behind it.room) []
 
 -- the steps to all ends that a place keeps in that room, where it is not below the least one
 abbrev pub all_steps_in : Document → State → PlaceEnds → Laid → List (Step State PageMove)
 all_steps_in doc u kept it =
     if has_text doc.style it.room
-    then steps_at doc u kept.walk.near.candidates kept.rooms.items it.room it ++ steps_behind doc u kept.behind it
+    then steps_at doc u kept.walk.near.picks kept.rooms.items it.room it ++ steps_behind doc u kept.behind it
     else []
 
 -- the steps of the columns of text with counts up to a ceiling, by the ends of each layout, but for some that are spared

@@ -9,6 +9,7 @@ ghost use Rattle.pg_rules.specs.IsState.{IsState};
 ghost use Rattle.pg_layouts.specs.Layouts.{move_of};
 ghost use Rattle.pg_list.specs.Flat.{is_same_place};
 ghost use Rattle.law_moves.specs.Steps.{fitness_cost as fitness_cost_of, kept_fitness as kept_fitness_of};
+ghost use Rattle.pg_style.specs.Ranges.{max_columns};
 ghost use Rattle.pg_small.specs.Parts.{whole};
 ghost use Rattle.pg_moves.specs.Columns.{IsBehindIt, IsLaid, MayEnd, doc_at, move_at, steps_to};
 ghost use Rattle.pg_moves.specs.Outdone.{AreSpared};
@@ -107,7 +108,7 @@ pub fn parts_behind<'a>(
     fitness: Option<u8>,
     ages: &'a Ages,
 ) -> StateParts<'a>
-    requires { state.now.column ≤ 2 }
+    requires { state.now.column ≤ max_columns }
     ensures { whole result ≡ state_behind_of style.now state.now laid.now to fitness ages.now }
 {
     let placed = &laid.after;
@@ -138,7 +139,7 @@ pub fn parts_behind<'a>(
 
 // The picks of an end's candidate.
 fn picks_to<'a>(column: &TextColumn<'a>, end: &RoomEnd) -> &'a [u32]
-    ensures { result.now ≡ picks_at column.now.near.now.candidates end.now.at }
+    ensures { result.now ≡ picks_at column.now.near.now.picks end.now.at }
 {
     match column.near.picks_of(end.at) {
         Some(picks) => picks.as_slice(),

@@ -9,7 +9,7 @@ ghost use Rattle.law_walk.specs.Candidates.{Candidate};
 ghost use Rattle.pg_sources.specs.Document.{counts_of, doc_of};
 ghost use Rattle.pg_rooms.specs.KeptLaid.{AreLayouts};
 ghost use Rattle.pg_rooms.specs.Laid.{laid_of};
-ghost use Rattle.pg_rooms.specs.PlaceEnds.{AreFrontEnds, ArePlaceEnds, AreRoomEnds, ends_in};
+ghost use Rattle.pg_rooms.specs.PlaceEnds.{AreFrontEndsOf, ArePlaceEnds, AreRoomEnds, ends_in};
 ghost use Rattle.pg_states.specs.Settling.{known_of};
 ghost use Rattle.pg_moves.specs.Columns.{IsLaid, doc_at, steps_to};
 ghost use Rattle.pg_moves.specs.Stepping.{AreTextSteps, all_steps_in, steps_behind};
@@ -41,7 +41,7 @@ fn add_kept<W: Wants<State = SmallState, Marks = PageMarks>>(
     requires known { column.now.known.now ≡ known_of (doc_at column.now) column.now.state.now }
     requires laid { IsLaid column.now }
     ensures { OnOk result ((all : List Candidate) →
-        AllByRecursion (AreRoomEnds (doc_at column.now) all column.now.near.now.candidates) rooms.now →
+        AllByRecursion (AreRoomEnds (doc_at column.now) all column.now.near.now.picks) rooms.now →
         Adds (W.spares wants.now) steps.old (steps_to column.now (ends_in rooms.now room.now)) steps.new) }
 {
     let (groups, ends) = room_in(rooms, room);
@@ -60,7 +60,8 @@ fn add_behind<W: Wants<State = SmallState, Marks = PageMarks>>(
     requires known { opening.now.known.now ≡ known_of (doc_of opening.now.sources.now) opening.now.state.now }
     requires laid { laid.now ≡ laid_of (doc_of opening.now.sources.now) opening.now.state.now laid.now.layout }
     requires room { IsRoom laid.now.room }
-    ensures { OnOk result (AreFrontEnds (doc_of opening.now.sources.now) behind.now.ends →
+    ensures { OnOk result ((all : List Candidate) →
+        AreFrontEndsOf (doc_of opening.now.sources.now) all behind.now.ends →
         Adds (W.spares wants.now) steps.old
         (steps_behind (doc_of opening.now.sources.now) opening.now.state.now (Some behind.now) laid.now) steps.new) }
 {

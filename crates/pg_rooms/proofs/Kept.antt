@@ -1,5 +1,5 @@
 -- What is kept of a place.
-use Rattle.std.proofs.Common.{Ok, Err, Result, ◌≡◌, refl, sym, ap, subst, ◌∙◌, ℕ, zero, suc, ◌+◌, ◌<◌, true, false, Bool, ℤ, pos, ◌+ℤ◌, ◌-ℤ◌, ◌≤ℤ◌, arith, get_or, append-nil, Option, Some, None, IfSome}
+use Rattle.std.proofs.Common.{Ok, Err, Result, ◌≡◌, refl, sym, ap, subst, ◌∙◌, ℕ, zero, suc, ◌+◌, ◌<◌, true, false, Bool, ℤ, pos, ◌+ℤ◌, ◌-ℤ◌, ◌≤ℤ◌, arith, get_or, append-nil, Option, Some, None, IfSome, not}
 use Rattle.std.specs.Prelude.{◌&&◌, List, [], ◌∷◌, ◌++◌, length, map, take, if◌then◌else◌, is_some, Contains, OnOk}
 use Rattle.std.specs.Option.{option_map_or}
 use Rattle.std.proofs.lemmas.Int.{ints}
@@ -23,7 +23,7 @@ use Rattle.pg_rules.specs.Room.{Document}
 use Rattle.pg_style.specs.Ranges.{IsStyle}
 use Rattle.pg_style.specs.Values.{StyleValue}
 use Rattle.pg_style.specs.declared.style.Gap.{Gap}
-use Rattle.pg_walk.specs.Fronts.{AreApart, IsFrontWalk}
+use Rattle.pg_walk.specs.Fronts.{AreApart, IsFrontWalk, IsFrontWalkOf}
 use Rattle.pg_walk.specs.Straight.{AreStraight, Tells, straight_candidates, tallest_room}
 use Rattle.pg_walk.specs.Moved.{moved_candidate}
 use Rattle.pg_walk.proofs.Lifted.{among_map, origin_of}
@@ -37,14 +37,14 @@ use Rattle.law_walk.specs.Laws.{CandidatesGiveEnds}
 use Rattle.law_walk.specs.Reached.{tallest}
 use Rattle.law_walk.proofs.BestLaws.{none_best}
 use Rattle.law_walk.proofs.Ends.{kept_all, kept_none}
-use Rattle.pg_candidates.specs.Nears.{AreNear, AreNearOnPages, NearsValue}
+use Rattle.pg_candidates.specs.Nears.{AreNearOnPages, NearsValue}
 use Rattle.pg_candidates.specs.RoomEnds.{ends_of}
 use Rattle.pg_candidates.specs.declared.room_end.RoomEnd.{RoomEnd}
 use Rattle.pg_rooms.proofs.Grouped.{all_more}
 use Rattle.pg_rooms.specs.Calls.{AreCalls}
 use Rattle.pg_rooms.proofs.Higher.{kept_moved, lower_room, none_moved}
 use Rattle.pg_rooms.proofs.Joined.{best_append, kept_apart, kept_append}
-use Rattle.pg_rooms.specs.PlaceEnds.{AreFirst, AreFrontEnds, AreGroups, ArePlaceEnds, AreRoomEnds, IsNearOnPages, IsPageRoom, IsSameBehind, all_ends, behind_candidates, ends_behind, ends_in, ends_left, groups_in, has_behind, has_room, higher_end, is_same_room, room_behind}
+use Rattle.pg_rooms.specs.PlaceEnds.{AreFirst, AreFrontEnds, AreFrontEndsOf, AreGroups, ArePlaceEnds, AreRoomEnds, IsNearOnPages, IsPageRoom, IsSameBehind, all_ends, behind_candidates, ends_behind, ends_in, ends_left, groups_in, has_behind, has_room, higher_end, is_same_room, room_behind}
 use Rattle.pg_rooms.specs.declared.calls.Calls.{Calls}
 use Rattle.pg_rooms.specs.declared.grouping.Group.{Group}
 use Rattle.pg_rooms.specs.declared.behind.Behind.{Behind}
@@ -107,11 +107,11 @@ has_still rooms now it room push h =
     subst (λ (xs : List RoomEnds). has_room xs room ≡ true) (sym push) (has_front rooms (it ∷ []) room h)
 
 -- with it all ends are right
-pub rooms_added : (doc : Document) (cs listed : List Candidate) (old now : List RoomEnds) (it : RoomEnds) →
-    now ≡ old ++ it ∷ [] → AllByRecursion (AreRoomEnds doc cs listed) old → AreRoomEnds doc cs listed it →
-    AllByRecursion (AreRoomEnds doc cs listed) now
-rooms_added doc cs listed old now it push are own = subst (AllByRecursion (AreRoomEnds doc cs listed)) (sym push)
-    (all_append (AreRoomEnds doc cs listed) old (it ∷ []) are (own, tt))
+pub rooms_added : (doc : Document) (cs : List Candidate) (ps : List (List ℕ)) (old now : List RoomEnds) (it : RoomEnds) →
+    now ≡ old ++ it ∷ [] → AllByRecursion (AreRoomEnds doc cs ps) old → AreRoomEnds doc cs ps it →
+    AllByRecursion (AreRoomEnds doc cs ps) now
+rooms_added doc cs ps old now it push are own = subst (AllByRecursion (AreRoomEnds doc cs ps)) (sym push)
+    (all_append (AreRoomEnds doc cs ps) old (it ∷ []) are (own, tt))
 
 -- ---- the rooms of layouts
 
@@ -135,8 +135,8 @@ asked_more P Q laid i it less is all own keeps =
 -- ---- what is kept of a place before any room is asked for
 
 -- what is kept behind a front, where something is
-abbrev pub AreBehind : Document → Option Behind → Type 0
-AreBehind doc o = IfSome o (λ (behind : Behind). AreFrontEnds doc behind.ends)
+abbrev pub AreBehind : Document → List Candidate → Option Behind → Type 0
+AreBehind doc cs o = IfSome o (λ (behind : Behind). AreFrontEndsOf doc cs behind.ends)
 
 -- a walk is, with the calls of any places
 pub begun : (doc : Document) (from : Place) (it : PlaceEnds) (walk : PlaceWalk) (calls : Calls) → it.walk ≡ walk →
@@ -144,31 +144,27 @@ pub begun : (doc : Document) (from : Place) (it : PlaceEnds) (walk : PlaceWalk) 
     AreNearOnPages doc from walk.near → AreCalls doc calls.items.items → ArePlaceEnds doc from it
 begun doc from it walk calls w f r k b near are = record {
   first = near.candidates;
+  later = [];
   are_first = subst (λ (x : PlaceWalk). AreFirst doc from near.candidates it.is_straight x.near) (sym w)
-      (subst (λ (is_straight : Bool). AreFirst doc from near.candidates is_straight walk.near) (sym f)
-      (sym near.near.same, own));
+      (subst (λ (is_straight : Bool). AreFirst doc from near.candidates is_straight walk.near) (sym f) near.near);
   candidates = subst (λ (o : Option Behind).
-      AreCandidates doc from (tallest doc.style) (near.candidates ++ behind_candidates o)) (sym b)
+      AreCandidates doc from (tallest doc.style) (near.candidates ++ behind_candidates o [])) (sym b)
       (subst (AreCandidates doc from (tallest doc.style)) (sym (append-nil near.candidates)) near.found);
-  apart = λ c d a e. absurd (subst (λ (o : Option Behind). IsAmong d (behind_candidates o)) b e);
-  rooms = subst (AllByRecursion (AreRoomEnds doc near.candidates it.walk.near.candidates)) (sym r) tt;
-  behind = subst (AreBehind doc) (sym b) tt;
+  apart = λ c d a e. absurd (subst (λ (o : Option Behind). IsAmong d (behind_candidates o [])) b e);
+  rooms = subst (AllByRecursion (AreRoomEnds doc near.candidates it.walk.near.picks)) (sym r) tt;
+  behind = subst (AreBehind doc []) (sym b) tt;
   calls = subst (λ (kept : Calls). AreCalls doc kept.items.items) (sym k) are;
 }
-  where
-    own : IsNearOnPages doc walk.near
-    own = subst (λ (cs : List Candidate). AreNear doc (greatest_areas gap_stretch doc.style) cs walk.near)
-        (sym near.near.same) near.near
 
 -- what the first stretch tells of its ends
 pub told_first : (doc : Document) (from : Place) (cs : List Candidate) (first : FirstWalk) → Tells doc from cs first →
     AreFirst doc from cs (is_some first.straight) first.near
 told_first doc from cs first tells = by first.straight refl tells.straight
   where
-    by : (o : Option StraightEnds) → first.straight ≡ o → IfSome o (λ it. (first.near.candidates ≡ [])
+    by : (o : Option StraightEnds) → first.straight ≡ o → IfSome o (λ it. (first.near.picks ≡ [])
         × ((cs ≡ straight_candidates doc from) × ((it.room ≡ tallest_room doc.style) × AreStraight doc from it))) →
         AreFirst doc from cs (is_some o) first.near
-    by None e told = (sym (tells.near e).0, (tells.near e).1)
+    by None e told = tells.near e
     by (Some it) e told = (told.1.0, told.0)
 
 -- and in the one room of the style
@@ -176,15 +172,15 @@ pub told_rooms : (doc : Document) (from : Place) (cs : List Candidate) (first : 
     Tells doc from cs first → (first.straight ≡ None → rooms ≡ []) →
     (IfSome first.straight (λ it. (it.room ≡ tallest_room doc.style)
     × AreBest (text_ends doc it.room cs) (ends_of [] it.ends.items)) → AllByRecursion (AreRoomEnds doc cs []) rooms) →
-    AllByRecursion (AreRoomEnds doc cs first.near.candidates) rooms
+    AllByRecursion (AreRoomEnds doc cs first.near.picks) rooms
 told_rooms doc from cs first rooms tells none are = by first.straight refl tells.straight
   where
-    by : (o : Option StraightEnds) → first.straight ≡ o → IfSome o (λ it. (first.near.candidates ≡ [])
+    by : (o : Option StraightEnds) → first.straight ≡ o → IfSome o (λ it. (first.near.picks ≡ [])
         × ((cs ≡ straight_candidates doc from) × ((it.room ≡ tallest_room doc.style) × AreStraight doc from it))) →
-        AllByRecursion (AreRoomEnds doc cs first.near.candidates) rooms
-    by None e told = subst (AllByRecursion (AreRoomEnds doc cs first.near.candidates)) (sym (none e)) tt
+        AllByRecursion (AreRoomEnds doc cs first.near.picks) rooms
+    by None e told = subst (AllByRecursion (AreRoomEnds doc cs first.near.picks)) (sym (none e)) tt
     by (Some it) e told =
-        subst (λ (listed : List Candidate). AllByRecursion (AreRoomEnds doc cs listed) rooms) (sym told.0)
+        subst (λ (ps : List (List ℕ)). AllByRecursion (AreRoomEnds doc cs ps) rooms) (sym told.0)
         (are (subst (λ (o : Option StraightEnds). IfSome o (λ x. (x.room ≡ tallest_room doc.style)
         × AreBest (text_ends doc x.room cs) (ends_of [] x.ends.items))) (sym e) (
           told.1.1.0,
@@ -223,15 +219,15 @@ tallest_is_page style style_in room e = subst (IsPageRoom style) (sym e) (record
         let all = skips_to gap_shrink shrink_part [] style.classes style_in.classes_in.each in
         over _ _ all
 
--- where the ends are found room by room, none is listed
+-- where the ends are found room by room, no picks are listed
 pub straight_of : (doc : Document) (from : Place) (cs : List Candidate) (b : Bool) (near : NearsValue) → b ≡ true →
-    AreFirst doc from cs b near → (cs ≡ straight_candidates doc from) × (near.candidates ≡ [])
+    AreFirst doc from cs b near → (cs ≡ straight_candidates doc from) × (near.picks ≡ [])
 straight_of doc from cs true near e a = a
 straight_of doc from cs false near e a = absurd cc
 
--- and where they are not, all are
+-- and where they are not, what no room changes of each is
 pub listed_of : (doc : Document) (from : Place) (cs : List Candidate) (b : Bool) (near : NearsValue) → b ≡ false →
-    AreFirst doc from cs b near → (cs ≡ near.candidates) × IsNearOnPages doc near
+    AreFirst doc from cs b near → IsNearOnPages doc cs near
 listed_of doc from cs true near e a = absurd cc
 listed_of doc from cs false near e a = a
 
@@ -239,23 +235,28 @@ listed_of doc from cs false near e a = a
 pub front_begun : (doc : Document) (it : FrontEnds) (walk : FrontWalk) → it.walk ≡ walk → it.rooms.items ≡ [] →
     IsFrontWalk doc walk → AreFrontEnds doc it
 front_begun doc it walk w r is = record {
-  walk = subst (IsFrontWalk doc) (sym w) is;
-  rooms = subst (AllByRecursion (AreRoomEnds doc it.walk.near.candidates it.walk.near.candidates)) (sym r) tt;
+  candidates = is.candidates;
+  are = record {
+    walk = subst (IsFrontWalkOf doc is.candidates) (sym w) is.are;
+    rooms = subst (AllByRecursion (AreRoomEnds doc is.candidates it.walk.near.picks)) (sym r) tt;
+  };
 }
 
 -- with rooms asked for there is still the same behind the front
 pub still_kept : (doc : Document) (from : Place) (old new : PlaceEnds) → new.walk ≡ old.walk →
-    new.is_straight ≡ old.is_straight → behind_candidates new.behind ≡ behind_candidates old.behind →
-    (are : ArePlaceEnds doc from old) → AllByRecursion (AreRoomEnds doc are.first old.walk.near.candidates) new.rooms.items →
-    AreBehind doc new.behind → AreCalls doc new.calls.items.items → ArePlaceEnds doc from new
+    new.is_straight ≡ old.is_straight →
+    ((cs : List Candidate) → behind_candidates new.behind cs ≡ behind_candidates old.behind cs) →
+    (are : ArePlaceEnds doc from old) → AllByRecursion (AreRoomEnds doc are.first old.walk.near.picks) new.rooms.items →
+    AreBehind doc are.later new.behind → AreCalls doc new.calls.items.items → ArePlaceEnds doc from new
 still_kept doc from old new w f b are rooms behind calls = record {
   first = are.first;
+  later = are.later;
   are_first = subst (λ (x : PlaceWalk). AreFirst doc from are.first new.is_straight x.near) (sym w)
       (subst (λ (is_straight : Bool). AreFirst doc from are.first is_straight old.walk.near) (sym f) are.are_first);
-  candidates = subst (λ (ds : List Candidate). AreCandidates doc from (tallest doc.style) (are.first ++ ds)) (sym b)
-      are.candidates;
-  apart = subst (AreApart are.first) (sym b) are.apart;
-  rooms = subst (λ (x : PlaceWalk). AllByRecursion (AreRoomEnds doc are.first x.near.candidates) new.rooms.items) (sym w)
+  candidates = subst (λ (ds : List Candidate). AreCandidates doc from (tallest doc.style) (are.first ++ ds))
+      (sym (b are.later)) are.candidates;
+  apart = subst (AreApart are.first) (sym (b are.later)) are.apart;
+  rooms = subst (λ (x : PlaceWalk). AllByRecursion (AreRoomEnds doc are.first x.near.picks) new.rooms.items) (sym w)
       rooms;
   behind = behind;
   calls = calls;
@@ -286,12 +287,13 @@ left_page style room left it up e page = subst (IsPageRoom style) (left_is it ro
     low size shrink by top u l = omega (arith, ints, u, l)
 
 -- with more rooms asked for there the same candidates stand behind the front
-pub same_candidates : (a b : Behind) → IsSameBehind a b → behind_candidates (Some b) ≡ behind_candidates (Some a)
-same_candidates a b s = same _ _ _ _ _ _ s.by s.bound (ap (λ (walk : FrontWalk). walk.near.candidates) s.walk)
+pub same_candidates : (a b : Behind) → IsSameBehind a b → (cs : List Candidate) →
+    behind_candidates (Some b) cs ≡ behind_candidates (Some a) cs
+same_candidates a b s cs = same _ _ _ _ s.by s.bound
   where
-    same : (m n : ℤ) (o p : Option ℤ) (cs ds : List Candidate) → m ≡ n → o ≡ p → cs ≡ ds →
-        map (moved_candidate m o) cs ≡ map (moved_candidate n p) ds
-    same m n o p cs ds e f g = rw (e, f, g) refl
+    same : (m n : ℤ) (o p : Option ℤ) → m ≡ n → o ≡ p →
+        map (moved_candidate m o) cs ≡ map (moved_candidate n p) cs
+    same m n o p e f = rw (e, f) refl
 
 -- the ends of candidates with more height before them are the best, where the ends in the lower room are
 best_higher : (by : ℤ) (es bs : List End) → AreBest es bs → AreBest (map (higher_end by) es) (map (higher_end by) bs)
@@ -332,55 +334,55 @@ joined doc room cs ds bs es apart first rest =
     (kept_apart doc room cs ds apart))
 
 -- in a room that is kept of some candidates
-pub room_best : (doc : Document) (cs listed : List Candidate) (rooms : List RoomEnds) (room : TextRoom) →
-    AllByRecursion (AreRoomEnds doc cs listed) rooms → has_room rooms room ≡ true →
-    AreBest (text_ends doc room cs) (ends_of listed (ends_in rooms room))
-room_best doc cs listed [] room all h = absurd cc
-room_best doc cs listed (first ∷ rooms) room all h = by_bool (is_same_room first.room room)
+pub room_best : (doc : Document) (cs : List Candidate) (ps : List (List ℕ)) (rooms : List RoomEnds) (room : TextRoom) →
+    AllByRecursion (AreRoomEnds doc cs ps) rooms → has_room rooms room ≡ true →
+    AreBest (text_ends doc room cs) (ends_of ps (ends_in rooms room))
+room_best doc cs ps [] room all h = absurd cc
+room_best doc cs ps (first ∷ rooms) room all h = by_bool (is_same_room first.room room)
     (λ t. subst AreOf (sym (if_true (is_same_room first.room room) first.ends.items (ends_in rooms room) t))
-    (subst (λ (z : TextRoom). AreBest (text_ends doc z cs) (ends_of listed first.ends.items))
+    (subst (λ (z : TextRoom). AreBest (text_ends doc z cs) (ends_of ps first.ends.items))
     (same_is first.room room t) all.0.best))
     (λ f. subst AreOf (sym (if_false (is_same_room first.room room) first.ends.items (ends_in rooms room) f))
-    (room_best doc cs listed rooms room all.1
+    (room_best doc cs ps rooms room all.1
     (sym (if_false (is_same_room first.room room) true (has_room rooms room) f) ∙ h)))
   where
     AreOf : List RoomEnd → Type 0
-    AreOf ends = AreBest (text_ends doc room cs) (ends_of listed ends)
+    AreOf ends = AreBest (text_ends doc room cs) (ends_of ps ends)
 
 module _ (doc : Document) (room : TextRoom) (text : has_text doc.style room ≡ true) where
-  left_best : (it : Behind) → AreFrontEnds doc it.ends → has_behind (Some it) room ≡ true →
-      AreBest (kept_ends doc room (behind_candidates (Some it))) (ends_behind (Some it) room)
-  left_best it are h = by_bool (fits it.bound (most_room room))
+  left_best : (cs : List Candidate) (it : Behind) → AreFrontEndsOf doc cs it.ends → has_behind (Some it) room ≡ true →
+      AreBest (kept_ends doc room (behind_candidates (Some it) cs)) (ends_behind (Some it) room)
+  left_best cs it are h = by_bool (fits it.bound (most_room room))
       (λ f.
       let left = if_true (fits it.bound (most_room room)) (Some (lower_room it.by room)) None f in
-      subst (AreBest (kept_ends doc room (behind_candidates (Some it)))) (sym (ap (λ (o : Option TextRoom).
+      subst (AreBest (kept_ends doc room (behind_candidates (Some it) cs))) (sym (ap (λ (o : Option TextRoom).
       option_map_or (λ (r : TextRoom). map (higher_end it.by) (ends_left it r)) o []) left))
       (subst (λ (es : List End). AreBest es (map (higher_end it.by) (ends_left it (lower_room it.by room))))
-      (sym (kept_moved doc room it.by it.bound text f it.ends.walk.near.candidates))
-      (best_higher it.by _ _ (room_best doc it.ends.walk.near.candidates it.ends.walk.near.candidates it.ends.rooms.items
+      (sym (kept_moved doc room it.by it.bound text f cs))
+      (best_higher it.by _ _ (room_best doc cs it.ends.walk.near.picks it.ends.rooms.items
       (lower_room it.by room) are.rooms (sym (ap (λ (o : Option TextRoom). option_map_or (has_room it.ends.rooms.items) o true) left) ∙ h)))))
       (λ f.
       let left = if_false (fits it.bound (most_room room)) (Some (lower_room it.by room)) None f in
-      subst (AreBest (kept_ends doc room (behind_candidates (Some it)))) (sym (ap (λ (o : Option TextRoom).
+      subst (AreBest (kept_ends doc room (behind_candidates (Some it) cs))) (sym (ap (λ (o : Option TextRoom).
       option_map_or (λ (r : TextRoom). map (higher_end it.by) (ends_left it r)) o []) left))
       (subst (λ (es : List End). AreBest es [])
-      (sym (none_moved doc room it.by it.bound text f it.ends.walk.near.candidates)) none_best))
+      (sym (none_moved doc room it.by it.bound text f cs)) none_best))
 
-  behind_best : (o : Option Behind) → AreBehind doc o → has_behind o room ≡ true →
-      AreBest (kept_ends doc room (behind_candidates o)) (ends_behind o room)
-  behind_best None are h = none_best
-  behind_best (Some it) are h = left_best it are h
+  behind_best : (cs : List Candidate) (o : Option Behind) → AreBehind doc cs o → has_behind o room ≡ true →
+      AreBest (kept_ends doc room (behind_candidates o cs)) (ends_behind o room)
+  behind_best cs None are h = none_best
+  behind_best cs (Some it) are h = left_best cs it are h
 
   both_best : (from : Place) (it : PlaceEnds) (are : ArePlaceEnds doc from it) → has_room it.rooms.items room ≡ true →
       has_behind it.behind room ≡ true →
-      AreBest (kept_ends doc room (are.first ++ behind_candidates it.behind))
-      (ends_of it.walk.near.candidates (ends_in it.rooms.items room) ++ ends_behind it.behind room)
+      AreBest (kept_ends doc room (are.first ++ behind_candidates it.behind are.later))
+      (ends_of it.walk.near.picks (ends_in it.rooms.items room) ++ ends_behind it.behind room)
   both_best from it are h b =
-      joined doc room are.first (behind_candidates it.behind) _ _ are.apart
-      (subst (λ (es : List End). AreBest es (ends_of it.walk.near.candidates (ends_in it.rooms.items room)))
+      joined doc room are.first (behind_candidates it.behind are.later) _ _ are.apart
+      (subst (λ (es : List End). AreBest es (ends_of it.walk.near.picks (ends_in it.rooms.items room)))
       (sym (kept_all doc room text are.first))
-      (room_best doc are.first it.walk.near.candidates it.rooms.items room are.rooms h))
-      (behind_best it.behind are.behind b)
+      (room_best doc are.first it.walk.near.picks it.rooms.items room are.rooms h))
+      (behind_best are.later it.behind are.behind b)
 
 -- all ends in a room that was asked for, where it is not below the least one
 pub room_right : (doc : Document) → CandidatesGiveEnds doc → (from : Place) (it : PlaceEnds) (room : TextRoom) →
@@ -389,26 +391,26 @@ pub room_right : (doc : Document) → CandidatesGiveEnds doc → (from : Place) 
     (has_text doc.style room ≡ true → has_behind it.behind room ≡ true) →
     AreEnds doc from room (all_ends doc.style it room)
 room_right doc law from it room page are h b =
-    law from (tallest doc.style) room (are.first ++ behind_candidates it.behind)
+    law from (tallest doc.style) room (are.first ++ behind_candidates it.behind are.later)
     (all_ends doc.style it room) page.low are.candidates
     (by_bool (has_text doc.style room)
-    (λ t. subst (AreBest (kept_ends doc room (are.first ++ behind_candidates it.behind)))
+    (λ t. subst (AreBest (kept_ends doc room (are.first ++ behind_candidates it.behind are.later)))
     (sym (if_true (has_text doc.style room)
-    (ends_of it.walk.near.candidates (ends_in it.rooms.items room) ++ ends_behind it.behind room) [] t))
+    (ends_of it.walk.near.picks (ends_in it.rooms.items room) ++ ends_behind it.behind room) [] t))
     (both_best doc room t from it are (h t) (b t)))
-    (λ f. subst (AreBest (kept_ends doc room (are.first ++ behind_candidates it.behind)))
+    (λ f. subst (AreBest (kept_ends doc room (are.first ++ behind_candidates it.behind are.later)))
     (sym (if_false (has_text doc.style room)
-    (ends_of it.walk.near.candidates (ends_in it.rooms.items room) ++ ends_behind it.behind room) [] f))
+    (ends_of it.walk.near.picks (ends_in it.rooms.items room) ++ ends_behind it.behind room) [] f))
     (subst (λ (es : List End). AreBest es [])
-    (sym (kept_none doc room f (are.first ++ behind_candidates it.behind))) none_best)))
+    (sym (kept_none doc room f (are.first ++ behind_candidates it.behind are.later))) none_best)))
 
 -- the groups of ends, also where the room is not kept
-pub groups_right : (doc : Document) (cs listed : List Candidate) (rooms : List RoomEnds) (room : TextRoom) →
-    AllByRecursion (AreRoomEnds doc cs listed) rooms → AreGroups doc (groups_in rooms room) (ends_in rooms room)
-groups_right doc cs listed [] room all = refl
-groups_right doc cs listed (first ∷ rooms) room all = either (is_same_room first.room room) first.groups.items
+pub groups_right : (doc : Document) (cs : List Candidate) (ps : List (List ℕ)) (rooms : List RoomEnds) (room : TextRoom) →
+    AllByRecursion (AreRoomEnds doc cs ps) rooms → AreGroups doc (groups_in rooms room) (ends_in rooms room)
+groups_right doc cs ps [] room all = refl
+groups_right doc cs ps (first ∷ rooms) room all = either (is_same_room first.room room) first.groups.items
     (groups_in rooms room) first.ends.items (ends_in rooms room) all.0.groups
-    (groups_right doc cs listed rooms room all.1)
+    (groups_right doc cs ps rooms room all.1)
   where
     either : (b : Bool) (gs hs : List Group) (xs ys : List RoomEnd) → AreGroups doc gs xs → AreGroups doc hs ys →
         AreGroups doc (if b then gs else hs) (if b then xs else ys)
@@ -419,6 +421,11 @@ groups_right doc cs listed (first ∷ rooms) room all = either (is_same_room fir
 pub on_both : {T E P Q R : Type 0} (r : Result T E) → (P → Q → R) → OnOk r P → OnOk r Q → OnOk r R
 on_both (Ok x) f p q = f p q
 on_both (Err e) f p q = tt
+
+-- what has nothing is none
+pub none_by : {X : Type 0} (o : Option X) (r : Bool) → is_some o ≡ not r → r ≡ true → o ≡ None
+none_by None r e t = refl
+none_by (Some x) r e t = absurd cc
 
 -- and three
 pub on_three : {T E P Q R S : Type 0} (r : Result T E) → (P → Q → R → S) → OnOk r P → OnOk r Q → OnOk r R → OnOk r S

@@ -1,5 +1,5 @@
 -- The ends of columns of text from a place, room by room.
-use Rattle.std.specs.Prelude.{◌≡◌, ◌&&◌, ◌≤ℤ◌, ◌+ℤ◌, ◌-ℤ◌, Bool, true, false, if◌then◌else◌, List, [], ◌∷◌, ◌++◌, map, take, drop, Option, Some, None, IfSome, ℤ}
+use Rattle.std.specs.Prelude.{◌≡◌, ◌&&◌, ◌≤ℤ◌, ◌+ℤ◌, ◌-ℤ◌, ℕ, Bool, true, false, if◌then◌else◌, List, [], ◌∷◌, ◌++◌, map, take, drop, Option, Some, None, IfSome, ℤ}
 use Rattle.std.specs.List.{AllByRecursion}
 use Rattle.std.specs.Option.{option_map_or}
 use Rattle.std.specs.Ordering.{int_eq}
@@ -19,7 +19,7 @@ use Rattle.pg_candidates.specs.Nears.{AreNear, IsWithin, NearsValue}
 use Rattle.pg_candidates.specs.RoomEnds.{ends_of}
 use Rattle.pg_candidates.specs.declared.room_end.RoomEnd.{RoomEnd}
 use Rattle.pg_sources.specs.Document.{before_of}
-use Rattle.pg_walk.specs.Fronts.{AreApart, IsFrontWalk}
+use Rattle.pg_walk.specs.Fronts.{AreApart, IsFrontWalkOf}
 use Rattle.pg_walk.specs.Moved.{moved_candidate}
 use Rattle.pg_walk.specs.Straight.{straight_candidates}
 use Rattle.pg_rooms.specs.Calls.{AreCalls}
@@ -42,26 +42,31 @@ AreGroups doc (group ∷ groups) ends =
     AllByRecursion (λ (end : RoomEnd). group.before ≡ before_of doc end.to) (take group.count ends)
     × AreGroups doc groups (drop group.count ends)
 
--- what no room changes of a list's candidates, for the rooms of all pages
-abbrev pub IsNearOnPages : Document → NearsValue → Type 0
-IsNearOnPages doc near = AreNear doc (greatest_areas gap_stretch doc.style) near.candidates near
+-- what no room changes of these candidates, for the rooms of all pages
+abbrev pub IsNearOnPages : Document → List Candidate → NearsValue → Type 0
+IsNearOnPages doc cs near = AreNear doc (greatest_areas gap_stretch doc.style) cs near
 
 -- the best ends of these candidates in a room of a page or in what one leaves, with picks by number from a list, and their
 -- groups
-pub record AreRoomEnds (doc : Document) (cs listed : List Candidate) (it : RoomEnds) : Type 0 where
+pub record AreRoomEnds (doc : Document) (cs : List Candidate) (ps : List (List ℕ)) (it : RoomEnds) : Type 0 where
   pub page : IsPageRoom doc.style it.room
-  pub best : AreBest (text_ends doc it.room cs) (ends_of listed it.ends.items)
+  pub best : AreBest (text_ends doc it.room cs) (ends_of ps it.ends.items)
   pub groups : AreGroups doc it.groups.items it.ends.items
 
--- what is kept behind a front: its walk, and the ends in some rooms
-pub record AreFrontEnds (doc : Document) (it : FrontEnds) : Type 0 where
-  pub walk : IsFrontWalk doc it.walk
-  pub rooms : AllByRecursion (AreRoomEnds doc it.walk.near.candidates it.walk.near.candidates) it.rooms.items
+-- what is kept behind a front: the walk to these candidates, and the ends in some rooms
+pub record AreFrontEndsOf (doc : Document) (cs : List Candidate) (it : FrontEnds) : Type 0 where
+  pub walk : IsFrontWalkOf doc cs it.walk
+  pub rooms : AllByRecursion (AreRoomEnds doc cs it.walk.near.picks) it.rooms.items
 
--- its candidates, as columns from a place come there
-abbrev pub behind_candidates : Option Behind → List Candidate
-behind_candidates None = []
-behind_candidates (Some it) = map (moved_candidate it.by it.bound) it.ends.walk.near.candidates
+-- to some candidates
+pub record AreFrontEnds (doc : Document) (it : FrontEnds) : Type 0 where
+  pub candidates : List Candidate
+  pub are : AreFrontEndsOf doc candidates it
+
+-- these candidates, as columns from a place come there
+abbrev pub behind_candidates : Option Behind → List Candidate → List Candidate
+behind_candidates None cs = []
+behind_candidates (Some it) cs = map (moved_candidate it.by it.bound) cs
 
 -- the same walk behind a front, to which columns come alike
 pub record IsSameBehind (a b : Behind) : Type 0 where
@@ -70,20 +75,21 @@ pub record IsSameBehind (a b : Behind) : Type 0 where
   pub bound : b.bound ≡ a.bound
 
 -- candidates from a place up to the first choice: those that are listed with what no room changes of each, or, where the ends
--- are found room by room, all along the first stretch, and none is listed
+-- are found room by room, all along the first stretch, and no picks are listed
 abbrev pub AreFirst : Document → Place → List Candidate → Bool → NearsValue → Type 0
-AreFirst doc from cs true near = (cs ≡ straight_candidates doc from) × (near.candidates ≡ [])
-AreFirst doc from cs false near = (cs ≡ near.candidates) × IsNearOnPages doc near
+AreFirst doc from cs true near = (cs ≡ straight_candidates doc from) × (near.picks ≡ [])
+AreFirst doc from cs false near = IsNearOnPages doc cs near
 
 -- what a place keeps: candidates that suffice, those behind the front last, the ends in some rooms, and what is called
 -- before them
 pub record ArePlaceEnds (doc : Document) (from : Place) (it : PlaceEnds) : Type 0 where
   pub first : List Candidate
+  pub later : List Candidate
   pub are_first : AreFirst doc from first it.is_straight it.walk.near
-  pub candidates : AreCandidates doc from (tallest doc.style) (first ++ behind_candidates it.behind)
-  pub apart : AreApart first (behind_candidates it.behind)
-  pub rooms : AllByRecursion (AreRoomEnds doc first it.walk.near.candidates) it.rooms.items
-  pub behind : IfSome it.behind (λ (behind : Behind). AreFrontEnds doc behind.ends)
+  pub candidates : AreCandidates doc from (tallest doc.style) (first ++ behind_candidates it.behind later)
+  pub apart : AreApart first (behind_candidates it.behind later)
+  pub rooms : AllByRecursion (AreRoomEnds doc first it.walk.near.picks) it.rooms.items
+  pub behind : IfSome it.behind (λ (behind : Behind). AreFrontEndsOf doc later behind.ends)
   pub calls : AreCalls doc it.calls.items.items
 
 -- the same size, beside gaps that give the same
@@ -125,7 +131,7 @@ higher_end by end =
 
 -- the ends behind the front in what a room leaves there
 abbrev pub ends_left : Behind → TextRoom → List End
-ends_left it left = ends_of it.ends.walk.near.candidates (ends_in it.ends.rooms.items left)
+ends_left it left = ends_of it.ends.walk.near.picks (ends_in it.ends.rooms.items left)
 
 -- those in the room
 abbrev pub ends_behind : Option Behind → TextRoom → List End
@@ -137,5 +143,5 @@ ends_behind (Some it) room =
 abbrev pub all_ends : StyleValue → PlaceEnds → TextRoom → List End
 all_ends style it room =
     if has_text style room
-    then ends_of it.walk.near.candidates (ends_in it.rooms.items room) ++ ends_behind it.behind room
+    then ends_of it.walk.near.picks (ends_in it.rooms.items room) ++ ends_behind it.behind room
     else []

@@ -1,5 +1,5 @@
 //! Ends in groups before which, and before whose barriers, the same floats are called.
-ghost use Rattle.std.specs.Prelude.{◌≡◌, ◌≤◌, true, IfOk, OnOk, length, take};
+ghost use Rattle.std.specs.Prelude.{◌≡◌, ◌≤◌, [], true, IfOk, OnOk, length, take};
 ghost use Rattle.std.specs.List.{AllByRecursion};
 ghost use Rattle.pg_candidates.specs.declared.room_end.RoomEnd.{RoomEnd as ARoomEnd};
 ghost use Rattle.pg_rules.specs.Floats.{float_numbers};
@@ -56,12 +56,18 @@ fn has_no_class(slots: usize) -> bool
     slots == 0
 }
 
-// All ends as one group, where the style has no class of floats. No group where there are no ends.
-fn group_all(sources: &Sources<'_>, ends: &[RoomEnd]) -> Result<Vec<Group>, AllocError>
-    requires { length (float_numbers sources.now.style.now) ≡ 0 }
+// All ends as one group, where the style has no class of floats. No group where there are no ends. Groups are kept in a list
+// that has none yet.
+fn group_all(
+    sources: &Sources<'_>,
+    ends: &[RoomEnd],
+    none: Vec<Group>,
+) -> Result<Vec<Group>, AllocError>
+    requires classes { length (float_numbers sources.now.style.now) ≡ 0 }
+    requires none { none.items ≡ [] }
     ensures { IfOk result (λ groups. AreGroups (doc_of sources.now) groups.items ends.now) }
 {
-    let mut groups = Vec::new(sources.alloc);
+    let mut groups = none;
     if ends.is_empty() {
         return Ok(groups);
     }
@@ -85,22 +91,24 @@ fn first_call(calls: &[Call], ends: &[RoomEnd]) -> usize {
 }
 
 /// Ends in groups: as many as follow one another with the same floats called before them are one. What is called before
-/// them is kept, but where the style has no class of floats: all ends are then one group, and nothing is counted. The
-/// one refusal is want of memory.
+/// them is kept, but where the style has no class of floats: all ends are then one group, and nothing is counted. Groups are
+/// kept in a list that has none yet. The one refusal is want of memory.
 pub(crate) fn group_ends(
     sources: &Sources<'_>,
     calls: &mut Calls,
     ends: &[RoomEnd],
+    none: Vec<Group>,
 ) -> Result<Vec<Group>, AllocError>
+    requires { none.items ≡ [] }
     ensures groups { IfOk result (λ groups. AreCalls (doc_of sources.now) calls.old.items.items →
         AreGroups (doc_of sources.now) groups.items ends.now) }
     ensures calls { OnOk result (AreCalls (doc_of sources.now) calls.old.items.items →
         AreCalls (doc_of sources.now) calls.new.items.items) }
 {
     if has_no_class(sources.slots()) {
-        return group_all(sources, ends);
+        return group_all(sources, ends, none);
     }
-    let mut groups = Vec::new(sources.alloc);
+    let mut groups = none;
     let mut rest = ends;
     calls.at = first_call(calls.items.as_slice(), ends);
     'groups: while let [first, after @ ..] = rest {

@@ -24,7 +24,8 @@ pub struct KeptLaid {
 }
 
 /// The layouts of columns of text, and those of columns without text, behind the states for which they were asked last.
-/// They depend on a state's column, run, wide area and placed floats alone, so that states of many places share them.
+/// They depend on a state's column, run, wide area and placed floats, and on the ceiling, so that states of many places share
+/// them.
 #[derive(Drop)]
 pub struct Layouts {
     texts: Vec<KeptLaid>,

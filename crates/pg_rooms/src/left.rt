@@ -1,14 +1,14 @@
 //! The ends behind a front, in what rooms leave there.
-ghost use Rattle.std.specs.Prelude.{◌≡◌, ◌≤ℤ◌, ◌+ℤ◌, ◌^◌, true, pos, Contains, IfSome, OnOk, Some};
+ghost use Rattle.std.specs.Prelude.{◌≡◌, ◌≤ℤ◌, ◌+ℤ◌, ◌^◌, true, pos, Contains, IfSome, List, OnOk, Some};
 ghost use Rattle.std.specs.List.{AllByRecursion};
 ghost use Rattle.pg_column.specs.Numbers.{IsRoom};
 ghost use Rattle.pg_column.specs.Passed.{fits};
 ghost use Rattle.pg_column.specs.declared.cost.TextRoom.{TextRoom as ATextRoom};
 ghost use Rattle.pg_rooms.specs.declared.laid.Laid.{Laid as ALaid};
 ghost use Rattle.pg_sources.specs.Document.{doc_of};
-ghost use Rattle.law_walk.specs.Candidates.{has_text as has_text_of};
+ghost use Rattle.law_walk.specs.Candidates.{Candidate, has_text as has_text_of};
 ghost use Rattle.pg_rooms.specs.Calls.{AreCalls};
-ghost use Rattle.pg_rooms.specs.PlaceEnds.{AreFrontEnds, IsPageRoom, IsSameBehind, behind_candidates, has_behind, room_behind as room_behind_of};
+ghost use Rattle.pg_rooms.specs.PlaceEnds.{AreFrontEndsOf, IsPageRoom, IsSameBehind, behind_candidates, has_behind, room_behind as room_behind_of};
 
 use crate::Laid;
 use crate::behind::Behind;
@@ -62,8 +62,9 @@ fn ask_left(
         has_behind (Some behind.new) room.now ≡ true) }
     ensures keeps { OnOk result ((other : ATextRoom) → has_behind (Some behind.old) other ≡ true →
         has_behind (Some behind.new) other ≡ true) }
-    ensures right { OnOk result (IsPageRoom sources.now.style.now room.now → AreCalls (doc_of sources.now) calls.old.items.items →
-        AreFrontEnds (doc_of sources.now) behind.old.ends → AreFrontEnds (doc_of sources.now) behind.new.ends) }
+    ensures right { OnOk result ((cs : List Candidate) → IsPageRoom sources.now.style.now room.now →
+        AreCalls (doc_of sources.now) calls.old.items.items →
+        AreFrontEndsOf (doc_of sources.now) cs behind.old.ends → AreFrontEndsOf (doc_of sources.now) cs behind.new.ends) }
     ensures same { OnOk result (IsSameBehind behind.old behind.new) }
     ensures calls { OnOk result (AreCalls (doc_of sources.now) calls.old.items.items →
         AreCalls (doc_of sources.now) calls.new.items.items) }
@@ -89,9 +90,10 @@ fn add_behind(
     requires small { AllByRecursion (λ (it : ALaid). IsRoom it.room) laid.now }
     ensures has { OnOk result ((it : ALaid) → Contains laid.now it → has_text_of sources.now.style.now it.room ≡ true →
         has_behind (Some behind.new) it.room ≡ true) }
-    ensures right { OnOk result (AllByRecursion (λ (it : ALaid). IsPageRoom sources.now.style.now it.room) laid.now →
+    ensures right { OnOk result ((cs : List Candidate) →
+        AllByRecursion (λ (it : ALaid). IsPageRoom sources.now.style.now it.room) laid.now →
         AreCalls (doc_of sources.now) calls.old.items.items →
-        AreFrontEnds (doc_of sources.now) behind.old.ends → AreFrontEnds (doc_of sources.now) behind.new.ends) }
+        AreFrontEndsOf (doc_of sources.now) cs behind.old.ends → AreFrontEndsOf (doc_of sources.now) cs behind.new.ends) }
     ensures same { OnOk result (IsSameBehind behind.old behind.new) }
     ensures calls { OnOk result (AreCalls (doc_of sources.now) calls.old.items.items →
         AreCalls (doc_of sources.now) calls.new.items.items) }
@@ -113,11 +115,12 @@ pub(crate) fn ask_behind(
     requires small { AllByRecursion (λ (it : ALaid). IsRoom it.room) laid.now }
     ensures has { OnOk result ((it : ALaid) → Contains laid.now it → has_text_of sources.now.style.now it.room ≡ true →
         has_behind behind.new it.room ≡ true) }
-    ensures right { OnOk result (AllByRecursion (λ (it : ALaid). IsPageRoom sources.now.style.now it.room) laid.now →
+    ensures right { OnOk result ((cs : List Candidate) →
+        AllByRecursion (λ (it : ALaid). IsPageRoom sources.now.style.now it.room) laid.now →
         AreCalls (doc_of sources.now) calls.old.items.items →
-        IfSome behind.old (λ it. AreFrontEnds (doc_of sources.now) it.ends) →
-        IfSome behind.new (λ it. AreFrontEnds (doc_of sources.now) it.ends)) }
-    ensures walk { OnOk result (behind_candidates behind.new ≡ behind_candidates behind.old) }
+        IfSome behind.old (λ it. AreFrontEndsOf (doc_of sources.now) cs it.ends) →
+        IfSome behind.new (λ it. AreFrontEndsOf (doc_of sources.now) cs it.ends)) }
+    ensures walk { OnOk result ((cs : List Candidate) → behind_candidates behind.new cs ≡ behind_candidates behind.old cs) }
     ensures calls { OnOk result (AreCalls (doc_of sources.now) calls.old.items.items →
         AreCalls (doc_of sources.now) calls.new.items.items) }
 {

@@ -1,5 +1,5 @@
 //! The ends in the rooms of a place.
-ghost use Rattle.std.specs.Prelude.{◌≡◌, ◌++◌, [], true, false, is_some, Contains, IfOk, IfSome, List, MatchOption, None, OnOk};
+ghost use Rattle.std.specs.Prelude.{◌≡◌, ◌++◌, [], true, false, is_some, Contains, IfOk, IfSome, List, ℕ, MatchOption, None, OnOk};
 ghost use Rattle.std.specs.List.{AllByRecursion};
 ghost use Rattle.pg_list.specs.declared.galley.Place.{Place as APlace};
 ghost use Rattle.pg_column.specs.Numbers.{IsRoom};
@@ -14,7 +14,7 @@ ghost use Rattle.pg_walk.specs.Straight.{Tells, straight_candidates, tallest_roo
 ghost use Rattle.pg_rooms.specs.declared.laid.Laid.{Laid as ALaid};
 ghost use Rattle.pg_sources.specs.Document.{doc_of};
 ghost use Rattle.pg_rooms.specs.Calls.{AreCalls};
-ghost use Rattle.pg_rooms.specs.PlaceEnds.{AreFirst, AreFrontEnds, ArePlaceEnds, AreRoomEnds, IsNearOnPages, IsPageRoom, behind_candidates, ends_in as ends_in_of, groups_in as groups_in_of, has_behind, has_room, is_same_room};
+ghost use Rattle.pg_rooms.specs.PlaceEnds.{AreFirst, AreFrontEndsOf, ArePlaceEnds, AreRoomEnds, IsNearOnPages, IsPageRoom, behind_candidates, ends_in as ends_in_of, groups_in as groups_in_of, has_behind, has_room, is_same_room};
 
 use crate::Laid;
 use crate::behind::Behind;
@@ -27,6 +27,7 @@ use pg_list::Place;
 use pg_sources::{PlaceCounts, Sources};
 use pg_walk::{FirstWalk, PlaceWalk, StraightEnds, straight_ends};
 use std::alloc::{AllocError, Global};
+use std::mem;
 
 /// The ends in a room, of the candidates of a place, and their groups.
 #[derive(Drop)]
@@ -91,18 +92,20 @@ fn is_kept(rooms: &[RoomEnds], room: &TextRoom) -> bool
     kept(rooms, room).is_some()
 }
 
-// Keeps the ends in a room, in groups.
+// Keeps the ends in a room, in groups, of which the list has none yet.
 fn keep_room(
     sources: &Sources<'_>,
     room: &TextRoom,
     ends: Vec<RoomEnd>,
+    none: Vec<Group>,
     rooms: &mut Vec<RoomEnds>,
     calls: &mut Calls,
 ) -> Result<(), AllocError>
+    requires { none.items ≡ [] }
     ensures has { OnOk result (has_room rooms.new.items room.now ≡ true) }
     ensures keeps { OnOk result ((other : ATextRoom) → has_room rooms.old.items other ≡ true →
         has_room rooms.new.items other ≡ true) }
-    ensures right { OnOk result ((cs ps : List Candidate) →
+    ensures right { OnOk result ((cs : List Candidate) (ps : List (List ℕ)) →
         AreBest (text_ends (doc_of sources.now) room.now cs) (ends_of ps ends.items) →
         IsPageRoom sources.now.style.now room.now → AreCalls (doc_of sources.now) calls.old.items.items →
         AllByRecursion (AreRoomEnds (doc_of sources.now) cs ps) rooms.old.items →
@@ -110,7 +113,7 @@ fn keep_room(
     ensures calls { OnOk result (AreCalls (doc_of sources.now) calls.old.items.items →
         AreCalls (doc_of sources.now) calls.new.items.items) }
 {
-    let groups = group_ends(sources, calls, ends.as_slice())?;
+    let groups = group_ends(sources, calls, ends.as_slice(), none)?;
     rooms.push(RoomEnds {
         room: *room,
         ends,
@@ -131,10 +134,10 @@ pub(crate) fn add_room(
     ensures has { OnOk result (has_room rooms.new.items room.now ≡ true) }
     ensures keeps { OnOk result ((other : ATextRoom) → has_room rooms.old.items other ≡ true →
         has_room rooms.new.items other ≡ true) }
-    ensures right { OnOk result (IsNearOnPages (doc_of sources.now) near.now →
+    ensures right { OnOk result ((cs : List Candidate) → IsNearOnPages (doc_of sources.now) cs near.now →
         IsPageRoom sources.now.style.now room.now → AreCalls (doc_of sources.now) calls.old.items.items →
-        AllByRecursion (AreRoomEnds (doc_of sources.now) near.now.candidates near.now.candidates) rooms.old.items →
-        AllByRecursion (AreRoomEnds (doc_of sources.now) near.now.candidates near.now.candidates) rooms.new.items) }
+        AllByRecursion (AreRoomEnds (doc_of sources.now) cs near.now.picks) rooms.old.items →
+        AllByRecursion (AreRoomEnds (doc_of sources.now) cs near.now.picks) rooms.new.items) }
     ensures calls { OnOk result (AreCalls (doc_of sources.now) calls.old.items.items →
         AreCalls (doc_of sources.now) calls.new.items.items) }
 {
@@ -142,7 +145,7 @@ pub(crate) fn add_room(
         return Ok(());
     }
     let ends = near.text_ends(sources.alloc, sources.style, room)?;
-    keep_room(sources, room, ends, rooms, calls)
+    keep_room(sources, room, ends, Vec::new(sources.alloc), rooms, calls)
 }
 
 // Works out the ends in a room along the first stretch from a place by a walk, where they are not kept yet.
@@ -170,31 +173,65 @@ fn add_straight(
         return Ok(());
     }
     let straight = straight_ends(sources.alloc, sources.galley, sources.style, from, room)?;
-    keep_room(sources, room, straight.ends, rooms, calls)
+    keep_room(
+        sources,
+        room,
+        straight.ends,
+        Vec::new(sources.alloc),
+        rooms,
+        calls,
+    )
 }
 
-// The ends in the one room of the style, where the first stretch tells them.
-fn first_rooms(
+// The list of ends of the last room, taken out for its memory, without its ends.
+fn emptied_ends(rooms: &mut Vec<RoomEnds>) -> Vec<RoomEnd>
+    ensures { result.items ≡ [] }
+{
+    let alloc = *rooms.allocator();
+    let Some(last) = rooms.last_mut() else {
+        return Vec::new(alloc);
+    };
+    let mut ends = mem::replace(&mut last.ends, Vec::new(alloc));
+    ends.clear();
+    ends
+}
+
+// The list of groups of the last room, taken out for its memory, without its groups.
+fn emptied_groups(rooms: &mut Vec<RoomEnds>) -> Vec<Group>
+    ensures { result.items ≡ [] }
+{
+    let alloc = *rooms.allocator();
+    let Some(last) = rooms.last_mut() else {
+        return Vec::new(alloc);
+    };
+    let mut groups = mem::replace(&mut last.groups, Vec::new(alloc));
+    groups.clear();
+    groups
+}
+
+// Keeps the ends in the one room of the style, where the first stretch tells them, in place of those of another place.
+fn begin_rooms(
     sources: &Sources<'_>,
     straight: Option<StraightEnds>,
+    rooms: &mut Vec<RoomEnds>,
     calls: &mut Calls,
-) -> Result<Vec<RoomEnds>, AllocError>
-    ensures none { IfOk result (λ rooms. straight ≡ None → rooms.items ≡ []) }
-    ensures right { IfOk result (λ rooms. (cs : List Candidate) → IfSome straight (λ it.
+) -> Result<(), AllocError>
+    ensures none { OnOk result (straight ≡ None → rooms.new.items ≡ []) }
+    ensures right { OnOk result ((cs : List Candidate) → IfSome straight (λ it.
         (it.room ≡ tallest_room sources.now.style.now)
         × AreBest (text_ends (doc_of sources.now) it.room cs) (ends_of [] it.ends.items)) →
         AreCalls (doc_of sources.now) calls.old.items.items →
-        AllByRecursion (AreRoomEnds (doc_of sources.now) cs []) rooms.items) }
+        AllByRecursion (AreRoomEnds (doc_of sources.now) cs []) rooms.new.items) }
     ensures calls { OnOk result (AreCalls (doc_of sources.now) calls.old.items.items →
         AreCalls (doc_of sources.now) calls.new.items.items) }
 {
     sources.style.stays_in_range();
-    let mut rooms = Vec::new(sources.alloc);
+    let none = emptied_groups(rooms);
+    rooms.clear();
     let Some(StraightEnds { room, ends }) = straight else {
-        return Ok(rooms);
+        return Ok(());
     };
-    keep_room(sources, &room, ends, &mut rooms, calls)?;
-    Ok(rooms)
+    keep_room(sources, &room, ends, none, rooms, calls)
 }
 
 // The place where columns begin, whether the ends along the first stretch are found room by room, and else the candidates
@@ -223,8 +260,8 @@ fn ask_room(
     ensures right { OnOk result ((cs : List Candidate) →
         AreFirst (doc_of sources.now) first.now.from cs first.now.is_straight first.now.near.now →
         IsPageRoom sources.now.style.now room.now → AreCalls (doc_of sources.now) calls.old.items.items →
-        AllByRecursion (AreRoomEnds (doc_of sources.now) cs first.now.near.now.candidates) rooms.old.items →
-        AllByRecursion (AreRoomEnds (doc_of sources.now) cs first.now.near.now.candidates) rooms.new.items) }
+        AllByRecursion (AreRoomEnds (doc_of sources.now) cs first.now.near.now.picks) rooms.old.items →
+        AllByRecursion (AreRoomEnds (doc_of sources.now) cs first.now.near.now.picks) rooms.new.items) }
     ensures calls { OnOk result (AreCalls (doc_of sources.now) calls.old.items.items →
         AreCalls (doc_of sources.now) calls.new.items.items) }
 {
@@ -253,8 +290,8 @@ fn add_rooms(
         AreFirst (doc_of sources.now) first.now.from cs first.now.is_straight first.now.near.now →
         AllByRecursion (λ (it : ALaid). IsPageRoom sources.now.style.now it.room) laid.now →
         AreCalls (doc_of sources.now) calls.old.items.items →
-        AllByRecursion (AreRoomEnds (doc_of sources.now) cs first.now.near.now.candidates) rooms.old.items →
-        AllByRecursion (AreRoomEnds (doc_of sources.now) cs first.now.near.now.candidates) rooms.new.items) }
+        AllByRecursion (AreRoomEnds (doc_of sources.now) cs first.now.near.now.picks) rooms.old.items →
+        AllByRecursion (AreRoomEnds (doc_of sources.now) cs first.now.near.now.picks) rooms.new.items) }
     ensures calls { OnOk result (AreCalls (doc_of sources.now) calls.old.items.items →
         AreCalls (doc_of sources.now) calls.new.items.items) }
 {
@@ -295,35 +332,60 @@ impl PlaceEnds {
         }
     }
 
-    /// What the first stretch from a place tells, what is kept behind the front there, if columns come to one, calls of any
-    /// places, and the counts at the place. The one refusal is want of memory.
-    pub fn of_first(
+    /// The list of ends of a room, taken out for its memory, without its ends: where what is kept goes on to another place, the
+    /// ends there may stand in it.
+    pub fn take_ends(&mut self) -> Vec<RoomEnd>
+        ensures none { result.items ≡ [] }
+        ensures calls { self.new.calls ≡ self.old.calls }
+        ensures behind { self.new.behind ≡ self.old.behind }
+    {
+        emptied_ends(&mut self.rooms)
+    }
+
+    /// Takes out what is kept behind the front.
+    pub fn take_behind(&mut self) -> Option<Behind>
+        ensures behind { result ≡ self.old.behind }
+        ensures none { self.new.behind ≡ None }
+        ensures calls { self.new.calls ≡ self.old.calls }
+    {
+        // little is moved where nothing is kept
+        if self.behind.is_none() {
+            return None;
+        }
+        self.behind.take()
+    }
+
+    /// Takes what is kept behind the front to which columns from the next place come.
+    pub fn put_behind(&mut self, behind: Behind)
+        ensures behind { self.new.behind ≡ Some behind }
+        ensures calls { self.new.calls ≡ self.old.calls }
+    {
+        self.behind = Some(behind);
+    }
+
+    /// Goes on to a place: keeps what the first stretch from there tells, and the counts there, beside what is kept behind the
+    /// front and calls of any places. The one refusal is want of memory.
+    pub fn go_on(
+        &mut self,
         sources: &Sources<'_>,
         first: FirstWalk,
         reach: u32,
-        behind: Option<Behind>,
-        calls: Calls,
         counts: PlaceCounts,
-    ) -> Result<PlaceEnds, AllocError>
-        ensures reach { IfOk result (λ it. it.walk.reach ≡ reach) }
-        ensures counts { IfOk result (λ it. it.counts ≡ counts) }
-        ensures right { IfOk result (λ it. (from : APlace) (cs : List Candidate) → Tells (doc_of sources.now) from cs first →
-            AreCandidates (doc_of sources.now) from (tallest sources.now.style.now) (cs ++ behind_candidates behind) →
-            AreApart cs (behind_candidates behind) → AreCalls (doc_of sources.now) calls.items.items →
-            IfSome behind (λ it. AreFrontEnds (doc_of sources.now) it.ends) → ArePlaceEnds (doc_of sources.now) from it) }
+    ) -> Result<(), AllocError>
+        ensures reach { OnOk result (self.new.walk.reach ≡ reach) }
+        ensures counts { OnOk result (self.new.counts ≡ counts) }
+        ensures right { OnOk result ((from : APlace) (cs ds : List Candidate) → Tells (doc_of sources.now) from cs first →
+            AreCandidates (doc_of sources.now) from (tallest sources.now.style.now)
+            (cs ++ behind_candidates self.old.behind ds) → AreApart cs (behind_candidates self.old.behind ds) →
+            AreCalls (doc_of sources.now) self.old.calls.items.items →
+            IfSome self.old.behind (λ it. AreFrontEndsOf (doc_of sources.now) ds it.ends) →
+            ArePlaceEnds (doc_of sources.now) from self.new) }
     {
-        let mut calls = calls;
         let FirstWalk { near, straight, .. } = first;
-        let is_straight = straight.is_some();
-        let rooms = first_rooms(sources, straight, &mut calls)?;
-        Ok(PlaceEnds {
-            walk: PlaceWalk { near, reach },
-            is_straight,
-            rooms,
-            calls,
-            behind,
-            counts,
-        })
+        self.is_straight = straight.is_some();
+        self.walk = PlaceWalk { near, reach };
+        self.counts = counts;
+        begin_rooms(sources, straight, &mut self.rooms, &mut self.calls)
     }
 
     /// Works out the ends in the rooms of layouts that are not below the least one, where they are not kept yet.

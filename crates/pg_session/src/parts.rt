@@ -27,7 +27,8 @@ pub fn splice_in(galley: &mut Galley, edit: &Edit) -> Result<(), EditFault>
     }
 }
 
-/// The block that an edit touches: the least of its own, the tail before and the tail after.
+/// The block that an edit touches: the least of its own and the number of blocks up to the last box or rule, before and
+/// after.
 pub fn touched_block(edit: &Edit, before: u32, new: &Galley) -> u32
     ensures { (old : GalleyValue) → before ≡ tail old.blocks → new.now ≡ edited old edit.now →
         result ≡ touched old.blocks edit.now }

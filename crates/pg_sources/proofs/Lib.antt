@@ -1,2 +1,3 @@
 pub mod CalledFew
 mod Same
+mod Uncalled

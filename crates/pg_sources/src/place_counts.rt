@@ -2,7 +2,8 @@
 ghost use Rattle.std.specs.Prelude.{◌≡◌, length, min, IfOk};
 ghost use Rattle.law_moves.specs.Listed.{beyond};
 ghost use Rattle.law_space.specs.ReachAt.{reach_at};
-ghost use Rattle.pg_rules.specs.Floats.{called, flushed};
+ghost use Rattle.pg_list.specs.declared.galley.Place.{Place as APlace};
+ghost use Rattle.pg_rules.specs.Floats.{called, float_numbers, flushed};
 ghost use Rattle.pg_list.specs.Barrier.{text_block};
 ghost use Rattle.pg_sources.specs.Document.{counts_of, doc_of};
 
@@ -50,11 +51,26 @@ impl Sources<'_> {
         })
     }
 
+    // The counts at each place, where the style has no class of floats.
+    fn no_counts(&self) -> PlaceCounts
+        requires { length (float_numbers self.now.style.now) ≡ 0 }
+        ensures { (from : APlace) → result ≡ counts_of (doc_of self.now) from }
+    {
+        PlaceCounts {
+            called: Counts::new(self.alloc),
+            flushed: Counts::new(self.alloc),
+            most: Counts::new(self.alloc),
+        }
+    }
+
     /// The counts at a place, from which a column may go so far.
     pub fn counts_at(&self, from: Place, reach: u32) -> Result<PlaceCounts, AllocError>
         requires { reach ≡ reach_at (doc_of self.now) from }
         ensures { IfOk result (λ it. it ≡ counts_of (doc_of self.now) from) }
     {
+        if self.slots() == 0 {
+            return Ok(self.no_counts());
+        }
         Ok(PlaceCounts {
             called: self.called(from)?,
             flushed: self.flushed_from(from)?,

@@ -1,5 +1,6 @@
 -- What is kept of a place is kept for an equal document.
-use Rattle.std.proofs.Common.{◌≡◌, ◌∙◌, sym, ap, subst, append-nil, List, [], ◌++◌, true, Option, Some, IfSome, ℕ, ℤ}
+use Rattle.std.proofs.Common.{◌≡◌, refl, ◌∙◌, sym, ap, subst, append-nil, List, [], ◌++◌, true, false, Option, Some, None, IfSome, ℕ, ℤ}
+use Rattle.std.specs.Prelude.{is_some}
 use Rattle.std.proofs.Props.{props}
 use Rattle.std.proofs.Math.Logic.{∥∥₁_elim, ∥∥₁_map, ∥∥₁_map₂}
 use Rattle.pg_list.specs.GalleyValue.{GalleyValue}
@@ -8,7 +9,7 @@ use Rattle.pg_style.specs.Values.{StyleValue}
 use Rattle.pg_hops.specs.declared.state.State.{State}
 use Rattle.pg_rules.specs.Legal.{document}
 use Rattle.pg_rooms.specs.Calls.{AreCalls}
-use Rattle.pg_rooms.specs.PlaceEnds.{AreFrontEnds, ArePlaceEnds, behind_candidates}
+use Rattle.pg_rooms.specs.PlaceEnds.{AreFrontEnds, AreFrontEndsOf, ArePlaceEnds, behind_candidates}
 use Rattle.pg_rules.specs.IsState.{IsPlace}
 use Rattle.pg_rules.specs.Room.{Document}
 use Rattle.law_space.specs.ReachAt.{reach_at}
@@ -56,8 +57,14 @@ with_calls g h s t from it calls p q = of_equal (λ (a : GalleyValue) (b : Style
 -- what serves of a place for others: what is kept behind its front, if something is
 pub front_of : (doc : Document) (from : Place) (it : PlaceEnds) (behind : Behind) → it.behind ≡ Some behind →
     ArePlaceEnds doc from it → AreFrontEnds doc behind.ends
-front_of doc from it behind e right =
-    subst (λ (o : Option Behind). IfSome o (λ (b : Behind). AreFrontEnds doc b.ends)) e right.behind
+front_of doc from it behind e right = record {
+  candidates = right.later;
+  are = subst (λ (o : Option Behind). IfSome o (λ (b : Behind). AreFrontEndsOf doc right.later b.ends)) e right.behind;
+}
+
+no_behind : (o : Option Behind) → is_some o ≡ false → o ≡ None
+no_behind None e = refl
+no_behind (Some x) e = absurd cc
 
 one_reach : (m n : ℕ) → IsProp (m ≡ n)
 one_reach m n = hlevel props
@@ -69,18 +76,20 @@ module _ (g h : GalleyValue) (s t : StyleValue) (p : g ≡ h) (q : s ≡ t) (fro
       ComesTo (document g s) from first front → IsMoved height bound (state_of base) (state_of front.start) →
       is_same_state (state_of ends.walk.base) (state_of base) ≡ true → ∥ AreFrontEnds (document h t) ends ∥₁ →
       behind.ends ≡ ends → behind.by ≡ height → behind.bound ≡ bound → ∥ AreCalls (document h t) calls.items.items ∥₁ →
-      ((at : Place) (cs : List Candidate) → Tells (document g s) at cs first →
-      AreCandidates (document g s) at (tallest s) (cs ++ behind_candidates (Some behind)) →
-      AreApart cs (behind_candidates (Some behind)) → AreCalls (document g s) calls.items.items →
-      AreFrontEnds (document g s) behind.ends → ArePlaceEnds (document g s) at it) →
+      ((at : Place) (cs ds : List Candidate) → Tells (document g s) at cs first →
+      AreCandidates (document g s) at (tallest s) (cs ++ behind_candidates (Some behind) ds) →
+      AreApart cs (behind_candidates (Some behind) ds) → AreCalls (document g s) calls.items.items →
+      AreFrontEndsOf (document g s) ds behind.ends → ArePlaceEnds (document g s) at it) →
       ∥ ArePlaceEnds (document h t) from it ∥₁
   before_front it first front base height bound ends behind calls law comes moved alike right e b o called made =
       ∥∥₁_map₂ right called (λ are those.
-      let serves = law from front behind.by behind.bound behind.ends.walk at comes.ahead there (here are).walk in
+      let own = here are in
+      let serves = law from front behind.by behind.bound own.candidates behind.ends.walk at comes.ahead there
+      own.are.walk in
       of_equal (λ (a : GalleyValue) (b : StyleValue). ArePlaceEnds (document a b) from it) g h s t p q
-      (made from (straight_candidates (document g s) from) comes.tells serves.candidates serves.apart
+      (made from (straight_candidates (document g s) from) own.candidates comes.tells serves.candidates serves.apart
       (of_equal (λ (a : GalleyValue) (b : StyleValue). AreCalls (document a b) calls.items.items) h g t s
-      (sym p) (sym q) those) (here are)))
+      (sym p) (sym q) those) own.are))
     where
       here : AreFrontEnds (document h t) ends → AreFrontEnds (document g s) behind.ends
       here are = subst (AreFrontEnds (document g s)) (sym e)
@@ -97,17 +106,53 @@ module _ (g h : GalleyValue) (s t : StyleValue) (p : g ≡ h) (q : s ≡ t) (fro
   -- a first stretch behind which there is no choice
   pub alone : (it : PlaceEnds) (first : FirstWalk) (calls : Calls) → TellsAll (document g s) from first →
       ∥ AreCalls (document h t) calls.items.items ∥₁ →
-      ((at : Place) (cs : List Candidate) → Tells (document g s) at cs first →
+      ((at : Place) (cs ds : List Candidate) → Tells (document g s) at cs first →
       AreCandidates (document g s) at (tallest s) (cs ++ []) → AreApart cs [] →
       AreCalls (document g s) calls.items.items → Unit {0} → ArePlaceEnds (document g s) at it) →
       ∥ ArePlaceEnds (document h t) from it ∥₁
   alone it first calls tells called made = ∥∥₁_map called (λ those.
       of_equal (λ (a : GalleyValue) (b : StyleValue). ArePlaceEnds (document a b) from it) g h s t p q
-      (made from tells.candidates tells.tells
+      (made from tells.candidates [] tells.tells
       (subst (AreCandidates (document g s) from (tallest s)) (sym (append-nil tells.candidates)) tells.found)
       (λ c d a e. absurd e)
       (of_equal (λ (a : GalleyValue) (b : StyleValue). AreCalls (document a b) calls.items.items) h g t s
       (sym p) (sym q) those) tt))
+
+  -- what was kept of a place and has nothing behind a front goes on to a place behind which there is no choice
+  pub alone_on : (old new : PlaceEnds) (first : FirstWalk) (was : PlaceEnds) → old ≡ was → is_some was.behind ≡ false →
+      TellsAll (document g s) from first → ∥ AreCalls (document h t) was.calls.items.items ∥₁ →
+      ((at : Place) (cs ds : List Candidate) → Tells (document g s) at cs first →
+      AreCandidates (document g s) at (tallest s) (cs ++ behind_candidates old.behind ds) →
+      AreApart cs (behind_candidates old.behind ds) → AreCalls (document g s) old.calls.items.items →
+      IfSome old.behind (λ it. AreFrontEndsOf (document g s) ds it.ends) → ArePlaceEnds (document g s) at new) →
+      ∥ ArePlaceEnds (document h t) from new ∥₁
+  alone_on old new first was same none tells called made = alone new first old.calls tells
+      (subst (λ (it : PlaceEnds). ∥ AreCalls (document h t) it.calls.items.items ∥₁) (sym same) called)
+      (subst (λ (o : Option Behind). (at : Place) (cs ds : List Candidate) → Tells (document g s) at cs first →
+      AreCandidates (document g s) at (tallest s) (cs ++ behind_candidates o ds) → AreApart cs (behind_candidates o ds) →
+      AreCalls (document g s) old.calls.items.items → IfSome o (λ it. AreFrontEndsOf (document g s) ds it.ends) →
+      ArePlaceEnds (document g s) at new)
+      (ap (λ (it : PlaceEnds). it.behind) same ∙ no_behind was.behind none) made)
+
+  -- and to a place whose columns come to a front, behind which this is kept
+  pub before_on : (old new : PlaceEnds) (first : FirstWalk) (front : Front) (base : State) (height : ℤ)
+      (bound : Option ℤ) (ends : FrontEnds) (behind : Behind) (was : PlaceEnds) → old.behind ≡ Some behind →
+      old.calls ≡ was.calls → FrontsServe (document g s) → ComesTo (document g s) from first front →
+      IsMoved height bound (state_of base) (state_of front.start) →
+      is_same_state (state_of ends.walk.base) (state_of base) ≡ true → ∥ AreFrontEnds (document h t) ends ∥₁ →
+      behind.ends ≡ ends → behind.by ≡ height → behind.bound ≡ bound → ∥ AreCalls (document h t) was.calls.items.items ∥₁ →
+      ((at : Place) (cs ds : List Candidate) → Tells (document g s) at cs first →
+      AreCandidates (document g s) at (tallest s) (cs ++ behind_candidates old.behind ds) →
+      AreApart cs (behind_candidates old.behind ds) → AreCalls (document g s) old.calls.items.items →
+      IfSome old.behind (λ it. AreFrontEndsOf (document g s) ds it.ends) → ArePlaceEnds (document g s) at new) →
+      ∥ ArePlaceEnds (document h t) from new ∥₁
+  before_on old new first front base height bound ends behind was has same law comes moved alike right e b o called made =
+      before_front new first front base height bound ends behind old.calls law comes moved alike right e b o
+      (subst (λ (calls : Calls). ∥ AreCalls (document h t) calls.items.items ∥₁) (sym same) called)
+      (subst (λ (o : Option Behind). (at : Place) (cs ds : List Candidate) → Tells (document g s) at cs first →
+      AreCandidates (document g s) at (tallest s) (cs ++ behind_candidates o ds) → AreApart cs (behind_candidates o ds) →
+      AreCalls (document g s) old.calls.items.items → IfSome o (λ it. AreFrontEndsOf (document g s) ds it.ends) →
+      ArePlaceEnds (document g s) at new) has made)
 
   -- how far columns go that come to a front in a state of which it is merely known
   pub kept_reach : (start kept : State) (reach : ℕ) → ReachesServe (document g s) → IsTheReach (document g s) →

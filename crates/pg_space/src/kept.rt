@@ -1,6 +1,6 @@
 //! The space of pages of one document, which keeps the walk of the place that was opened last, what stands behind the front
 //! of the next choice, and what is called before all ends.
-ghost use Rattle.std.specs.Prelude.{◌≡◌, ◌<ℤ◌, ◌≤ℤ◌, ◌^◌, [], true, pos, IfOk};
+ghost use Rattle.std.specs.Prelude.{◌≡◌, ◌<ℤ◌, ◌≤ℤ◌, ◌^◌, [], true, false, is_some, pos, IfOk};
 ghost use Rattle.pg_floats.specs.AreFloats.{AreFloats};
 ghost use Rattle.pg_hops.specs.Index.{AreHops};
 ghost use Rattle.pg_hops.specs.OneProof.{AreHops_prop};
@@ -28,18 +28,20 @@ ghost use Rattle.pg_space.specs.OneProof.{counts_set, galley_set, style_set};
 use crate::fronts::{Fronts, KeptFront, KeptReach};
 use crate::space::PageSpace;
 use law_space::reach_laws::reach_is_the_greatest;
+use pg_candidates::{NearList, RoomEnd};
 use pg_floats::FloatList;
 use pg_hops::{BreakIndex, State as FrontState};
 use pg_list::{Galley, Place};
 use pg_moves::open_by;
-use pg_plan::{PageKey, State};
+use pg_plan::{Counts, PageKey, State};
 use pg_rooms::{Behind, Calls, FrontEnds, Layouts, PlaceEnds};
 use pg_small::{SmallMove, SmallState};
+use pg_sources::PlaceCounts;
 use pg_states::{PageMarks, no_worse};
 use pg_style::Style;
 use pg_table::{EveryMove, Offering, Opened, Space, Steps, Wants};
 use pg_walk::{
-    FirstWalk, Front, LoweredState, fronts_serve, lowered, reach_behind, reaches_serve,
+    FirstWalk, Front, LoweredState, PlaceWalk, fronts_serve, lowered, reach_behind, reaches_serve,
     walk_behind, walk_first,
 };
 use std::alloc::{AllocError, Global};
@@ -65,13 +67,13 @@ impl Document for Brand {
 #[derive(Drop)]
 struct Kept<D: Document> {
     from: Place,
-    /// Behind a pointer, since what is kept is handed on for each state.
+    /// Behind pointers, since what is kept is handed on for each state.
     ends: Box<PlaceEnds>,
-    layouts: Layouts,
-    fronts: Fronts<D>,
+    layouts: Box<Layouts>,
+    fronts: Box<Fronts<D>>,
     of: PhantomData<D>,
     ghost right: { ∥ ArePlaceEnds (document D.galley D.style) from ends.value ∥₁ },
-    ghost laid: { AreLayouts (document D.galley D.style) layouts } by { AreLayouts_prop (document D.galley D.style) layouts },
+    ghost laid: { AreLayouts (document D.galley D.style) layouts.value } by { AreLayouts_prop (document D.galley D.style) layouts.value },
     ghost reach: { ends.value.walk.reach ≡ reach_at (document D.galley D.style) from },
     ghost counts: { ends.value.counts ≡ counts_of (document D.galley D.style) from } by { counts_set ends.value.counts (counts_of (document D.galley D.style) from) },
 }
@@ -80,39 +82,66 @@ struct Kept<D: Document> {
 /// choice.
 #[derive(Drop)]
 struct Shared<D: Document> {
-    calls: Calls,
-    layouts: Layouts,
-    fronts: Fronts<D>,
-    ghost right: { ∥ AreCalls (document D.galley D.style) calls.items.items ∥₁ },
-    ghost laid: { AreLayouts (document D.galley D.style) layouts } by { AreLayouts_prop (document D.galley D.style) layouts },
+    /// What was kept of a place. Of it what is called before ends serves, and the memory.
+    ends: Box<PlaceEnds>,
+    layouts: Box<Layouts>,
+    fronts: Box<Fronts<D>>,
+    ghost right: { ∥ AreCalls (document D.galley D.style) ends.value.calls.items.items ∥₁ },
+    ghost alone: { is_some ends.value.behind ≡ false },
+    ghost laid: { AreLayouts (document D.galley D.style) layouts.value } by { AreLayouts_prop (document D.galley D.style) layouts.value },
 }
 
-// Nothing that is kept.
-fn nothing_shared<D: Document>(alloc: Global) -> Shared<D> {
-    Shared {
-        calls: Calls::none(alloc),
-        layouts: Layouts::none(alloc),
-        fronts: Fronts::none(alloc),
-    }
+// Nothing that is kept. Not made part of its caller, since it is asked for once a search.
+#[cold]
+#[inline(never)]
+fn nothing_shared<D: Document>(alloc: Global) -> Result<Shared<D>, AllocError> {
+    let walk = PlaceWalk {
+        near: NearList::none(alloc),
+        reach: 0,
+    };
+    let counts = PlaceCounts {
+        called: Counts::new(alloc),
+        flushed: Counts::new(alloc),
+        most: Counts::new(alloc),
+    };
+    let none = PlaceEnds::new(alloc, walk, Calls::none(alloc), counts);
+    let ends = Box::new(alloc, none)?;
+    Ok(Shared {
+        ends,
+        layouts: Box::new(alloc, Layouts::none(alloc))?,
+        fronts: Box::new(alloc, Fronts::none(alloc))?,
+    })
+}
+
+/// What serves of a place for each other one, and a list without ends for the ends there.
+#[derive(Drop)]
+struct Left<D: Document> {
+    shared: Shared<D>,
+    none: Vec<RoomEnd>,
 }
 
 // What is kept of a place, as far as it serves for each other one.
-fn shared_of<D: Document>(kept: Kept<D>) -> Result<Shared<D>, AllocError> {
-    let ends = kept.ends;
+fn left_of<D: Document>(kept: Kept<D>) -> Result<Left<D>, AllocError>
+    ensures { IfOk result (λ left. left.none.items ≡ []) }
+{
+    let mut ends = kept.ends;
     let layouts = kept.layouts;
     let mut fronts = kept.fronts;
-    let PlaceEnds { calls, behind, .. } = Box::into_inner(ends);
-    if let Some(behind) = behind {
+    let none = ends.take_ends();
+    if let Some(behind) = ends.take_behind() {
         let front = KeptFront {
             ends: behind.ends,
             of: PhantomData,
         };
         fronts.ends.push(front)?;
     }
-    Ok(Shared {
-        calls,
-        layouts,
-        fronts,
+    Ok(Left {
+        shared: Shared {
+            ends,
+            layouts,
+            fronts,
+        },
+        none,
     })
 }
 
@@ -231,6 +260,7 @@ impl<'a, D: Document> KeptPages<'a, D> {
     }
 
     // What is kept of a place whose columns come to a front: the ends up to it, and what is kept behind it.
+    #[inline(never)]
     fn keep_before(
         &self,
         from: Place,
@@ -246,13 +276,14 @@ impl<'a, D: Document> KeptPages<'a, D> {
         fronts_serve(sources.galley, sources.style);
         let mut fronts = shared.fronts;
         fronts.go_on_to(front.start.block);
-        let reach = self.reach_behind(from, front.quiet, &mut fronts)?;
+        let reach = self.reach_behind(from, front.quiet, &mut *fronts)?;
         let lowered = lowered(&front.start);
-        let kept = self.behind(lowered.base, &mut fronts)?;
+        let kept = self.behind(lowered.base, &mut *fronts)?;
         let behind = behind_by(kept.ends, &lowered);
         let counts = sources.counts_at(from, reach)?;
-        let made = PlaceEnds::of_first(sources, first, reach, Some(behind), shared.calls, counts)?;
-        let ends = Box::new(sources.alloc, made)?;
+        let mut ends = shared.ends;
+        ends.put_behind(behind);
+        ends.go_on(sources, first, reach, counts)?;
         Ok(Kept {
             from,
             ends,
@@ -278,8 +309,8 @@ impl<'a, D: Document> KeptPages<'a, D> {
         reach_is_the_greatest(sources.galley, sources.style);
         let reach = first.reach;
         let counts = sources.counts_at(from, reach)?;
-        let made = PlaceEnds::of_first(sources, first, reach, None, shared.calls, counts)?;
-        let ends = Box::new(sources.alloc, made)?;
+        let mut ends = shared.ends;
+        ends.go_on(sources, first, reach, counts)?;
         Ok(Kept {
             from,
             ends,
@@ -289,15 +320,21 @@ impl<'a, D: Document> KeptPages<'a, D> {
         })
     }
 
-    // The walk from a place, with what is kept for others.
-    fn walk(&self, from: Place, shared: Shared<D>) -> Result<Kept<D>, AllocError>
-        requires { IsPlace self.now.pages.sources.galley.now.blocks from }
+    // The walk from a place, with what is kept for others. The ends there may stand in a list that has none yet.
+    fn walk(
+        &self,
+        from: Place,
+        none: Vec<RoomEnd>,
+        shared: Shared<D>,
+    ) -> Result<Kept<D>, AllocError>
+        requires place { IsPlace self.now.pages.sources.galley.now.blocks from }
+        requires none { none.items ≡ [] }
         ensures { IfOk result (λ kept. kept.from ≡ from) }
     {
         let sources = &self.pages.sources;
         let galley = sources.galley;
         let style = sources.style;
-        let first = walk_first(sources.alloc, galley, style, self.index, from)?;
+        let first = walk_first(sources.alloc, galley, style, self.index, from, none)?;
         let front = match &first.front {
             Some(front) => **front,
             None => return self.keep_alone(from, first, shared),
@@ -311,12 +348,14 @@ impl<'a, D: Document> KeptPages<'a, D> {
         ensures { IfOk result (λ kept. kept.from ≡ from) }
     {
         let Ok(Some(kept)) = self.kept.try_replace(None) else {
-            return self.walk(from, nothing_shared(self.pages.sources.alloc));
+            let alloc = self.pages.sources.alloc;
+            return self.walk(from, Vec::new(alloc), nothing_shared(alloc)?);
         };
         if kept.from == from {
             return Ok(kept);
         }
-        self.walk(from, shared_of(kept)?)
+        let Left { shared, none } = left_of(kept)?;
+        self.walk(from, none, shared)
     }
 
     // The columns that may follow a state and are wanted, by what is kept of its place.
@@ -336,7 +375,7 @@ impl<'a, D: Document> KeptPages<'a, D> {
         let from = kept.from;
         let mut ends = kept.ends;
         let mut layouts = kept.layouts;
-        let opened = open_by(&self.pages.sources, state, &mut layouts, &mut *ends, wants)?;
+        let opened = open_by(&self.pages.sources, state, &mut *layouts, &mut *ends, wants)?;
         Ok(OpenedBy {
             opened,
             kept: Kept {

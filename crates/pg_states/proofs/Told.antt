@@ -12,7 +12,7 @@ use Rattle.pg_list.proofs.Places.{same_place}
 use Rattle.pg_plan.specs.declared.states.State.{State}
 use Rattle.pg_rules.specs.NoWorse.{are_no_older, are_same_counts, is_no_worse, is_same_key, is_same_number, is_same_side, is_same_whole, key}
 use Rattle.law_columns.proofs.Simulation.{key_refl, key_same, no_older_chain, no_older_refl, number_same}
-use Rattle.pg_lemmas.proofs.Lists.{get_left}
+use Rattle.pg_lemmas.proofs.Lists.{any_taken, get_left}
 use Rattle.pg_states.specs.Marks.{Marks, along, has_no_better, has_no_worse, is_marked, is_no_worse_line, is_past, tells}
 use Rattle.pg_states.specs.LineOf.{IsLineOf}
 use Rattle.pg_states.specs.declared.marks.Cell.{Cell}
@@ -105,16 +105,6 @@ any_same test (suc count) y h = elim (or_cases (test y) (list_any test (replicat
   | inr rest ↦ any_same test count y rest
 ]
 
--- what passes among the first ones
-any_front : {X : Type 0} (test : X → Bool) (count : ℕ) (xs : List X) → list_any test (take count xs) ≡ true →
-    list_any test xs ≡ true
-any_front test zero xs h = absurd cc
-any_front test (suc count) [] h = h
-any_front test (suc count) (x ∷ xs) h = elim (or_cases (test x) (list_any test (take count xs)) h) [
-  | inl own ↦ or_left (test x) (list_any test xs) own
-  | inr rest ↦ or_right (test x) (list_any test xs) (any_front test count xs rest)
-]
-
 -- what passes where the same one stands behind the others so many times
 any_behind : {X : Type 0} (test : X → Bool) (xs : List X) (count : ℕ) (y : X) →
     list_any test (xs ++ replicate count y) ≡ true → (list_any test xs ≡ true) ⊎ (test y ≡ true)
@@ -130,7 +120,7 @@ pub any_resized : {X : Type 0} (test : X → Bool) (xs : List X) (count behind :
     (list_any test xs ≡ true) ⊎ (test y ≡ true)
 any_resized test xs count behind y false h = inl h
 any_resized test xs count behind y true h = elim (any_behind test (take count xs) behind y h) [
-  | inl front ↦ inl (any_front test count xs front)
+  | inl front ↦ inl (any_taken test count xs front)
   | inr own ↦ inr own
 ]
 

@@ -125,9 +125,7 @@ fn has_no_better(lines: &[SmallState], number: u32, state: &SmallState) -> bool
 fn double_cells(cells: &mut Vec<Cell>) -> Result<(), AllocError>
     ensures { (test : Cell → Bool) → list_any test cells.new.items ≡ true → list_any test cells.old.items ≡ true }
 {
-    let same = cells.as_slice().to_vec(*cells.allocator())?;
-    cells.extend_from_slice(same.as_slice())?;
-    Ok(())
+    cells.extend_from_within(..)
 }
 
 // Makes cells where there are none: as many as before all was forgotten, which all tell what this cell tells. Makes as many

@@ -15,7 +15,7 @@ use law_moves::states_are_tested;
 use pg_list::{Galley, Place, items_around};
 use pg_plan::{Side, State};
 use pg_sources::Sources;
-use pg_style::{First, Style};
+use pg_style::{First, MAX_COLUMNS, Style};
 
 // No wide area is as high, in scaled points.
 const WIDE_LIMIT: i64 = 1 << 33;
@@ -47,7 +47,7 @@ fn has_column(sources: &Sources<'_>, state: &State) -> bool
 {
     let style = sources.style;
     let column = state.column;
-    1 <= column && (column <= style.columns && column <= 2)
+    1 <= column && (column <= style.columns && column <= MAX_COLUMNS)
 }
 
 // Whether pages have the side, where the first page has this one.

@@ -12,11 +12,7 @@ use Rattle.pg_table.specs.Bucket.{Labels}
 use Rattle.pg_table.specs.declared.table.Entry.{Entry}
 use Rattle.pg_table.specs.declared.pending.Turn.{Turn}
 use Rattle.pg_table.proofs.Labels.{label_own}
-use Rattle.pg_table.proofs.Lists.{contains_at}
-
--- a bucket with a label is not empty
-some_in : {X : Type 0} (xs : List X) (x : X) → Contains xs x → 0 < length xs
-some_in xs x (i, l, e) = omega arith
+use Rattle.pg_table.proofs.Lists.{contains_at, some_length}
 
 -- what is met in a bucket tells the place of the key
 pub met_seated : {S M K : Type 0} (eq : K → K → Bool) (laws : IsEquivalence eq) (sp : Meaning S M K)
@@ -29,7 +25,7 @@ met_seated {S} {M} {K} eq laws sp law es ks bs ts s u own i m = record {
     either = inl (
       refl,
       λ b bat. subst (λ z. 0 < length z.items) (same_Some m.bucket b (sym m.is ∙ bat))
-          (some_in m.bucket.items m.label m.among),
+          (some_length m.bucket.items m.label m.among),
     );
   };
   heap = λ h. h;

@@ -50,6 +50,9 @@ plain_along doc top last p (x ∷ xs) =
     behind all None = tt
     behind all (Some q) = within q (fits q.bound top) (all q)
 
+pub first_plain : (doc : Document) (top : ℤ) (from : Place) → AllByRecursion IsPlain (first_ends doc top from)
+first_plain doc top from = plain_along doc top _ _ (first_items doc.blocks from)
+
 -- what was taken of them in a room are the best
 pub first_best : (g : GalleyValue) (s : StyleValue) (z top : ℤ) → z ≡ top → (from : Place) (one new : OneRoom) →
     one.galley.now ≡ g → one.ends.items ≡ [] → TookIn s one new (first_ends (document g s) z from) →
@@ -64,7 +67,7 @@ first_best g s z top t from one new eg none took =
     ends = first_ends (document g s) z from
 
     plain : AllByRecursion IsPlain ends
-    plain = plain_along (document g s) z _ _ (first_items g.blocks from)
+    plain = first_plain (document g s) z from
 
     begun : HasBest s one []
     begun = subst (λ (xs : List RoomEnd). AreBest [] (ends_of [] xs)) (sym none) none_best

@@ -620,11 +620,11 @@ moved_apart doc blocks from top by bound base start cs at begun is all c d a b =
     (apart doc top from base (sym is.block ∙ begun.block) blocks at cs all c o.origin a o.among)
 
 pub serve : (doc : Document) → AllByRecursion IsBlock doc.blocks → LabelsSuffice doc → FrontsServe doc
-serve doc blocks labels from front by bound it at ahead is walk =
+serve doc blocks labels from front by bound cs it at ahead is walk =
     let start = start_of doc (tallest doc.style) from front.start ahead.start in
     record {
       candidates = moved_suffice doc labels from (tallest doc.style) by bound it.base (state_of front.start)
-          it.near.candidates at start is walk.ends;
+          cs at start is walk.ends;
       apart = moved_apart doc blocks from (tallest doc.style) by bound it.base (state_of front.start)
-          it.near.candidates at start is walk.ends;
+          cs at start is walk.ends;
     }

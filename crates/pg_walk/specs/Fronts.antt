@@ -37,26 +37,31 @@ pub record ComesTo (doc : Document) (from : Place) (first : FirstWalk) (front : 
   pub tells : Tells doc from (straight_candidates doc from) first
   pub ahead : IsAhead doc from front
 
--- what stands behind a state at a front: the ends along the picks of the labels, with what no room changes
+-- what stands behind a state at a front: these candidates, along the picks of the labels, with what no room changes
+pub record IsFrontWalkOf (doc : Document) (cs : List Candidate) (it : FrontWalk) : Type 0 where
+  pub ends : Collects doc (tallest doc.style) it.base [] cs
+  pub near : AreNear doc (greatest_areas gap_stretch doc.style) cs it.near
+
+-- some candidates
 pub record IsFrontWalk (doc : Document) (it : FrontWalk) : Type 0 where
-  pub ends : Collects doc (tallest doc.style) it.base [] it.near.candidates
-  pub near : AreNear doc (greatest_areas gap_stretch doc.style) it.near.candidates it.near
+  pub candidates : List Candidate
+  pub are : IsFrontWalkOf doc candidates it
 
 -- each of the one stands before each of the other
 abbrev pub AreApart : List Candidate → List Candidate → Type 0
 AreApart cs ds = (c d : Candidate) → IsAmong c cs → IsAmong d ds → place_cmp c.to d.to ≡ Less
 
--- with the ends along the first stretch from a place those behind a front, moved, suffice, and they stand behind them
-pub record Serves (doc : Document) (from : Place) (by : ℤ) (bound : Option ℤ) (it : FrontWalk) : Type 0 where
+-- with the candidates along the first stretch from a place those behind a front, moved, suffice, and they stand behind them
+pub record Serves (doc : Document) (from : Place) (by : ℤ) (bound : Option ℤ) (cs : List Candidate) : Type 0 where
   pub candidates : AreCandidates doc from (tallest doc.style)
-      (straight_candidates doc from ++ map (moved_candidate by bound) it.near.candidates)
-  pub apart : AreApart (straight_candidates doc from) (map (moved_candidate by bound) it.near.candidates)
+      (straight_candidates doc from ++ map (moved_candidate by bound) cs)
+  pub apart : AreApart (straight_candidates doc from) (map (moved_candidate by bound) cs)
 
 -- so it is for each place whose columns come to the front as the walk behind it does, but for their height
 abbrev pub FrontsServe : Document → Type 0
-FrontsServe doc = (from : Place) (front : Front) (by : ℤ) (bound : Option ℤ) (it : FrontWalk) →
-    IsPlace doc.blocks from → IsAhead doc from front →
-    IsMoved by bound (state_of it.base) (state_of front.start) → IsFrontWalk doc it → Serves doc from by bound it
+FrontsServe doc = (from : Place) (front : Front) (by : ℤ) (bound : Option ℤ) (cs : List Candidate)
+    (it : FrontWalk) → IsPlace doc.blocks from → IsAhead doc from front →
+    IsMoved by bound (state_of it.base) (state_of front.start) → IsFrontWalkOf doc cs it → Serves doc from by bound cs
 
 -- ---- how far columns go
 

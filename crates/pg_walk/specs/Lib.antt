@@ -1,4 +1,4 @@
-pub mod Bases
+pub mod Contexts
 pub mod Meaning
 pub mod Reaching
 pub mod WalkLawful

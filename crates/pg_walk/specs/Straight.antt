@@ -32,9 +32,8 @@ AreStraight doc from it = AreBest (text_ends doc it.room (straight_candidates do
 
 -- the ends of these candidates, what no room changes of each, or the best in the one room that the style has
 pub record Tells (doc : Document) (from : Place) (cs : List Candidate) (walk : FirstWalk) : Type 0 where
-  pub near : walk.straight ≡ None → (walk.near.candidates ≡ cs)
-      × AreNear doc (greatest_areas gap_stretch doc.style) walk.near.candidates walk.near
-  pub straight : IfSome walk.straight (λ it. (walk.near.candidates ≡ []) × ((cs ≡ straight_candidates doc from)
+  pub near : walk.straight ≡ None → AreNear doc (greatest_areas gap_stretch doc.style) cs walk.near
+  pub straight : IfSome walk.straight (λ it. (walk.near.picks ≡ []) × ((cs ≡ straight_candidates doc from)
       × ((it.room ≡ tallest_room doc.style) × AreStraight doc from it)))
 
 -- of candidates that suffice

@@ -2,11 +2,11 @@
 ghost use Rattle.std.specs.Prelude.{◌≡◌, ◌≤◌, ◌^◌, IfOk, length};
 ghost use Rattle.pg_rules.specs.Legal.{document};
 ghost use Rattle.pg_table.specs.Label.{IsTable};
-ghost use Rattle.pg_walk.specs.Bases.{IsBasis, doc_of};
+ghost use Rattle.pg_walk.specs.Contexts.{IsContext, doc_of};
 ghost use Rattle.pg_walk.specs.Meaning.{IsOwn, space_meaning};
 ghost use Rattle.pg_walk.specs.Collected.{AreSmall};
 
-use crate::{Basis, Key, WalkSpace};
+use crate::{Context, Key, WalkSpace};
 use pg_hops::State;
 use pg_table::{Steps, Table};
 use std::alloc::{AllocError, Global};
@@ -34,23 +34,23 @@ fn filled<L: Ledger>(
 /// The filled table of the walk from a state.
 ///
 /// Condition: the state is one of the walk. The one refusal is want of memory.
-pub fn filled_from(basis: &Basis, start: State) -> Result<Table<State, u32, Key>, AllocError>
-    requires basis { IsBasis basis.now }
-    requires own { IsOwn (doc_of basis.now) basis.now.top start }
-    ensures table { IfOk result (IsTable (space_meaning (doc_of basis.now) basis.now.top start)) }
-    ensures small { IfOk result (AreSmall (doc_of basis.now) basis.now.top) }
-    ensures few { length basis.now.galley.now.blocks ≤ 2 ^ 20 }
+pub fn filled_from(context: &Context, start: State) -> Result<Table<State, u32, Key>, AllocError>
+    requires context { IsContext context.now }
+    requires own { IsOwn (doc_of context.now) context.now.top start }
+    ensures table { IfOk result (IsTable (space_meaning (doc_of context.now) context.now.top start)) }
+    ensures small { IfOk result (AreSmall (doc_of context.now) context.now.top) }
+    ensures few { length context.now.galley.now.blocks ≤ 2 ^ 20 }
 {
-    let style = basis.style;
+    let style = context.style;
     style.stays_in_range();
-    let _ = basis.galley.blocks().as_slice();
+    let _ = context.galley.blocks().as_slice();
     let space = WalkSpace::new(
-        basis.alloc,
-        basis.galley,
+        context.alloc,
+        context.galley,
         style,
-        basis.index,
-        basis.top,
+        context.index,
+        context.top,
         start,
     );
-    filled::<Brand>(basis.alloc, &space, Blank::new(1))
+    filled::<Brand>(context.alloc, &space, Blank::new(1))
 }

@@ -12,7 +12,7 @@ ghost use Rattle.pg_walk.specs.Moved.{IsMoved};
 use crate::give::areas_give;
 use crate::reach::tallest;
 use crate::space::no_worse_than;
-use crate::{Basis, collect};
+use crate::{Context, collect};
 use law_walk::laws::{walk_is_a_space, walk_tells_reach};
 use pg_candidates::{CandidateList, NearList};
 use pg_hops::{BreakIndex, Passed, State};
@@ -128,7 +128,7 @@ pub fn walk_behind(
     ensures right { IfOk result (IsFrontWalk (document galley.now style.now)) }
 {
     let mut found = CandidateList::with_room(alloc)?;
-    let basis = Basis {
+    let context = Context {
         alloc,
         galley,
         style,
@@ -140,7 +140,7 @@ pub fn walk_behind(
         block: base.block,
         passed: base.passed,
     };
-    collect(&basis, start, &mut found)?;
+    collect(&context, start, &mut found)?;
     let near = found.into_near(alloc, galley, style, &areas_give(style))?;
     Ok(FrontWalk { base, near })
 }

@@ -4,12 +4,12 @@ ghost use Rattle.pg_rules.specs.Legal.{document};
 ghost use Rattle.pg_style.specs.Values.{StyleValue};
 ghost use Rattle.law_walk.specs.Reached.{greatest_from};
 ghost use Rattle.law_walk.specs.Walk.{variants_at as variants_at_of};
-ghost use Rattle.pg_walk.specs.Bases.{IsBasis, doc_of};
+ghost use Rattle.pg_walk.specs.Contexts.{IsContext, doc_of};
 ghost use Rattle.pg_walk.specs.Meaning.{IsOwn, greatest_behind, reach_by, state_of};
 ghost use Rattle.pg_walk.specs.Furthest.{AreTold, GoesTo, IsFurthest};
 
 use crate::filling::filled_from;
-use crate::{Basis, variants_at};
+use crate::{Context, variants_at};
 use pg_hops::State;
 use pg_list::Galley;
 use pg_table::Entry;
@@ -46,11 +46,11 @@ fn reach_of_labels(galley: &Galley, labels: &[Entry<State, u32>], least: u32) ->
 /// which those with equal sums at one front are one.
 ///
 /// Condition: the state is one of the walk. The one refusal is want of memory.
-pub fn furthest(basis: &Basis, start: State, least: u32) -> Result<u32, AllocError>
-    requires basis { IsBasis basis.now }
-    requires own { IsOwn (doc_of basis.now) basis.now.top start }
-    ensures { IfOk result (GoesTo (doc_of basis.now) basis.now.top start least) }
+pub fn furthest(context: &Context, start: State, least: u32) -> Result<u32, AllocError>
+    requires context { IsContext context.now }
+    requires own { IsOwn (doc_of context.now) context.now.top start }
+    ensures { IfOk result (GoesTo (doc_of context.now) context.now.top start least) }
 {
-    let table = filled_from(basis, start)?;
-    Ok(reach_of_labels(basis.galley, table.labels(), least))
+    let table = filled_from(context, start)?;
+    Ok(reach_of_labels(context.galley, table.labels(), least))
 }

@@ -19,7 +19,7 @@
 //! (`specs/Collected`), and `furthest` tells the greatest block along them (`specs/Furthest`).
 #![tactic(auto)]
 
-mod basis;
+mod context;
 mod filling;
 mod front;
 mod give;
@@ -35,7 +35,7 @@ mod straight;
 mod table;
 mod walking;
 
-pub use basis::Basis;
+pub use context::Context;
 pub use front::{
     Front, FrontWalk, LoweredState, fronts_serve, is_same_state, lowered, reaches_serve,
     walk_behind,

@@ -1,5 +1,5 @@
 //! One walk for all columns of text from a place.
-ghost use Rattle.std.specs.Prelude.{◌≡◌, ◌<◌, ◌^◌, IfOk, IfSome, None, nat_abs};
+ghost use Rattle.std.specs.Prelude.{◌≡◌, ◌<◌, ◌^◌, [], IfOk, IfSome, None, nat_abs};
 ghost use Rattle.pg_hops.specs.Index.{AreHops};
 ghost use Rattle.pg_rules.specs.IsState.{IsPlace};
 ghost use Rattle.pg_rules.specs.Legal.{document};
@@ -7,7 +7,7 @@ ghost use Rattle.pg_rules.specs.Reach.{IsReach};
 ghost use Rattle.pg_candidates.specs.Nears.{AreNearFrom, AreNearOnPages};
 ghost use Rattle.law_walk.specs.Reached.{tallest as tallest_of};
 ghost use Rattle.law_walk.specs.Space.{first_ends};
-ghost use Rattle.pg_walk.specs.Bases.{IsBasis, doc_of};
+ghost use Rattle.pg_walk.specs.Contexts.{IsContext, doc_of};
 ghost use Rattle.pg_walk.specs.Blocks.{HasStart, TellsAlone};
 ghost use Rattle.pg_walk.specs.Fronts.{ComesTo, IsAhead};
 ghost use Rattle.pg_walk.specs.Straight.{TellsAll};
@@ -19,9 +19,9 @@ use crate::straight::{
     StraightEnds, StraightWalk, comes_to_choice, has_one_room, straight_walk, tallest_room,
 };
 use crate::walking::{candidates, collect_behind, first_stretch, quiet_greatest, state_behind};
-use crate::{Basis, variants_at};
+use crate::{Context, variants_at};
 use law_walk::laws::walk_is_a_space;
-use pg_candidates::{AllRooms, CandidateList, NearList};
+use pg_candidates::{AllRooms, CandidateList, NearList, OneRoom, RoomEnd};
 use pg_hops::{BreakIndex, State};
 use pg_list::{Galley, Place};
 use pg_style::{Give, Style};
@@ -54,30 +54,30 @@ pub(crate) fn near_from(
 
 // What a walk from a place tells, by what its first stretch tells, of which these are the ends.
 fn walk_on_from(
-    basis: &Basis,
+    context: &Context,
     from: Place,
     start: Option<State>,
     told: Option<u32>,
     first: CandidateList,
 ) -> Result<PlaceWalk, AllocError>
-    requires basis { IsBasis basis.now }
-    requires top { basis.now.top ≡ tallest_of basis.now.style.now }
-    requires place { IsPlace basis.now.galley.now.blocks from }
-    requires ends { first ≡ first_ends (doc_of basis.now) basis.now.top from }
-    requires start { HasStart (doc_of basis.now) basis.now.top from start }
-    requires told { TellsAlone (doc_of basis.now) basis.now.top from start told }
-    ensures near { IfOk result (λ walk. AreNearOnPages (doc_of basis.now) from walk.near) }
-    ensures reach { IfOk result (λ walk. IsReach (doc_of basis.now) from walk.reach) }
+    requires context { IsContext context.now }
+    requires top { context.now.top ≡ tallest_of context.now.style.now }
+    requires place { IsPlace context.now.galley.now.blocks from }
+    requires ends { first ≡ first_ends (doc_of context.now) context.now.top from }
+    requires start { HasStart (doc_of context.now) context.now.top from start }
+    requires told { TellsAlone (doc_of context.now) context.now.top from start told }
+    ensures near { IfOk result (λ walk. AreNearOnPages (doc_of context.now) from walk.near) }
+    ensures reach { IfOk result (λ walk. IsReach (doc_of context.now) from walk.reach) }
 {
-    let Basis {
+    let Context {
         alloc,
         galley,
         style,
         index,
         ..
-    } = *basis;
+    } = *context;
     let mut found = first;
-    let told = collect_behind(basis, from, start, told, &mut found)?;
+    let told = collect_behind(context, from, start, told, &mut found)?;
     let reach = reach_told(alloc, galley, style, index, from, told)?;
     let near = found.into_near(alloc, galley, style, &areas_give(style))?;
     Ok(PlaceWalk { near, reach })
@@ -100,17 +100,17 @@ pub fn walk_from(
     ensures reach { IfOk result (λ walk. IsReach (document galley.now style.now) from walk.reach) }
 {
     let mut found = CandidateList::with_room(alloc)?;
-    let basis = Basis {
+    let context = Context {
         alloc,
         galley,
         style,
         index,
         top: tallest(style),
     };
-    let walked = first_stretch(&basis, from, &mut found)?;
+    let walked = first_stretch(&context, from, &mut found)?;
     let start = state_behind(&walked);
     let told = quiet_greatest(&walked);
-    walk_on_from(&basis, from, start, told, found)
+    walk_on_from(&context, from, start, told, found)
 }
 
 /// What the first stretch from a place tells, up to the first choice: where columns may end along it, with what no room
@@ -126,7 +126,9 @@ pub struct FirstWalk {
     pub reach: u32,
 }
 
-// How columns from a place come to the front of a choice behind the first stretch, with their notes and without.
+// How columns from a place come to the front of a choice behind the first stretch, with their notes and without. Not made
+// part of its callers, which would pay for its locals where there is no choice.
+#[inline(never)]
 fn front_behind(
     alloc: Global,
     galley: &Galley,
@@ -134,18 +136,22 @@ fn front_behind(
     index: &BreakIndex,
     from: Place,
     start: Option<State>,
-) -> Option<Front>
+) -> Result<Option<Box<Front>>, AllocError>
     requires hops { AreHops galley.now.blocks style.now.maxdepth index.now }
     requires place { IsPlace galley.now.blocks from }
     requires start { HasStart (document galley.now style.now) (tallest_of style.now) from start }
-    ensures { IfSome result (IsAhead (document galley.now style.now) from) }
+    ensures { IfOk result (λ o. IfSome o (λ front. IsAhead (document galley.now style.now) from front.value)) }
 {
-    let start = start?;
+    let Some(start) = start else {
+        return Ok(None);
+    };
     if variants_at(galley, start.block).is_empty() {
-        return None;
+        return Ok(None);
     }
-    let quiet = quiet_state(alloc, galley, style, index, from)?;
-    Some(Front { start, quiet })
+    let Some(quiet) = quiet_state(alloc, galley, style, index, from) else {
+        return Ok(None);
+    };
+    Ok(Some(Box::new(alloc, Front { start, quiet })?))
 }
 
 // What the ends in the one room of the style tell, with how columns come to the front behind the first stretch; none where
@@ -156,9 +162,11 @@ fn walk_straight(
     style: &Style,
     index: &BreakIndex,
     from: Place,
+    ends: Vec<RoomEnd>,
 ) -> Result<Option<FirstWalk>, AllocError>
     requires hops { AreHops galley.now.blocks style.now.maxdepth index.now }
     requires place { IsPlace galley.now.blocks from }
+    requires none { ends.items ≡ [] }
     ensures whole { IfOk result (λ o. IfSome o (λ it. it.front ≡ None → TellsAll (document galley.now style.now) from it)) }
     ensures reach { IfOk result (λ o. IfSome o (λ it. it.front ≡ None →
         IsReach (document galley.now style.now) from it.reach)) }
@@ -167,8 +175,12 @@ fn walk_straight(
 {
     let _ = galley.blocks().as_slice();
     walk_is_a_space(galley, style);
-    let room = tallest_room(style);
-    let StraightWalk { straight, walked } = straight_walk(alloc, galley, style, index, from, room)?;
+    let none = OneRoom {
+        galley,
+        room: tallest_room(style),
+        ends,
+    };
+    let StraightWalk { straight, walked } = straight_walk(alloc, galley, style, index, from, none)?;
     let straight = Some(straight);
     let told = quiet_greatest(&walked);
     let near = NearList::none(alloc);
@@ -181,7 +193,7 @@ fn walk_straight(
             reach,
         }));
     }
-    let front = front_behind(alloc, galley, style, index, from, state_behind(&walked));
+    let front = front_behind(alloc, galley, style, index, from, state_behind(&walked))?;
     let Some(front) = front else {
         return Ok(None);
     };
@@ -189,12 +201,13 @@ fn walk_straight(
     Ok(Some(FirstWalk {
         near,
         straight,
-        front: Some(Box::new(alloc, front)?),
+        front: Some(front),
         reach,
     }))
 }
 
 // Walks along the first stretch from a place, and on where no choice stands behind it, for all rooms.
+#[inline(never)]
 fn walk_for_rooms(
     alloc: Global,
     galley: &Galley,
@@ -212,14 +225,14 @@ fn walk_for_rooms(
     let _ = galley.blocks().as_slice();
     walk_is_a_space(galley, style);
     let mut found = AllRooms::new(alloc, galley, areas_give(style))?;
-    let basis = Basis {
+    let context = Context {
         alloc,
         galley,
         style,
         index,
         top: tallest(style),
     };
-    let walked = first_stretch(&basis, from, &mut found)?;
+    let walked = first_stretch(&context, from, &mut found)?;
     let told = quiet_greatest(&walked);
     if !comes_to_choice(galley, state_behind(&walked)) {
         let reach = reach_told(alloc, galley, style, index, from, told)?;
@@ -230,7 +243,7 @@ fn walk_for_rooms(
             reach,
         });
     }
-    let front = front_behind(alloc, galley, style, index, from, state_behind(&walked));
+    let front = front_behind(alloc, galley, style, index, from, state_behind(&walked))?;
     let Some(front) = front else {
         let walk = walk_from(alloc, galley, style, index, from)?;
         return Ok(FirstWalk {
@@ -245,12 +258,13 @@ fn walk_for_rooms(
     Ok(FirstWalk {
         near,
         straight: None,
-        front: Some(Box::new(alloc, front)?),
+        front: Some(front),
         reach,
     })
 }
 
-/// Walks along the first stretch from a place, and on where no choice stands behind it.
+/// Walks along the first stretch from a place, and on where no choice stands behind it. Ends in the one room of the style
+/// are kept in a list that has none yet, for its memory.
 ///
 /// Conditions: the place is the galley's, and the index is of the galley and style. The one refusal is want of memory.
 pub fn walk_first(
@@ -259,9 +273,11 @@ pub fn walk_first(
     style: &Style,
     index: &BreakIndex,
     from: Place,
+    ends: Vec<RoomEnd>,
 ) -> Result<FirstWalk, AllocError>
     requires hops { AreHops galley.now.blocks style.now.maxdepth index.now }
     requires place { IsPlace galley.now.blocks from }
+    requires none { ends.items ≡ [] }
     ensures whole { IfOk result (λ it. it.front ≡ None → TellsAll (document galley.now style.now) from it) }
     ensures reach { IfOk result (λ it. it.front ≡ None → IsReach (document galley.now style.now) from it.reach) }
     ensures front { IfOk result (λ it.
@@ -270,7 +286,7 @@ pub fn walk_first(
     if !has_one_room(style) {
         return walk_for_rooms(alloc, galley, style, index, from);
     }
-    match walk_straight(alloc, galley, style, index, from)? {
+    match walk_straight(alloc, galley, style, index, from, ends)? {
         Some(walk) => Ok(walk),
         None => walk_for_rooms(alloc, galley, style, index, from),
     }

@@ -5,12 +5,12 @@ ghost use Rattle.pg_rules.specs.IsState.{IsPlace};
 ghost use Rattle.pg_rules.specs.Legal.{document};
 ghost use Rattle.pg_rules.specs.Reach.{IsReach, greatest_extra as greatest_extra_of};
 ghost use Rattle.law_walk.specs.Reached.{quiet, tallest as tallest_of};
-ghost use Rattle.pg_walk.specs.Bases.{IsBasis, doc_of};
+ghost use Rattle.pg_walk.specs.Contexts.{IsContext, doc_of};
 ghost use Rattle.pg_walk.specs.Blocks.{IsAlone, IsBegun, IsGreatestFrom, state};
 ghost use Rattle.pg_walk.specs.Fronts.{IsReachBehind};
 
 use crate::give::greatest_shrink;
-use crate::{Basis, furthest, variants_at};
+use crate::{Context, furthest, variants_at};
 use law_walk::laws::walk_tells_reach;
 use pg_hops::{BreakIndex, Cursor, Passed, State, pass_on};
 use pg_list::{Galley, Place};
@@ -109,19 +109,19 @@ fn state_at(block: u32, passed: Option<Passed>) -> Option<State>
 
 // The greatest block that columns of text from a place come to, whatever they pick, up to breaks that no room up to the
 // greatest one lets pass.
-fn greatest_block(basis: &Basis, from: Place) -> Result<u32, AllocError>
-    requires basis { IsBasis basis.now }
-    requires place { IsPlace basis.now.galley.now.blocks from }
-    ensures { IfOk result (IsGreatestFrom (doc_of basis.now) basis.now.top from) }
+fn greatest_block(context: &Context, from: Place) -> Result<u32, AllocError>
+    requires context { IsContext context.now }
+    requires place { IsPlace context.now.galley.now.blocks from }
+    ensures { IfOk result (IsGreatestFrom (doc_of context.now) context.now.top from) }
 {
-    let style = basis.style;
-    let _ = basis.galley.blocks().as_slice();
-    let ahead = Cursor::first(basis.galley, from);
+    let style = context.style;
+    let _ = context.galley.blocks().as_slice();
+    let ahead = Cursor::first(context.galley, from);
     let passing = pass_on(
-        basis.galley,
+        context.galley,
         style,
-        basis.index,
-        basis.top,
+        context.index,
+        context.top,
         ahead,
         Passed::nothing(style),
     );
@@ -129,10 +129,10 @@ fn greatest_block(basis: &Basis, from: Place) -> Result<u32, AllocError>
     let Some(start) = state_at(passing.front, passing.passed) else {
         return Ok(first);
     };
-    if variants_at(basis.galley, start.block).is_empty() {
+    if variants_at(context.galley, start.block).is_empty() {
         return Ok(first);
     }
-    furthest(basis, start, first)
+    furthest(context, start, first)
 }
 
 // One more than the greatest block that columns without notes come to in the tallest room.
@@ -161,14 +161,14 @@ fn reach_by(
     ensures { IfOk result (IsReach (document galley.now style.now) from) }
 {
     let quiet = quiet_style(alloc, style);
-    let basis = Basis {
+    let context = Context {
         alloc,
         galley,
         style: &quiet,
         index,
         top: tallest(style),
     };
-    let block = greatest_block(&basis, from)?;
+    let block = greatest_block(&context, from)?;
     Ok(one_more(galley, style, from, block))
 }
 
@@ -243,7 +243,7 @@ pub fn reach_behind(
     ensures { IfOk result (IsReachBehind (document galley.now style.now) start) }
 {
     let quiet = quiet_style(alloc, style);
-    let basis = Basis {
+    let context = Context {
         alloc,
         galley,
         style: &quiet,
@@ -251,7 +251,7 @@ pub fn reach_behind(
         top: tallest(style),
     };
     let front = start.block;
-    let block = furthest(&basis, start, front)?;
+    let block = furthest(&context, start, front)?;
     Ok(one_more(galley, style, from, block))
 }
 

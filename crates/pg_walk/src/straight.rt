@@ -1,5 +1,5 @@
 //! The ends in one room along the first stretch from a place.
-ghost use Rattle.std.specs.Prelude.{◌≡◌, IfOk, false};
+ghost use Rattle.std.specs.Prelude.{◌≡◌, [], IfOk, false};
 ghost use Rattle.pg_column.specs.Numbers.{IsRoom};
 ghost use Rattle.pg_hops.specs.Index.{AreHops};
 ghost use Rattle.pg_rules.specs.IsState.{IsPlace};
@@ -10,7 +10,7 @@ ghost use Rattle.pg_walk.specs.Straight.{AreStraight, tallest_room as tallest_ro
 
 use crate::reach::{tallest, tallest_run};
 use crate::walking::first_stretch;
-use crate::{Basis, variants_at};
+use crate::{Context, variants_at};
 use pg_candidates::{OneRoom, RoomEnd, Walked};
 use pg_column::TextRoom;
 use pg_hops::{BreakIndex, State};
@@ -54,31 +54,32 @@ pub(crate) struct StraightWalk {
     pub(crate) walked: Walked,
 }
 
-// Walks along the first stretch from a place, and keeps the ends in a room.
+// Walks along the first stretch from a place, and keeps the ends in a room in a list that has none yet.
 pub(crate) fn straight_walk(
     alloc: Global,
     galley: &Galley,
     style: &Style,
     index: &BreakIndex,
     from: Place,
-    room: TextRoom,
+    none: OneRoom<'_>,
 ) -> Result<StraightWalk, AllocError>
     requires hops { AreHops galley.now.blocks style.now.maxdepth index.now }
     requires place { IsPlace galley.now.blocks from }
-    requires room { IsRoom room }
-    ensures room { IfOk result (λ it. it.straight.room ≡ room) }
+    requires galley { none.galley.now ≡ galley.now }
+    requires none { none.ends.items ≡ [] }
+    ensures room { IfOk result (λ it. it.straight.room ≡ none.entry.room) }
     ensures ends { IfOk result (λ it. AreStraight (document galley.now style.now) from it.straight) }
     ensures walked { IfOk result (λ it. HasWalked (document galley.now style.now) (tallest_of style.now) from it.walked) }
 {
-    let mut one = OneRoom::new(alloc, galley, room)?;
-    let basis = Basis {
+    let mut one = none;
+    let context = Context {
         alloc,
         galley,
         style,
         index,
         top: tallest(style),
     };
-    let walked = first_stretch(&basis, from, &mut one)?;
+    let walked = first_stretch(&context, from, &mut one)?;
     let room = one.room;
     let ends = one.ends;
     Ok(StraightWalk {
@@ -104,7 +105,8 @@ pub fn straight_ends(
     ensures ends { IfOk result (λ it. AreStraight (document galley.now style.now) from it) }
 {
     let index = BreakIndex::empty(alloc);
-    let walk = straight_walk(alloc, galley, style, &index, from, *room)?;
+    let none = OneRoom::new(alloc, galley, *room)?;
+    let walk = straight_walk(alloc, galley, style, &index, from, none)?;
     Ok(walk.straight)
 }
 

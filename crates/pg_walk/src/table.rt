@@ -3,11 +3,11 @@ ghost use Rattle.std.specs.Prelude.{◌≡◌, ◌<◌, ◌≤◌, ◌^◌, Cont
 ghost use Rattle.pg_hops.specs.declared.state.State.{State as AState};
 ghost use Rattle.pg_table.specs.Label.{Grounded};
 ghost use Rattle.pg_table.specs.declared.table.Entry.{Entry as AnEntry};
-ghost use Rattle.pg_walk.specs.Bases.{IsBasis, doc_of};
+ghost use Rattle.pg_walk.specs.Contexts.{IsContext, doc_of};
 ghost use Rattle.pg_walk.specs.Meaning.{IsOwn};
 ghost use Rattle.pg_walk.specs.Collected.{AreSmall, Collects, HasEnds};
 
-use crate::Basis;
+use crate::Context;
 use crate::filling::filled_from;
 use crate::label::add_label;
 use crate::runs::picks_of;
@@ -18,20 +18,20 @@ use std::alloc::AllocError;
 
 // Adds the ends of each label.
 fn add_labels(
-    basis: &Basis,
+    context: &Context,
     labels: &[Entry<State, u32>],
     found: &mut CandidateList,
 ) -> Result<(), AllocError>
-    requires basis { IsBasis basis.now }
-    requires few { length basis.now.galley.now.blocks ≤ 2 ^ 20 }
+    requires context { IsContext context.now }
+    requires few { length context.now.galley.now.blocks ≤ 2 ^ 20 }
     requires grounded { Grounded labels.now }
-    requires small { AreSmall (doc_of basis.now) basis.now.top labels.now }
-    ensures { OnOk result (HasEnds (doc_of basis.now) basis.now.top labels.now labels.now found.old found.new) }
+    requires small { AreSmall (doc_of context.now) context.now.top labels.now }
+    ensures { OnOk result (HasEnds (doc_of context.now) context.now.top labels.now labels.now found.old found.new) }
 {
     let mut at = 0usize;
     'labels: while at < labels.len() {
-        let picks = picks_of(basis.alloc, labels, at)?;
-        add_label(basis, &labels[at], &picks, found)?;
+        let picks = picks_of(context.alloc, labels, at)?;
+        add_label(context, &labels[at], &picks, found)?;
         at += 1;
     }
     Ok(())
@@ -42,11 +42,11 @@ fn add_labels(
 /// ends along the stretch of the pick, behind the picks of the label.
 ///
 /// Condition: the state is one of the walk. The one refusal is want of memory.
-pub fn collect(basis: &Basis, start: State, found: &mut CandidateList) -> Result<(), AllocError>
-    requires basis { IsBasis basis.now }
-    requires own { IsOwn (doc_of basis.now) basis.now.top start }
-    ensures { OnOk result (Collects (doc_of basis.now) basis.now.top start found.old found.new) }
+pub fn collect(context: &Context, start: State, found: &mut CandidateList) -> Result<(), AllocError>
+    requires context { IsContext context.now }
+    requires own { IsOwn (doc_of context.now) context.now.top start }
+    ensures { OnOk result (Collects (doc_of context.now) context.now.top start found.old found.new) }
 {
-    let table = filled_from(basis, start)?;
-    add_labels(basis, table.labels(), found)
+    let table = filled_from(context, start)?;
+    add_labels(context, table.labels(), found)
 }

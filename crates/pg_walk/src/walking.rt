@@ -8,10 +8,10 @@ ghost use Rattle.pg_column.specs.Passed.{nothing};
 ghost use Rattle.law_walk.specs.Candidates.{AreCandidates};
 ghost use Rattle.law_walk.specs.Reached.{quiet};
 ghost use Rattle.law_walk.specs.Space.{first_ends};
-ghost use Rattle.pg_walk.specs.Bases.{IsBasis, doc_of};
+ghost use Rattle.pg_walk.specs.Contexts.{IsContext, doc_of};
 ghost use Rattle.pg_walk.specs.Blocks.{HasStart, HasWalked, IsAlone, TellsAlone};
 
-use crate::{Basis, collect, variants_at};
+use crate::{Context, collect, variants_at};
 use law_walk::laws::walk_is_a_space;
 use pg_candidates::{CandidateList, Start, TakesEnds, Walked, walk_on};
 use pg_hops::{BreakIndex, Cursor, Passed, State};
@@ -30,30 +30,30 @@ fn has_classes(style: &Style)
 /// Hands on the ends along the first stretch, and answers what the walk along it tells; where the notes passed take no room,
 /// it tells of a walk without notes.
 pub(crate) fn first_stretch<T: TakesEnds>(
-    basis: &Basis,
+    context: &Context,
     from: Place,
     found: &mut T,
 ) -> Result<Walked, AllocError>
-    requires basis { IsBasis basis.now }
-    requires place { IsPlace basis.now.galley.now.blocks from }
-    ensures ends { OnOk result (T.Took basis.now.style.now found.old found.new (first_ends (doc_of basis.now) basis.now.top from)) }
-    ensures walked { IfOk result (HasWalked (doc_of basis.now) basis.now.top from) }
+    requires context { IsContext context.now }
+    requires place { IsPlace context.now.galley.now.blocks from }
+    ensures ends { OnOk result (T.Took context.now.style.now found.old found.new (first_ends (doc_of context.now) context.now.top from)) }
+    ensures walked { IfOk result (HasWalked (doc_of context.now) context.now.top from) }
 {
-    has_classes(basis.style);
-    let _ = basis.galley.blocks().as_slice();
-    let ahead = Cursor::first(basis.galley, from);
-    let picks = Picks::new(basis.alloc);
+    has_classes(context.style);
+    let _ = context.galley.blocks().as_slice();
+    let ahead = Cursor::first(context.galley, from);
+    let picks = Picks::new(context.alloc);
     let start = Start {
         at: ahead,
-        passed: Passed::nothing(basis.style),
+        passed: Passed::nothing(context.style),
         picks: &picks,
         demerits: 0,
     };
     walk_on(
-        basis.galley,
-        basis.style,
-        basis.index,
-        basis.top,
+        context.galley,
+        context.style,
+        context.index,
+        context.top,
         &start,
         found,
     )
@@ -80,49 +80,49 @@ pub(crate) fn state_behind(walked: &Walked) -> Option<State>
 // Adds the ends behind the first stretch to those along it, and answers the greatest block of columns without notes, where
 // the first stretch is all there is and that block is told.
 pub(crate) fn collect_behind(
-    basis: &Basis,
+    context: &Context,
     from: Place,
     start: Option<State>,
     told: Option<u32>,
     found: &mut CandidateList,
 ) -> Result<Option<u32>, AllocError>
-    requires basis { IsBasis basis.now }
-    requires place { IsPlace basis.now.galley.now.blocks from }
-    requires ends { found.old ≡ first_ends (doc_of basis.now) basis.now.top from }
-    requires start { HasStart (doc_of basis.now) basis.now.top from start }
-    requires told { TellsAlone (doc_of basis.now) basis.now.top from start told }
-    ensures found { OnOk result (AreCandidates (doc_of basis.now) from basis.now.top found.new) }
-    ensures told { IfOk result (λ told. IfSome told (IsAlone (quiet (doc_of basis.now)) basis.now.top from)) }
+    requires context { IsContext context.now }
+    requires place { IsPlace context.now.galley.now.blocks from }
+    requires ends { found.old ≡ first_ends (doc_of context.now) context.now.top from }
+    requires start { HasStart (doc_of context.now) context.now.top from start }
+    requires told { TellsAlone (doc_of context.now) context.now.top from start told }
+    ensures found { OnOk result (AreCandidates (doc_of context.now) from context.now.top found.new) }
+    ensures told { IfOk result (λ told. IfSome told (IsAlone (quiet (doc_of context.now)) context.now.top from)) }
 {
-    let _ = basis.galley.blocks().as_slice();
-    walk_is_a_space(basis.galley, basis.style);
+    let _ = context.galley.blocks().as_slice();
+    walk_is_a_space(context.galley, context.style);
     let Some(start) = start else {
         return Ok(told);
     };
-    if variants_at(basis.galley, start.block).is_empty() {
+    if variants_at(context.galley, start.block).is_empty() {
         return Ok(told);
     }
-    collect(basis, start, found)?;
+    collect(context, start, found)?;
     Ok(None)
 }
 
 // Finds the candidates of a place, and answers the greatest block of columns without notes, where the first stretch is
 // all there is and tells it.
 pub(crate) fn collect_from(
-    basis: &Basis,
+    context: &Context,
     from: Place,
     found: &mut CandidateList,
 ) -> Result<Option<u32>, AllocError>
-    requires basis { IsBasis basis.now }
-    requires place { IsPlace basis.now.galley.now.blocks from }
+    requires context { IsContext context.now }
+    requires place { IsPlace context.now.galley.now.blocks from }
     requires none { found.old ≡ [] }
-    ensures found { OnOk result (AreCandidates (doc_of basis.now) from basis.now.top found.new) }
-    ensures told { IfOk result (λ told. IfSome told (IsAlone (quiet (doc_of basis.now)) basis.now.top from)) }
+    ensures found { OnOk result (AreCandidates (doc_of context.now) from context.now.top found.new) }
+    ensures told { IfOk result (λ told. IfSome told (IsAlone (quiet (doc_of context.now)) context.now.top from)) }
 {
-    let walked = first_stretch(basis, from, found)?;
+    let walked = first_stretch(context, from, found)?;
     let start = state_behind(&walked);
     let told = quiet_greatest(&walked);
-    collect_behind(basis, from, start, told, found)
+    collect_behind(context, from, start, told, found)
 }
 
 /// Where columns of text from a place may end in some room up to a greatest one, in scaled points, with what they pass
@@ -141,7 +141,7 @@ pub fn candidates(
     ensures { IfOk result (AreCandidates (document galley.now style.now) from top) }
 {
     let index = BreakIndex::empty(alloc);
-    let basis = Basis {
+    let context = Context {
         alloc,
         galley,
         style,
@@ -149,6 +149,6 @@ pub fn candidates(
         top,
     };
     let mut found = CandidateList::with_room(alloc)?;
-    collect_from(&basis, from, &mut found)?;
+    collect_from(&context, from, &mut found)?;
     Ok(found)
 }

@@ -70,8 +70,16 @@ impl Space for Numbers {
         Ok(0)
     }
 
-    fn key(&self, state: &u32) -> Result<u32, AllocError> {
-        Ok(*state)
+    fn is_done(&self, state: &u32) -> bool {
+        *state == self.last
+    }
+
+    fn order(&self, a: &u32, b: &u32) -> Ordering {
+        a.cmp(b)
+    }
+
+    fn no_worse(&self, a: &u32, b: &u32) -> bool {
+        *a == *b
     }
 
     fn rank(&self, state: &u32) -> u64 {
@@ -82,16 +90,8 @@ impl Space for Numbers {
         *state
     }
 
-    fn is_done(&self, state: &u32) -> bool {
-        *state == self.last
-    }
-
-    fn no_worse(&self, a: &u32, b: &u32) -> bool {
-        *a == *b
-    }
-
-    fn order(&self, a: &u32, b: &u32) -> Ordering {
-        a.cmp(b)
+    fn key(&self, state: &u32) -> Result<u32, AllocError> {
+        Ok(*state)
     }
 
     fn expand<L: Ledger>(

@@ -9,7 +9,7 @@ pub returns-then-not-may_end : goal.returns-then-not-may_end
 returns-then-not-may_end g c =
     let column = c.args.column.now in
     group_closed (doc_at column) column.state.now column.laid.now
-    c.requires.laid (g.W.Wants.spares c.args.wants.now) column.near.now.candidates
+    c.requires.laid (g.W.Wants.spares c.args.wants.now) column.near.now.picks
     c.args.before.now c.args.ends.now c.as_slice.result.now c.args.steps.now c.may_end.result
     c.as_slice.ensures c.if-not-may_end.true (λ to e. c.may_end.ensures column.state.now to c.requires.known e)
 
@@ -17,7 +17,7 @@ pub returns-in-None : goal.returns-in-None
 returns-in-None g c =
     let column = c.args.column.now in
     group_old (doc_at column) column.state.now column.laid.now
-    c.requires.laid (g.W.Wants.spares c.args.wants.now) column.near.now.candidates
+    c.requires.laid (g.W.Wants.spares c.args.wants.now) column.near.now.picks
     c.args.before.now c.args.ends.now c.args.steps.now c.in_ok-settle.field-0 c.in-None.is
     (λ to e. c.in_ok-settle.ensures.settles to (c.as_slice-2.ensures ∙ ap (λ (it : Before). it.called) e))
 
@@ -26,7 +26,7 @@ returns-in-Some g c =
     let column = c.args.column.now in
     on_ok_weaker c.add_ends.result (λ step all. step (group_open (doc_at column)
     column.state.now column.laid.now c.requires.laid (g.W.Wants.spares c.args.wants.now)
-    column.near.now.candidates c.args.before.now c.args.ends.now c.as_slice.result.now
+    column.near.now.picks c.args.before.now c.args.ends.now c.as_slice.result.now
     c.may_end.result c.in_ok-settle.field-0 c.in-Some.settled c.as_slice.ensures c.if-not-may_end.false
     (λ to e. c.may_end.ensures column.state.now to c.requires.known e) c.in-Some.is
     (λ to e. c.in_ok-settle.ensures.settles to (c.as_slice-2.ensures ∙ ap (λ (it : Before). it.called) e)) all)) c.add_ends.ensures

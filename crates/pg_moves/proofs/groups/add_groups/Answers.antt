@@ -8,7 +8,7 @@ pub groups-preserved : goal.groups-preserved
 groups-preserved g c =
     let column = c.args.column.now in
     group_next (doc_at column) column.state.now
-    (g.W.Wants.spares c.args.wants.now) column.near.now.candidates column.laid.now.layout c.args.groups.now
+    (g.W.Wants.spares c.args.wants.now) column.near.now.picks column.laid.now.layout c.args.groups.now
     c.groups.left.now _ c.group-item.result c.group-item.result.before c.args.ends.now c.groups.rest.now
     c.first_ends-first.result.now c.later_ends-rest.result.now c.args.steps.now c.groups.steps c.add_group.new.steps
     (split_first c.groups.left.now c.group-item.result (search rules) c.group-item.is) refl
@@ -18,7 +18,7 @@ pub returns : goal.returns
 returns g c =
     let column = c.args.column.now in
     groups_done (doc_at column) column.state.now
-    (g.W.Wants.spares c.args.wants.now) column.near.now.candidates column.laid.now.layout c.args.groups.now
+    (g.W.Wants.spares c.args.wants.now) column.near.now.picks column.laid.now.layout c.args.groups.now
     c.groups.left.now c.args.ends.now c.groups.rest.now c.args.steps.now c.groups.steps c.in_default.len_below
     c.groups.invariant
 
@@ -26,5 +26,5 @@ pub groups-init : goal.groups-init
 groups-init g c = let column = c.args.column.now in λ all. (
   all,
   not_gone (doc_at column) column.state.now (g.W.Wants.spares c.args.wants.now)
-      column.near.now.candidates column.laid.now.layout c.args.ends.now c.args.steps.now,
+      column.near.now.picks column.laid.now.layout c.args.ends.now c.args.steps.now,
 )

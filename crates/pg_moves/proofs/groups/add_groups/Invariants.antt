@@ -6,7 +6,7 @@ use Rattle.pg_moves.proofs.groups.add_groups.Given as goal
 
 abbrev pub invariant-groups : goal.invariant-groups
 invariant-groups g l = AreGroups (doc_at l.column) l.groups l.ends → AreGroups (doc_at l.column) l.left l.rest
-    × Going (doc_at l.column) l.column.state.now (g.W.Wants.spares l.wants) l.column.near.now.candidates
+    × Going (doc_at l.column) l.column.state.now (g.W.Wants.spares l.wants) l.column.near.now.picks
     l.column.laid.now.layout l.ends l.rest l.initial.steps l.steps
 
 abbrev pub decreases-groups : goal.decreases-groups

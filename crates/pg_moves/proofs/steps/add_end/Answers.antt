@@ -30,7 +30,7 @@ pub returns-then-ends_here-clause-added : goal.returns-then-ends_here-clause-add
 returns-then-ends_here-clause-added g c =
     let column = c.args.column.now in
     λ goes. not_stepped (doc_at column) column.state.now
-    column.laid.now c.requires.laid (g.W.Wants.spares c.args.wants.now) column.near.now.candidates
+    column.laid.now c.requires.laid (g.W.Wants.spares c.args.wants.now) column.near.now.picks
     c.args.end.now c.args.settled.now c.args.steps.now (sym c.ends_here.ensures ∙ c.if-ends_here.true) goes
 
 pub returns-then-not-wants-clause-spared : goal.returns-then-not-wants-clause-spared
@@ -43,14 +43,14 @@ pub returns-then-not-wants-clause-added : goal.returns-then-not-wants-clause-add
 returns-then-not-wants-clause-added g c =
     let column = c.args.column.now in
     λ goes. not_wanted (doc_at column) column.state.now
-    column.laid.now c.requires.laid (g.W.Wants.spares c.args.wants.now) column.near.now.candidates
+    column.laid.now c.requires.laid (g.W.Wants.spares c.args.wants.now) column.near.now.picks
     c.args.end.now c.args.settled.now
     (step (doc_at column) column.state.now column.laid.now c.requires.laid c.end_at.new.self.state
     (move_at column c.args.end.now)
     (to_z w128 (of_z w128 c.cost_to-cost.result)))
     (sym c.ends_here.ensures ∙ c.if-ends_here.false)
     (asked_is (doc_at column) column.state.now column.laid.now c.requires.laid
-    column.near.now.candidates c.args.end.now c.args.settled.now c.args.behind.now c.end_at.new.self _
+    column.near.now.picks c.args.end.now c.args.settled.now c.args.behind.now c.end_at.new.self _
     c.end_at.ensures c.requires.behind
     (to_z-of_z w128 c.cost_to-cost.result (record { sfits = search rules }) ∙ c.cost_to-cost.ensures))
     goes c.args.steps.now (c.wants.ensures c.if-not-wants.true)
@@ -65,14 +65,14 @@ pub returns-clause-added : goal.returns-clause-added
 returns-clause-added g c =
     let column = c.args.column.now in
     λ goes. stepped (doc_at column) column.state.now
-    column.laid.now c.requires.laid (g.W.Wants.spares c.args.wants.now) column.near.now.candidates
+    column.laid.now c.requires.laid (g.W.Wants.spares c.args.wants.now) column.near.now.picks
     c.args.end.now c.args.settled.now
     (step (doc_at column) column.state.now column.laid.now c.requires.laid c.end_at.new.self.state
     (move_at column c.args.end.now)
     (to_z w128 (of_z w128 c.cost_to-cost.result)))
     (sym c.ends_here.ensures ∙ c.if-ends_here.false)
     (asked_is (doc_at column) column.state.now column.laid.now c.requires.laid
-    column.near.now.candidates c.args.end.now c.args.settled.now c.args.behind.now c.end_at.new.self _
+    column.near.now.picks c.args.end.now c.args.settled.now c.args.behind.now c.end_at.new.self _
     c.end_at.ensures c.requires.behind
     (to_z-of_z w128 c.cost_to-cost.result (record { sfits = search rules }) ∙ c.cost_to-cost.ensures))
     goes c.args.steps.now c.push_step.new.steps c.in_ok-push_step.ensures

@@ -15,12 +15,12 @@ ends-init g c = let column = c.args.column.now in record {
   behind = c.in_ok-behind.ensures.behind;
   spared = c.in_ok-behind.ensures.spared;
   going = λ all. skipped (doc_at column) column.state.now column.laid.now c.requires.laid
-      (g.W.Wants.spares c.args.wants.now) column.near.now.candidates c.args.settled.now c.in_ok-behind.behind
+      (g.W.Wants.spares c.args.wants.now) column.near.now.picks c.args.settled.now c.in_ok-behind.behind
       c.in_ok-behind.ensures.behind c.in_ok-behind.ensures.spared c.args.ends.now c.args.ends.now
       c.skip_outdone-rest.result.now c.args.steps.now c.args.steps.now c.skip_outdone-rest.ensures (
         all,
         not_gone (doc_at column) column.state.now (g.W.Wants.spares c.args.wants.now)
-            column.near.now.candidates column.laid.now.layout c.args.ends.now c.args.steps.now,
+            column.near.now.picks column.laid.now.layout c.args.ends.now c.args.steps.now,
       );
 }
 
@@ -29,12 +29,12 @@ ends-preserved g c = let column = c.args.column.now in record {
   behind = c.in_ok-add_end.ensures.behind;
   spared = c.in_ok-add_end.ensures.spared;
   going = λ all. skipped (doc_at column) column.state.now column.laid.now c.requires.laid
-      (g.W.Wants.spares c.args.wants.now) column.near.now.candidates c.args.settled.now c.add_end.new.behind
+      (g.W.Wants.spares c.args.wants.now) column.near.now.picks c.args.settled.now c.add_end.new.behind
       c.in_ok-add_end.ensures.behind c.in_ok-add_end.ensures.spared c.args.ends.now _
       c.skip_outdone-rest-in-len1-up.result.now c.args.steps.now c.add_end.new.steps
       c.skip_outdone-rest-in-len1-up.ensures
       (one_more (doc_at column) column.state.now column.laid.now c.requires.laid
-      (g.W.Wants.spares c.args.wants.now) column.near.now.candidates c.args.settled.now c.args.ends.now
+      (g.W.Wants.spares c.args.wants.now) column.near.now.picks c.args.settled.now c.args.ends.now
       c.ends.rest.now _ _ c.args.steps.now c.ends.steps c.add_end.new.steps
       (split_read c.ends.rest.now no_end c.in-len1-up.len_at_least) c.in_ok-add_end.ensures.added
       (c.ends.invariant.going all));
@@ -44,5 +44,5 @@ pub returns : goal.returns
 returns g c =
     let column = c.args.column.now in
     λ all. all_gone (doc_at column) column.state.now (g.W.Wants.spares c.args.wants.now)
-    column.near.now.candidates column.laid.now.layout c.args.ends.now c.ends.rest.now c.args.steps.now c.ends.steps
+    column.near.now.picks column.laid.now.layout c.args.ends.now c.ends.rest.now c.args.steps.now c.ends.steps
     (none_left c.ends.rest.now c.in_default.len_below) (c.ends.invariant.going all).1

@@ -10,7 +10,7 @@ invariant-ends g l = record {
   behind : IsBehindIt l.column l.settled l.behind;
   spared : AreSpared (g.W.Wants.spares l.wants) l.behind;
   going : AllByRecursion (MayEnd l.column l.settled) l.ends → AllByRecursion (MayEnd l.column l.settled) l.rest
-      × Going (doc_at l.column) l.column.state.now (g.W.Wants.spares l.wants) l.column.near.now.candidates
+      × Going (doc_at l.column) l.column.state.now (g.W.Wants.spares l.wants) l.column.near.now.picks
       l.column.laid.now.layout l.ends l.rest l.initial.steps l.steps;
 }
 

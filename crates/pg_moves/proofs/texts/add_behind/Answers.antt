@@ -14,9 +14,9 @@ returns g c = on_ok_weaker c.add_kept.result (λ step.
     let doc = doc_of c.args.opening.now.sources.now in
     let u = c.args.opening.now.state.now in
     let spares = g.W.Wants.spares c.args.wants.now in
-    let cs = c.args.behind.now.ends.walk.near.candidates in
+    let ps = c.args.behind.now.ends.walk.near.picks in
     behind_added doc u spares c.args.laid.now c.args.behind.now c.room_behind.result c.in-Some.left c.args.steps.now
     c.add_kept.new.steps c.room_behind.ensures.value c.in-Some.is
-    (subst (λ (rooms : List RoomEnds). AllByRecursion (AreRoomEnds doc cs cs) rooms →
-    Adds spares c.args.steps.now (steps_at doc u cs rooms c.in-Some.left c.args.laid.now) c.add_kept.new.steps)
-    c.as_slice-rooms.ensures.value (step cs))) c.add_kept.ensures
+    (λ all. subst (λ (rooms : List RoomEnds). AllByRecursion (AreRoomEnds doc all ps) rooms →
+    Adds spares c.args.steps.now (steps_at doc u ps rooms c.in-Some.left c.args.laid.now) c.add_kept.new.steps)
+    c.as_slice-rooms.ensures.value (step all))) c.add_kept.ensures

@@ -7,6 +7,6 @@ pub returns : goal.returns
 returns g c =
     let column = c.args.column.now in
     on_ok_weaker c.add_groups.result (λ step all. in_room (doc_at column) column.state.now
-    (g.W.Wants.spares c.args.wants.now) column.laid.now all column.near.now.candidates c.args.rooms.now c.args.room.now
+    (g.W.Wants.spares c.args.wants.now) column.laid.now all column.near.now.picks c.args.rooms.now c.args.room.now
     c.room_in.result.0.now c.room_in.result.1.now c.args.steps.now c.add_groups.new.steps
     c.room_in.ensures.groups c.room_in.ensures.ends step) c.add_groups.ensures

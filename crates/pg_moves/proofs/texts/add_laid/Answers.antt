@@ -16,11 +16,11 @@ returns-in-Some g c = on_ok_weaker c.add_behind.result (λ step right.
     let kept = c.args.kept.now in
     let spares = g.W.Wants.spares c.args.wants.now in
     let first = subst (λ (rooms : List RoomEnds). AllByRecursion
-    (AreRoomEnds doc right.first kept.walk.near.candidates) rooms →
-    Adds spares c.args.steps.now (steps_at doc u kept.walk.near.candidates rooms c.args.laid.now.room c.args.laid.now)
+    (AreRoomEnds doc right.first kept.walk.near.picks) rooms →
+    Adds spares c.args.steps.now (steps_at doc u kept.walk.near.picks rooms c.args.laid.now.room c.args.laid.now)
     c.add_kept.new.steps) c.as_slice-rooms.ensures.value (c.in_ok-add_kept.ensures right.first) in
     added_both doc u spares c.args.laid.now kept (sym c.has_text.ensures ∙ c.if-not-has_text.false) c.in-Some.behind
-    c.args.steps.now c.add_kept.new.steps c.add_behind.new.steps c.in-Some.is right.behind (first right.rooms) step)
+    c.args.steps.now c.add_kept.new.steps c.add_behind.new.steps c.in-Some.is right.later right.behind (first right.rooms) (step right.later))
     c.add_behind.ensures
 
 pub returns-in-None : goal.returns-in-None
@@ -30,8 +30,8 @@ returns-in-None g c = λ right.
     let kept = c.args.kept.now in
     let spares = g.W.Wants.spares c.args.wants.now in
     let first = subst (λ (rooms : List RoomEnds). AllByRecursion
-    (AreRoomEnds doc right.first kept.walk.near.candidates) rooms →
-    Adds spares c.args.steps.now (steps_at doc u kept.walk.near.candidates rooms c.args.laid.now.room c.args.laid.now)
+    (AreRoomEnds doc right.first kept.walk.near.picks) rooms →
+    Adds spares c.args.steps.now (steps_at doc u kept.walk.near.picks rooms c.args.laid.now.room c.args.laid.now)
     c.add_kept.new.steps) c.as_slice-rooms.ensures.value (c.in_ok-add_kept.ensures right.first) in
     added_alone doc u spares c.args.laid.now kept (sym c.has_text.ensures ∙ c.if-not-has_text.false) c.args.steps.now
     c.add_kept.new.steps c.in-None.is (first right.rooms)

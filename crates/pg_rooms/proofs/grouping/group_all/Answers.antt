@@ -12,9 +12,10 @@ no_floats : (called flushed : List ℕ) → called ≡ [] → flushed ≡ [] →
 no_floats called flushed p q = cc
 
 pub returns : goal.returns
-returns c = group_of_all (doc_of c.args.sources.now) c.new-groups.result.items c.push.new.self.items c.args.ends.now _
-    c.requires (no_floats c.new.result c.new-2.result c.new.ensures c.new-2.ensures) refl c.new-groups.ensures.items c.in_ok-push.ensures.items
+returns c = group_of_all (doc_of c.args.sources.now) c.args.none.items c.push.new.self.items c.args.ends.now _
+    c.requires.classes (no_floats c.new.result c.new-2.result c.new.ensures c.new-2.ensures) refl c.requires.none
+    c.in_ok-push.ensures.items
 
 pub returns-then-is_empty : goal.returns-then-is_empty
-returns-then-is_empty c = no_groups (doc_of c.args.sources.now) c.new-groups.result.items c.args.ends.now
-    c.new-groups.ensures.items (eqb-true _ _ (sym c.is_empty.ensures ∙ c.if-is_empty.true))
+returns-then-is_empty c = no_groups (doc_of c.args.sources.now) c.args.none.items c.args.ends.now
+    c.requires.none (eqb-true _ _ (sym c.is_empty.ensures ∙ c.if-is_empty.true))

@@ -8,8 +8,8 @@ use Rattle.pg_rooms.proofs.Called.{all_like}
 use Rattle.pg_rooms.proofs.Grouped.{all_grouped, no_end, one_group, split_read, still_few}
 use Rattle.pg_rooms.proofs.grouping.group_ends.Goals as goal
 
-pub group_all-requires : goal.group_all-requires
-group_all-requires c = sym c.slots.ensures.value ∙ c.has_no_class.ensures c.if-has_no_class.true
+pub group_all-requires-clause-classes : goal.group_all-requires-clause-classes
+group_all-requires-clause-classes c = sym c.slots.ensures.value ∙ c.has_no_class.ensures c.if-has_no_class.true
 
 pub returns-then-has_no_class-clause-groups : goal.returns-then-has_no_class-clause-groups
 returns-then-has_no_class-clause-groups c = IfOk-weaker c.group_all.result _ _ (λ groups are kept. are) c.group_all.ensures
@@ -20,7 +20,7 @@ returns-then-has_no_class-clause-calls c = IfOk-weaker c.group_all.result _ _ (�
 pub groups-init : goal.groups-init
 groups-init c = record {
   groups = λ all more g. subst (λ (found : List Group). AreGroups (doc_of c.args.sources.now) (found ++ more)
-      c.args.ends.now) (sym c.new-groups.ensures.items) g;
+      c.args.ends.now) (sym c.requires) g;
   calls = λ all. all;
   few = search rules;
 }

@@ -10,7 +10,7 @@ use Rattle.pg_rooms.proofs.left.add_behind.Goals as goal
 pub loop-it-init : goal.loop-it-init
 loop-it-init c = record {
   has = tt;
-  right = λ page calls are. are;
+  right = λ cs page calls are. are;
   same = record { walk = refl; by = refl; bound = refl };
   calls = λ calls. calls;
 }
@@ -23,10 +23,10 @@ loop-it-preserved c = record {
       has_text c.args.sources.now.style.now room ≡ true → has_behind (Some c.ask_left.new.behind) room ≡ true)
       c.args.laid.now c.loop-it.it-index c.it-item.result c.loop-it-test.true c.it-item.is c.loop-it.invariant.has
       c.in_ok-ask_left.ensures.has (λ room h t. c.in_ok-ask_left.ensures.keeps room (h t));
-  right = λ page calls are. c.in_ok-ask_left.ensures.right
+  right = λ cs page calls are. c.in_ok-ask_left.ensures.right cs
       (all_contain (λ (it : Laid). IsPageRoom c.args.sources.now.style.now it.room) c.args.laid.now c.it-item.result
       page (c.loop-it.it-index, c.loop-it-test.true, sym c.it-item.is))
-      (c.loop-it.invariant.calls calls) (c.loop-it.invariant.right page calls are);
+      (c.loop-it.invariant.calls calls) (c.loop-it.invariant.right cs page calls are);
   same = record {
     walk = c.in_ok-ask_left.ensures.same.walk ∙ c.loop-it.invariant.same.walk;
     by = c.in_ok-ask_left.ensures.same.by ∙ c.loop-it.invariant.same.by;

@@ -9,12 +9,12 @@ use Rattle.law_walk.specs.Candidates.{text_ends}
 use Rattle.pg_rooms.proofs.place_ends.add_room.Goals as goal
 
 pub returns-clause-right : goal.returns-clause-right
-returns-clause-right c = on_ok_weaker c.keep_room.result (λ right near page calls are.
+returns-clause-right c = on_ok_weaker c.keep_room.result (λ right cs near page calls are.
     let doc = doc_of c.args.sources.now in
-    let cs = c.args.near.now.candidates in
-    right cs cs
+    let ps = c.args.near.now.picks in
+    right cs ps
     (best_of_some (text_ends doc c.args.room.now cs)
     (text_ends doc c.args.room.now (needed_in c.args.room.now.size cs c.args.near.now.nears))
-    (ends_of cs c.in_ok-ends.ends.items) (near.suffice c.args.room.now page.within)
+    (ends_of ps c.in_ok-ends.ends.items) (near.suffice c.args.room.now page.within)
     (c.in_ok-ends.ensures.best c.args.sources.now.galley.now (greatest_areas gap_stretch c.args.sources.now.style.now)
-    page.within.stretch near.right)) page calls are) c.keep_room.ensures.right
+    page.within.stretch cs near.picks near.right)) page calls are) c.keep_room.ensures.right

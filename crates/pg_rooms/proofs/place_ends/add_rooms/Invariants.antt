@@ -14,7 +14,7 @@ invariant-loop-it l = record {
   right : (cs : List Candidate) → AreFirst (doc_of l.sources) l.first.from cs l.first.is_straight l.first.near.now →
       AllByRecursion (λ (it : Laid). IsPageRoom (doc_of l.sources).style it.room) l.laid →
       AreCalls (doc_of l.sources) l.initial.calls.items.items →
-      AllByRecursion (AreRoomEnds (doc_of l.sources) cs l.first.near.now.candidates) l.initial.rooms.items →
-      AllByRecursion (AreRoomEnds (doc_of l.sources) cs l.first.near.now.candidates) l.rooms.items;
+      AllByRecursion (AreRoomEnds (doc_of l.sources) cs l.first.near.now.picks) l.initial.rooms.items →
+      AllByRecursion (AreRoomEnds (doc_of l.sources) cs l.first.near.now.picks) l.rooms.items;
   calls : AreCalls (doc_of l.sources) l.initial.calls.items.items → AreCalls (doc_of l.sources) l.calls.items.items;
 }

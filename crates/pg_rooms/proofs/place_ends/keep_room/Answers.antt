@@ -14,7 +14,7 @@ returns-clause-keeps c = λ other h. has_still c.args.rooms.now.items c.push.new
     (search rules) h
 
 pub returns-clause-right : goal.returns-clause-right
-returns-clause-right c = λ cs listed best page calls are. rooms_added (doc_of c.args.sources.now) cs listed
+returns-clause-right c = λ cs ps best page calls are. rooms_added (doc_of c.args.sources.now) cs ps
     c.args.rooms.now.items c.push.new.self.items
     (record { room = c.args.room.now; ends = c.args.ends; groups = c.in_ok-groups.groups }) (search rules) are (record {
       page = page;

@@ -1,4 +1,4 @@
-use Rattle.std.proofs.Common.{arith, rules, sym, subst, ◌∙◌, ap, Option, IfSome, ℤ, w64}
+use Rattle.std.proofs.Common.{arith, rules, subst, ◌∙◌, ap, ℤ, w64}
 use Rattle.std.specs.List.{AllByRecursion}
 use Rattle.std.proofs.lemmas.Int.{to_z-of_z}
 use Rattle.pg_list.specs.Shapes.{IsBlock}
@@ -13,10 +13,9 @@ use Rattle.pg_candidates.specs.Alone.{TookAlone}
 use Rattle.pg_walk.specs.Blocks.{HasStart, HasWalked}
 use Rattle.pg_walk.specs.Fronts.{IsAhead}
 use Rattle.pg_walk.specs.Straight.{straight_candidates}
-use Rattle.pg_walk.specs.declared.front.Front.{Front}
 use Rattle.pg_walk.proofs.First.{has_start, tells_alone}
-use Rattle.pg_walk.proofs.InRoom.{last_alone, last_told}
-use Rattle.pg_walk.proofs.ForRooms.{near_told}
+use Rattle.pg_walk.proofs.InRoom.{first_plain, last_alone, last_told}
+use Rattle.pg_walk.proofs.ForRooms.{near_told, of_some}
 use Rattle.pg_walk.proofs.place.walk_for_rooms.Goals as goal
 
 pub walk_is_a_space-requires-clause-few : goal.walk_is_a_space-requires-clause-few
@@ -26,8 +25,8 @@ walk_is_a_space-requires-clause-few c =
     let limit = c.blocks-2.ensures.limit in
     omega (arith, long, limit)
 
-pub front_behind-front-requires-clause-start : goal.front_behind-front-requires-clause-start
-front_behind-front-requires-clause-start c =
+pub front_behind-requires-clause-start : goal.front_behind-requires-clause-start
+front_behind-requires-clause-start c =
     let doc = document c.args.galley.now c.args.style.now in
     let top = to_z-of_z w64 c.tallest.result (record { sfits = search rules }) ∙ c.tallest.ensures in
     subst (λ (z : ℤ). HasStart doc z c.args.from c.state_behind-2.result) top
@@ -66,7 +65,7 @@ returns-then-not-comes_to_choice-clause-whole c = λ none.
             (straight_candidates doc c.args.from) c.in_ok-found.found c.first_stretch.new.found c.into_near.result
             c.in_ok-found.ensures.galley
             (ap (λ (give : Give). give.stretch) c.in_ok-found.ensures.most ∙ c.areas_give.ensures.stretch)
-            c.in_ok-found.ensures.candidates c.in_ok-found.ensures.nears took
+            c.in_ok-found.ensures.nears (first_plain doc (tallest c.args.style.now) c.args.from) took
             (c.into_near.ensures c.args.style.now);
         straight = tt;
       };
@@ -84,10 +83,10 @@ returns-clause-front c =
             (straight_candidates doc c.args.from) c.in_ok-found.found c.first_stretch.new.found c.into_near-near.result
             c.in_ok-found.ensures.galley
             (ap (λ (give : Give). give.stretch) c.in_ok-found.ensures.most ∙ c.areas_give.ensures.stretch)
-            c.in_ok-found.ensures.candidates c.in_ok-found.ensures.nears took
+            c.in_ok-found.ensures.nears (first_plain doc (tallest c.args.style.now) c.args.from) took
             (c.into_near-near.ensures c.args.style.now);
         straight = tt;
       };
-      ahead = subst (IsAhead doc c.args.from) (sym c.in_ok-new.ensures.ok)
-          (subst (λ (o : Option Front). IfSome o (IsAhead doc c.args.from)) c.in-Some.is c.front_behind-front.ensures);
+      ahead = of_some c.in_ok-front.front c.in-Some.front (λ front. IsAhead doc c.args.from front.value) c.in-Some.is
+          c.in_ok-front.ensures;
     }

@@ -34,7 +34,7 @@ returns-then-not-comes_to_choice-clause-whole c = λ none.
           (
             refl,
             (
-              c.in_ok-straight.ensures.room ∙ c.tallest_room-room.ensures.value,
+              c.in_ok-straight.ensures.room ∙ c.tallest_room.ensures.value,
               c.in_ok-straight.ensures.ends,
             ),
           ),

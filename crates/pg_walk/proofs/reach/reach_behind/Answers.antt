@@ -7,8 +7,8 @@ use Rattle.pg_walk.proofs.Behind.{greatest_behind}
 use Rattle.pg_walk.proofs.FurthestBlocks.{goes_quiet, own_quiet}
 use Rattle.pg_walk.proofs.reach.reach_behind.Goals as goal
 
-pub furthest-requires-clause-basis : goal.furthest-requires-clause-basis
-furthest-requires-clause-basis c = subst
+pub furthest-requires-clause-context : goal.furthest-requires-clause-context
+furthest-requires-clause-context c = subst
     (λ (style : StyleValue). AreHops c.args.galley.now.blocks style.maxdepth c.args.index.now)
     (sym c.quiet_style-quiet.ensures) c.requires.hops
 

@@ -11,7 +11,7 @@ one_more-requires-clause-greatest c =
     (to_z-of_z w64 c.tallest.result (record { sfits = search rules }) ∙ c.tallest.ensures) c.args.from
     c.in_ok-block.block c.in_ok-block.ensures
 
-pub greatest_block-requires-clause-basis : goal.greatest_block-requires-clause-basis
-greatest_block-requires-clause-basis c = subst
+pub greatest_block-requires-clause-context : goal.greatest_block-requires-clause-context
+greatest_block-requires-clause-context c = subst
     (λ (style : StyleValue). AreHops c.args.galley.now.blocks style.maxdepth c.args.index.now)
     (sym c.quiet_style-quiet.ensures) c.requires.hops

@@ -7,6 +7,6 @@ pub returns-clause-right : goal.returns-clause-right
 returns-clause-right c = on_three c.ask_behind.result (λ right walk calls low are.
     still_kept (doc_of c.args.sources.now) c.args.from c.args.self.now _ refl refl walk are
     (c.in_ok-add_rooms.ensures.right are.first are.are_first low are.calls are.rooms)
-    (right low (c.in_ok-add_rooms.ensures.calls are.calls) are.behind)
+    (right are.later low (c.in_ok-add_rooms.ensures.calls are.calls) are.behind)
     (calls (c.in_ok-add_rooms.ensures.calls are.calls)))
     c.ask_behind.ensures.right c.ask_behind.ensures.walk c.ask_behind.ensures.calls

@@ -18,20 +18,20 @@ pub invariant_of-result : goal.invariant_of-result
 invariant_of-result g c = record {
   right = ∥∥₁_map (subst (λ (it : PlaceEnds).
       ∥ ArePlaceEnds (document g.D.Document.galley g.D.Document.style) c.args.kept.from it ∥₁)
-      (sym c.deref_mut.ensures.value) c.args.kept.right)
+      (sym c.deref_mut-2.ensures.value) c.args.kept.right)
       (carried_on _ _ _ _ _ _ _ _ c.args.self.now.galley c.args.self.now.style c.requires.from
       c.in_ok-opened.ensures.kept);
   laid = of_equal (λ (galley : GalleyValue) (style : StyleValue).
       AreLayouts (document galley style) c.open_by.new.layouts) _ _ _ _
       c.args.self.now.galley c.args.self.now.style c.in_ok-opened.ensures.layouts;
   reach = ap (λ (walk : PlaceWalk). walk.reach) c.in_ok-opened.ensures.walk
-      ∙ (ap (λ (it : PlaceEnds). it.walk.reach) c.deref_mut.ensures.value ∙ c.args.kept.reach);
+      ∙ (ap (λ (it : PlaceEnds). it.walk.reach) c.deref_mut-2.ensures.value ∙ c.args.kept.reach);
   counts = c.in_ok-opened.ensures.counts
-      ∙ (ap (λ (it : PlaceEnds). it.counts) c.deref_mut.ensures.value ∙ c.args.kept.counts);
+      ∙ (ap (λ (it : PlaceEnds). it.counts) c.deref_mut-2.ensures.value ∙ c.args.kept.counts);
 }
 
 pub open_by-requires-clause-counts : goal.open_by-requires-clause-counts
-open_by-requires-clause-counts g c = ap (λ (it : PlaceEnds). it.counts) c.deref_mut.ensures.value
+open_by-requires-clause-counts g c = ap (λ (it : PlaceEnds). it.counts) c.deref_mut-2.ensures.value
     ∙ of_equal (λ (galley : GalleyValue) (style : StyleValue).
     c.args.kept.ends.value.counts ≡ counts_of (document galley style) c.args.state.now.place) _ _ _ _
     (sym c.args.self.now.galley) (sym c.args.self.now.style)
@@ -40,12 +40,13 @@ open_by-requires-clause-counts g c = ap (λ (it : PlaceEnds). it.counts) c.deref
 
 pub open_by-requires-clause-layouts : goal.open_by-requires-clause-layouts
 open_by-requires-clause-layouts g c = of_equal (λ (galley : GalleyValue) (style : StyleValue).
-    AreLayouts (document galley style) c.args.kept.layouts) _ _ _ _
-    (sym c.args.self.now.galley) (sym c.args.self.now.style) c.args.kept.laid
+    AreLayouts (document galley style) c.deref_mut.result.now) _ _ _ _
+    (sym c.args.self.now.galley) (sym c.args.self.now.style)
+    (subst (AreLayouts (document g.D.Document.galley g.D.Document.style)) (sym c.deref_mut.ensures.value) c.args.kept.laid)
 
 pub returns-clause-moves : goal.returns-clause-moves
 returns-clause-moves g c = wanted_had (doc_of c.args.self.now.pages.sources) c.args.state.now
     (g.W.Wants.spares c.args.wants.now) c.in_ok-opened.opened.steps (∥∥₁_map (subst (λ (it : PlaceEnds).
     ∥ ArePlaceEnds (document g.D.Document.galley g.D.Document.style) c.args.kept.from it ∥₁)
-    (sym c.deref_mut.ensures.value) c.args.kept.right) (λ right. c.in_ok-opened.ensures.moves
+    (sym c.deref_mut-2.ensures.value) c.args.kept.right) (λ right. c.in_ok-opened.ensures.moves
     (carried _ _ _ _ _ _ _ c.args.self.now.galley c.args.self.now.style c.requires.from right)))

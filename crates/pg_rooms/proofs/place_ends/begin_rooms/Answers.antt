@@ -1,5 +1,6 @@
 use Rattle.std.proofs.Common.{[], Option, IfSome, ◌≡◌, subst, sym}
 use Rattle.std.specs.List.{AllByRecursion}
+use Rattle.std.proofs.lemmas.Result.{on_ok_weaker}
 use Rattle.pg_candidates.specs.RoomEnds.{ends_of}
 use Rattle.law_walk.specs.Best.{AreBest}
 use Rattle.law_walk.specs.Candidates.{text_ends}
@@ -8,13 +9,13 @@ use Rattle.pg_walk.specs.Straight.{tallest_room}
 use Rattle.pg_walk.specs.declared.straight.StraightEnds.{StraightEnds}
 use Rattle.pg_rooms.specs.PlaceEnds.{AreRoomEnds}
 use Rattle.pg_rooms.proofs.Kept.{tallest_is_page}
-use Rattle.pg_rooms.proofs.place_ends.first_rooms.Goals as goal
+use Rattle.pg_rooms.proofs.place_ends.begin_rooms.Goals as goal
 
 pub returns-clause-right : goal.returns-clause-right
-returns-clause-right c = λ cs told calls.
+returns-clause-right c = on_ok_weaker c.keep_room.result (λ right cs told calls.
     let doc = doc_of c.args.sources.now in
     let is = subst (λ (o : Option StraightEnds). IfSome o (λ it. (it.room ≡ tallest_room doc.style)
     × AreBest (text_ends doc it.room cs) (ends_of [] it.ends.items))) c.in-Some.is told in
-    c.in_ok-keep_room.ensures.right cs [] is.1
+    right cs [] is.1
     (tallest_is_page doc.style c.stays_in_range.ensures c.in-Some.field-0.room is.0) calls
-    (subst (AllByRecursion (AreRoomEnds doc cs [])) (sym c.new-rooms.ensures.items) tt)
+    (subst (AllByRecursion (AreRoomEnds doc cs [])) (sym c.clear.ensures.items) tt)) c.keep_room.ensures.right
