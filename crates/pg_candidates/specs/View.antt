@@ -16,7 +16,7 @@ candidate_of c = record { to = c.to; picks = c.picks.value; passed = view c.pass
 
 -- one to an end of a walk
 abbrev pub end_of : WalkEnd → Candidate
-end_of e = record { to = e.to; picks = e.picks.now.value; passed = view e.passed.now; pick_demerits = e.demerits }
+end_of e = record { to = e.to; picks = e.picks.now; passed = view e.passed.now; pick_demerits = e.demerits }
 
 -- it, where its place is a break behind a box and no class of notes is above its limit
 abbrev pub ends_here : Document → Candidate → List Candidate

@@ -10,7 +10,6 @@ use pg_list::Galley;
 use pg_plan::Picks;
 use pg_style::{Give, Style};
 use std::alloc::{AllocError, Global};
-use std::rc::Rc;
 
 /// What no room changes of the candidates along a stretch, each taken as a walk comes to it. Each is the only one of its
 /// place.
@@ -45,12 +44,22 @@ impl TakesEnds for AllRooms<'_> {
 
     ghost Took = { TookAlone };
 
-    fn share(&self, picks: &Picks) -> Result<Rc<Picks>, AllocError> {
-        Ok(Rc::new(*self.nears.allocator(), picks.copy()?)?)
+    type Shared = ();
+
+    ghost SharedOf = { λ shared picks. Unit {0} };
+
+    fn share(&self, _picks: &Picks) -> Result<(), AllocError> {
+        Ok(())
     }
 
     #[inline(always)]
-    fn take(&mut self, style: &Style, needs: &Needs, end: &WalkEnd) -> Result<(), AllocError> {
+    fn take(
+        &mut self,
+        style: &Style,
+        needs: &Needs,
+        end: &WalkEnd,
+        _shared: &(),
+    ) -> Result<(), AllocError> {
         let at = self.nears.len();
         let most = &self.most;
         let goal = goal_for(style, most, &end.passed.sums, &needs.give);

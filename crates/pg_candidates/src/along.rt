@@ -19,7 +19,6 @@ use pg_list::{Galley, Place};
 use pg_plan::Picks;
 use pg_style::Style;
 use std::alloc::AllocError;
-use std::rc::Rc;
 
 // Hands on an end at a break behind a box, of whose notes is told. Nearly all ends come from hops, and are taken without a
 // call.
@@ -29,8 +28,10 @@ fn hand_on<T: TakesEnds>(
     noted: &Noted,
     needs: &Needs,
     end: &WalkEnd,
+    shared: &T::Shared,
     found: &mut T,
 ) -> Result<(), AllocError>
+    requires shared { T.SharedOf shared.now end.now.picks.now }
     requires noted { AreNoted style.now end.now.passed.now.notes.sums noted.now }
     requires needs { AreNeeds style.now (view end.now.passed.now) needs.now }
     ensures { OnOk result ((g : GalleyValue) → true ≡ is_end_here g.blocks (view end.now.passed.now) end.now.to →
@@ -39,7 +40,7 @@ fn hand_on<T: TakesEnds>(
     if !noted.is_within {
         return Ok(());
     }
-    found.take(style, needs, end)
+    found.take(style, needs, end, shared)
 }
 
 // Hands on an end at a place where one may be, if it is a break behind a box.
@@ -49,9 +50,11 @@ fn end_at<T: TakesEnds>(
     noted: &Noted,
     is_end: bool,
     end: &WalkEnd,
+    shared: &T::Shared,
     found: &mut T,
 ) -> Result<(), AllocError>
-    requires { AreNoted style.now end.now.passed.now.notes.sums noted.now }
+    requires shared { T.SharedOf shared.now end.now.picks.now }
+    requires noted { AreNoted style.now end.now.passed.now.notes.sums noted.now }
     ensures { OnOk result ((g : GalleyValue) → is_end ≡ is_end_here g.blocks (view end.now.passed.now) end.now.to →
         T.Took style.now found.old found.new (ends_here (document g style.now) (end_of end.now))) }
 {
@@ -59,7 +62,7 @@ fn end_at<T: TakesEnds>(
         return Ok(());
     }
     let needs = Needs::with(noted, end.passed);
-    hand_on(style, noted, &needs, end, found)
+    hand_on(style, noted, &needs, end, shared, found)
 }
 
 /// Where a walk along a stretch starts: before the cursor's item, behind what was passed, with the picks of the choices on
@@ -114,12 +117,12 @@ fn at_front(style: &Style, block: u32, passed: &Passed, greatest: u32) -> Walked
     }
 }
 
-// The end of a walk from a start, at a place behind what was passed, with the shared picks of the start.
+// The end of a walk from a start, at a place behind what was passed, with the picks of the start.
 #[inline(always)]
-fn end_to<'a>(start: &Start, picks: &'a Rc<Picks>, to: Place, passed: &'a Passed) -> WalkEnd<'a>
+fn end_to<'a>(start: &Start, picks: &'a Picks, to: Place, passed: &'a Passed) -> WalkEnd<'a>
     ensures { end_of result ≡ record {
       to = to;
-      picks = picks.now.value;
+      picks = picks.now;
       passed = view passed.now;
       pick_demerits = start.now.demerits;
     } }
@@ -169,7 +172,7 @@ pub fn walk_on<T: TakesEnds>(
         (passed_along (document galley.now style.now) top (view start.now.passed)
         (items_ahead galley.now.blocks start.now.at))) }
 {
-    let picks = found.share(start.picks)?;
+    let shared = found.share(start.picks)?;
     let mut at = start.at;
     let mut passed = start.passed;
     let mut noted = Noted::of(style, &passed);
@@ -179,8 +182,8 @@ pub fn walk_on<T: TakesEnds>(
             let here = at.place();
             greatest = greatest.max(here.block);
             let needs = Needs::with(&noted, &passed);
-            let end = end_to(start, &picks, here, &passed);
-            hand_on(style, &noted, &needs, &end, found)?;
+            let end = end_to(start, start.picks, here, &passed);
+            hand_on(style, &noted, &needs, &end, &shared, found)?;
             at = hop_on(galley, style, at, hop, &needs, &mut passed);
             if !passed.fits(top) {
                 return Ok(stopped(style, &passed, greatest));
@@ -193,8 +196,8 @@ pub fn walk_on<T: TakesEnds>(
         let here = at.place();
         greatest = greatest.max(here.block);
         let is_end = passed.ends_at(galley, at, here, item);
-        let end = end_to(start, &picks, here, &passed);
-        end_at(style, &noted, is_end, &end, found)?;
+        let end = end_to(start, start.picks, here, &passed);
+        end_at(style, &noted, is_end, &end, &shared, found)?;
         let Some(next) = go(galley, style, at, is_end, item, &mut passed) else {
             return Ok(stopped(style, &passed, greatest));
         };
@@ -206,7 +209,7 @@ pub fn walk_on<T: TakesEnds>(
     }
     let front = at.place();
     let is_end = passed.is_end(galley, front);
-    let last = end_to(start, &picks, front, &passed);
-    end_at(style, &noted, is_end, &last, found)?;
+    let last = end_to(start, start.picks, front, &passed);
+    end_at(style, &noted, is_end, &last, &shared, found)?;
     Ok(at_front(style, at.block, &passed, greatest))
 }

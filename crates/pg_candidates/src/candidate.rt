@@ -32,7 +32,7 @@ impl Candidate {
         WalkEnd {
             to: self.to,
             passed: &self.passed,
-            picks: &self.picks,
+            picks: &*self.picks,
             demerits: self.pick_demerits,
         }
     }
@@ -88,15 +88,25 @@ impl TakesEnds for CandidateList {
 
     ghost Took = { λ style old new cs. new ≡ old ++ cs };
 
+    type Shared = Rc<Picks>;
+
+    ghost SharedOf = { λ shared picks. shared.value ≡ picks };
+
     fn share(&self, picks: &Picks) -> Result<Rc<Picks>, AllocError> {
         Ok(Rc::new(*self.items.allocator(), picks.copy()?)?)
     }
 
     #[inline(always)]
-    fn take(&mut self, _style: &Style, _needs: &Needs, end: &WalkEnd) -> Result<(), AllocError> {
+    fn take(
+        &mut self,
+        _style: &Style,
+        _needs: &Needs,
+        end: &WalkEnd,
+        shared: &Rc<Picks>,
+    ) -> Result<(), AllocError> {
         self.push(Candidate {
             to: end.to,
-            picks: Rc::clone(end.picks)?,
+            picks: Rc::clone(shared)?,
             passed: *end.passed,
             pick_demerits: end.demerits,
         })

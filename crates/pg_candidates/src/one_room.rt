@@ -11,12 +11,11 @@ use crate::room_end::RoomEnd;
 use crate::taking::{TakesEnds, WalkEnd};
 use pg_column::{TextCost, TextRoom, cost_for};
 use pg_hops::{Needs, Passed};
-use pg_list::{Galley, Place};
+use pg_list::Galley;
 use pg_plan::Picks;
 use pg_scaled::{minus, plus};
 use pg_style::Style;
 use std::alloc::{AllocError, Global};
-use std::rc::Rc;
 
 // For how many ends there is room at once: few columns have more lines.
 const ROOM: usize = 64;
@@ -85,12 +84,22 @@ impl TakesEnds for OneRoom<'_> {
 
     ghost Took = { TookIn };
 
-    fn share(&self, picks: &Picks) -> Result<Rc<Picks>, AllocError> {
-        Ok(Rc::new(*self.ends.allocator(), picks.copy()?)?)
+    type Shared = ();
+
+    ghost SharedOf = { λ shared picks. Unit {0} };
+
+    fn share(&self, _picks: &Picks) -> Result<(), AllocError> {
+        Ok(())
     }
 
     #[inline(always)]
-    fn take(&mut self, style: &Style, needs: &Needs, end: &WalkEnd) -> Result<(), AllocError> {
+    fn take(
+        &mut self,
+        style: &Style,
+        needs: &Needs,
+        end: &WalkEnd,
+        _shared: &(),
+    ) -> Result<(), AllocError> {
         let room = &self.room;
         if is_too_low(room, needs.bound) {
             return Ok(());

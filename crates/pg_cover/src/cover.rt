@@ -172,7 +172,8 @@ fn steps_of<S: Offering<State = SmallState, Move = SmallMove>, L: Ledger>(
         marks,
         cost: label.cost,
     };
-    Ok(space.offer(&label.state, steps, &wants)?.steps)
+    let none = StepList::new(hints.alloc());
+    Ok(space.offer(&label.state, steps, &wants, none)?.steps)
 }
 
 // The least place where a column that follows a label ends, and no label covers what it leads to.

@@ -30,6 +30,11 @@ impl Hints {
         })
     }
 
+    /// Where the chains have their memory from.
+    pub(crate) fn alloc(&self) -> Global {
+        *self.nexts.allocator()
+    }
+
     /// Which of the chains is for labels of this block and rank.
     fn spot_of(&self, block: u32, rank: u64) -> usize {
         let mixed = rank ^ u64::from(block).rotate_left(40);

@@ -275,6 +275,8 @@ fn extend(
         AreHops galley.now.blocks style.now.maxdepth rows.new.items }
 {
     let count = galley.blocks().len();
+    let wanted = count.min(MOST as usize).saturating_sub(rows.len());
+    let _taken = rows.reserve(wanted);
     let mut due = first_due(style);
     'more: while rows.len() < count && rows.len() < MOST as usize {
         let row = row_of(alloc, galley, style, rows.len() as u32)?;

@@ -38,6 +38,16 @@ fn risen(total: i64, depth: i64, height: i64, behind: i64) -> i64
     minus(plus(plus(total, depth), height), behind)
 }
 
+// An amount more in a total.
+fn raise(total: &mut i64, amount: i32)
+    requires total { nat_abs total.old < 2 ^ 62 }
+    requires amount { IsScaled amount }
+    ensures value { total.new ≡ total.old +ℤ amount }
+    ensures size { nat_abs total.new ≤ nat_abs total.old + 2 ^ 30 }
+{
+    *total = plus(*total, wide(amount));
+}
+
 impl Shift {
     /// What no items add.
     pub fn none() -> Shift
@@ -65,7 +75,8 @@ impl Shift {
         ensures glue { HasSameGlue self.new self.old }
         ensures size { HasRisen self.new self.old }
     {
-        self.height = plus(plus(self.height, wide(height)), wide(depth));
+        raise(&mut self.height, height);
+        raise(&mut self.height, depth);
         self.depth = Some(hanging_depth(depth, maxdepth));
     }
 
@@ -78,7 +89,7 @@ impl Shift {
         ensures glue { HasSameGlue self.new self.old }
         ensures size { HasRisen self.new self.old }
     {
-        self.height = plus(self.height, wide(width));
+        raise(&mut self.height, width);
         self.depth = Some(0);
     }
 
@@ -100,10 +111,10 @@ impl Shift {
             × (self.new.shrink ≡ self.old.shrink) }
     {
         match order {
-            Order::Finite => self.finite = plus(self.finite, wide(amount)),
-            Order::Fil => self.fil = plus(self.fil, wide(amount)),
-            Order::Fill => self.fill = plus(self.fill, wide(amount)),
-            Order::Filll => self.filll = plus(self.filll, wide(amount)),
+            Order::Finite => raise(&mut self.finite, amount),
+            Order::Fil => raise(&mut self.fil, amount),
+            Order::Fill => raise(&mut self.fill, amount),
+            Order::Filll => raise(&mut self.filll, amount),
         }
     }
 
@@ -124,7 +135,7 @@ impl Shift {
     {
         self.add_width(width);
         self.add_stretch(order, stretch);
-        self.shrink = plus(self.shrink, wide(shrink));
+        raise(&mut self.shrink, shrink);
     }
 
     /// With one more item; penalties, inserts and carries add nothing.

@@ -114,7 +114,16 @@ still_behind style u laid settled it new to fitness e b = subst (IsBehind style 
   state = ap (λ (s : State). record s { place = to; fitness = fitness }) b.state;
   page = b.page;
   small = b.small;
-  tail = b.tail;
+})
+
+-- it stays behind the column, whatever is remembered of it
+pub still_asked : (style : StyleValue) (u : State) (laid : Laid) (settled : Settled) (it new : Behind)
+    (reached : Option Reached) → new ≡ record it { reached = reached } → IsBehind style u laid settled it →
+    IsBehind style u laid settled new
+still_asked style u laid settled it new reached e b = subst (IsBehind style u laid settled) (sym e) (record {
+  state = b.state;
+  page = b.page;
+  small = b.small;
 })
 
 asked_along : (o : Option Reached) (u : State) (to : Place) (fitness : Option ℕ) → IfSome o (IsAsked u) →
@@ -158,12 +167,11 @@ rank_is doc u place tail p t = omega (arith, p, t)
 -- ---- the state behind a column
 
 pub behind_is : (style : StyleValue) (u : State) (laid : Laid) (settled : Settled) (to : Place) (fitness : Option ℕ)
-    (next state : State) (page : ℤ) (tail : ℕ) (reached : Option Reached) → next ≡ state_behind style u laid to fitness settled.ages →
-    page ≡ page_price style u laid settled.price → nat_abs page ≤ 2 ^ 52 → tail ≡ rank_tail state → state ≡ next →
-    IsBehind style u laid settled (record { state = state; page = page; tail = tail; reached = reached })
-behind_is style u laid settled to fitness next state page tail reached is price small told same = record {
+    (next state : State) (page : ℤ) (reached : Option Reached) → next ≡ state_behind style u laid to fitness settled.ages →
+    page ≡ page_price style u laid settled.price → nat_abs page ≤ 2 ^ 52 → state ≡ next →
+    IsBehind style u laid settled (record { state = state; page = page; reached = reached })
+behind_is style u laid settled to fitness next state page reached is price small same = record {
   state = subst (λ (v : State). v ≡ state_behind style u laid v.place v.fitness settled.ages) (sym (same ∙ is)) refl;
   page = price;
   small = small;
-  tail = told;
 }

@@ -58,12 +58,11 @@ cost_at style u laid end price =
 abbrev pub rank_tail : State → ℕ
 rank_tail u = 32 * total_count u.placed + (if u.column == 1 then 16 else 0) + side_run u
 
--- the state behind a column of a layout up to some end, what the column pays for its page, and the tail of its rank
+-- the state behind a column of a layout up to some end, and what the column pays for its page
 pub record IsBehind (style : StyleValue) (u : State) (laid : Laid) (settled : Settled) (it : Behind) : Type 0 where
   pub state : it.state ≡ state_behind style u laid it.state.place it.state.fitness settled.ages
   pub page : it.page ≡ page_price style u laid settled.price
   pub small : nat_abs it.page ≤ 2 ^ 52
-  pub tail : it.tail ≡ rank_tail it.state
 
 -- a place at which a column of a layout may end and no float is left too old, and this is left and paid
 abbrev pub IsOpenAt : Document → State → Laid → Settled → Place → Type 0

@@ -32,8 +32,6 @@ pub(crate) struct Behind<'a> {
     pub(crate) state: SmallState,
     /// What the column pays for its page's run and for its floats.
     pub(crate) page: i128,
-    /// What the state gives to its rank, but for its place.
-    pub(crate) tail: u64,
     /// What is remembered of states that differ from this one in place and fitness alone.
     pub(crate) reached: Option<Reached<'a>>,
 }
@@ -95,8 +93,8 @@ fn tail_of(state: &SmallState, placed: u32) -> u64
     rest_rank(state, placed)
 }
 
-// How many floats are placed behind a column.
-fn count_after(sources: &Sources<'_>, state: &State, laid: &Laid) -> u32
+/// How many floats are placed behind a column.
+pub(crate) fn count_after(sources: &Sources<'_>, state: &State, laid: &Laid) -> u32
     requires { laid.now ≡ laid_of (doc_of sources.now) state.now laid.now.layout }
     ensures { result ≡ total_count laid.now.after }
 {
@@ -112,33 +110,38 @@ fn joined(place: u64, tail: u64) -> u64
     place.wrapping_mul(1 << 18).wrapping_add(tail)
 }
 
-/// The state behind a column of a layout, where it begins.
-pub(crate) fn first_behind<'a, W: Wants<State = SmallState, Marks = PageMarks>>(
+/// The state behind a column of a layout, where it begins, with nothing asked yet of what is remembered.
+#[inline(always)]
+pub(crate) fn first_behind<'a>(
     sources: &Sources<'_>,
     state: &State,
     laid: &Laid,
     settled: &Settled,
-    wants: &'a W,
 ) -> Result<Behind<'a>, AllocError>
     requires own { IsState (doc_of sources.now) state.now }
-    requires laid { laid.now ≡ laid_of (doc_of sources.now) state.now laid.now.layout }
     requires price { settled.now.price ≤ 2 ^ 51 }
-    ensures behind { IfOk result (IsBehind sources.now.style.now state.now laid.now settled.now) }
-    ensures spared { IfOk result (AreSpared (W.spares wants.now)) }
+    ensures { IfOk result (IsBehind sources.now.style.now state.now laid.now settled.now) }
 {
     let style = sources.style;
-    let placed = count_after(sources, state, laid);
     let page = page_price(style, state, laid, settled.price);
     let next = parts_behind(style, state, laid, state.place, None, &settled.ages);
-    let small = SmallState::of_parts(sources.alloc, &next)?;
-    let tail = tail_of(&small, placed);
-    let reached = reached_at(wants, &small, page);
     Ok(Behind {
-        state: small,
+        state: SmallState::of_parts(sources.alloc, &next)?,
         page,
-        tail,
-        reached,
+        reached: None,
     })
+}
+
+impl<'a> Behind<'a> {
+    /// Asks what is remembered of states that differ from this one in place and fitness alone. It is asked where the state
+    /// stands, so that this is not handed on any more.
+    pub(crate) fn ask<W: Wants<State = SmallState, Marks = PageMarks>>(&mut self, wants: &'a W)
+        requires { nat_abs self.old.page ≤ 2 ^ 52 }
+        ensures same { self.new ≡ record self.old { reached = self.new.reached } }
+        ensures spared { AreSpared (W.spares wants.now) self.new }
+    {
+        self.reached = reached_at(wants, &self.state, self.page);
+    }
 }
 
 impl Behind<'_> {
@@ -178,14 +181,9 @@ impl Behind<'_> {
         reached.is_outdone(&self.state, end.to, kept_fitness(style, fitness), pays)
     }
 
-    /// These ends from the first one on whose state was not reached at a lower cost, as far as that is remembered. A method of
-    /// its own, so that what the loop does not write is read once.
-    pub(crate) fn skip_outdone<'e>(
-        &self,
-        style: &Style,
-        state: &State,
-        ends: &'e [RoomEnd],
-    ) -> &'e [RoomEnd]
+    // The same where there are some. A method of its own, so that what the loop does not write is read once.
+    #[inline(never)]
+    fn skip_some<'e>(&self, style: &Style, state: &State, ends: &'e [RoomEnd]) -> &'e [RoomEnd]
         requires { IfSome self.now.reached (IsAsked self.now.state) }
         ensures { AreLeft style.now state.now self.now ends.now result.now }
     {
@@ -202,12 +200,30 @@ impl Behind<'_> {
         rest
     }
 
-    /// The rank of the state, or what 64 bits hold of it where it is none of the space's own.
-    pub(crate) fn rank(&self) -> u64
-        requires { self.now.tail ≡ rank_tail self.now.state }
+    /// These ends from the first one on whose state was not reached at a lower cost, as far as that is remembered.
+    #[inline(always)]
+    pub(crate) fn skip_outdone<'e>(
+        &self,
+        style: &Style,
+        state: &State,
+        ends: &'e [RoomEnd],
+    ) -> &'e [RoomEnd]
+        requires { IfSome self.now.reached (IsAsked self.now.state) }
+        ensures { AreLeft style.now state.now self.now ends.now result.now }
+    {
+        if ends.is_empty() {
+            return ends;
+        }
+        self.skip_some(style, state, ends)
+    }
+
+    /// The rank of the state, behind which so many floats are placed, or what 64 bits hold of it where it is none of the
+    /// space's own.
+    pub(crate) fn rank(&self, placed: u32) -> u64
+        requires { placed ≡ total_count self.now.state.placed }
         ensures { (doc : Document) → result ≡ rank doc self.now.state % 2 ^ 64 }
     {
-        joined(place_rank(&self.state), self.tail)
+        joined(place_rank(&self.state), tail_of(&self.state, placed))
     }
 
     /// What the column of text to an end costs.

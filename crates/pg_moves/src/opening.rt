@@ -1,5 +1,5 @@
 //! All columns that may follow a state.
-ghost use Rattle.std.specs.Prelude.{◌≡◌, ◌++◌, ◌||◌, is_some, length, nat_lt, IfOk, OnOk};
+ghost use Rattle.std.specs.Prelude.{◌≡◌, ◌++◌, ◌||◌, [], is_some, length, nat_lt, IfOk, OnOk};
 ghost use Rattle.pg_hops.specs.Index.{AreHops};
 ghost use Rattle.pg_rules.specs.Floats.{float_numbers, total_count};
 ghost use Rattle.pg_rules.specs.IsState.{IsPlace, IsState};
@@ -13,6 +13,7 @@ ghost use Rattle.pg_rooms.specs.KeptLaid.{AreLayouts};
 ghost use Rattle.pg_rooms.specs.PlaceEnds.{ArePlaceEnds};
 ghost use Rattle.pg_states.specs.Settling.{known_of};
 
+use crate::column::Opening;
 use crate::stays::add_stays;
 use crate::texts::text_steps;
 use law_moves::listed_steps_are_moves;
@@ -76,20 +77,22 @@ fn add_floats(
 }
 
 /// The columns that may follow a state and are wanted, from the layouts that are kept and from what is kept of its place: each
-/// once with its best picks, and how far an edit can be felt there. What it works out is kept. Columns without text are all made, wanted or not.
+/// once with its best picks, and how far an edit can be felt there. What it works out is kept. The steps stand in a list that has none yet. Columns without text are all made, wanted or not.
 ///
 /// Condition: it is a state of the galley. The one refusal is want of memory.
-pub fn open_by<W: Wants<State = SmallState, Marks = PageMarks>>(
-    sources: &Sources<'_>,
-    state: &State,
+pub fn open_by<'a, W: Wants<State = SmallState, Marks = PageMarks>>(
+    sources: &'a Sources<'a>,
+    state: &'a State,
     layouts: &mut Layouts,
     kept: &mut PlaceEnds,
     wants: &W,
+    emptied: StepList<SmallState, SmallMove>,
 ) -> Result<Opened<SmallState, SmallMove>, AllocError>
     requires own { IsState (doc_of sources.now) state.now }
     requires reach { kept.old.walk.reach ≡ reach_at (doc_of sources.now) state.now.place }
     requires counts { kept.old.counts ≡ counts_of (doc_of sources.now) state.now.place }
     requires layouts { AreLayouts (doc_of sources.now) layouts.old }
+    requires emptied { emptied ≡ [] }
     ensures moves { IfOk result (λ it. ArePlaceEnds (doc_of sources.now) state.now.place kept.old →
         AreWanted (page_meaning (doc_of sources.now)) state.now (W.spares wants.now) it.steps) }
     ensures reach { IfOk result (λ it. it.reach ≡ reach_at (doc_of sources.now) state.now.place) }
@@ -102,7 +105,12 @@ pub fn open_by<W: Wants<State = SmallState, Marks = PageMarks>>(
     listed_steps_are_moves(sources.galley, sources.style);
     let reach = kept.walk.reach;
     let waiting = known(sources, state, &kept.counts)?;
-    let mut steps = text_steps(sources, state, &waiting, layouts, kept, wants)?;
+    let opening = Opening {
+        sources: &*sources,
+        state: &*state,
+        known: &waiting,
+    };
+    let mut steps = text_steps(&opening, layouts, kept, wants, emptied)?;
     add_floats(sources, state, &waiting, layouts, &mut steps)?;
     Ok(Opened { steps, reach })
 }
@@ -126,5 +134,6 @@ pub fn open(
         &mut Layouts::none(sources.alloc),
         &mut kept,
         &EveryMove::<SmallState, PageMarks>::new(),
+        StepList::new(sources.alloc),
     )
 }

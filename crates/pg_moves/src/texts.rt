@@ -1,5 +1,5 @@
 //! The steps of columns of text, layout by layout.
-ghost use Rattle.std.specs.Prelude.{◌≡◌, Contains, IfOk, List, OnOk, Some};
+ghost use Rattle.std.specs.Prelude.{◌≡◌, [], Contains, IfOk, List, OnOk, Some};
 ghost use Rattle.std.specs.List.{AllByRecursion, flat_map};
 ghost use Rattle.pg_column.specs.Numbers.{IsRoom};
 ghost use Rattle.law_moves.specs.Listed.{beyond};
@@ -137,38 +137,36 @@ pub fn add_all<W: Wants<State = SmallState, Marks = PageMarks>>(
 }
 
 /// The wanted steps of the columns of text, from the layouts that are kept and from what is kept of the state's place: with
-/// floats that are called before all blocks that a column does not reach.
+/// floats that are called before all blocks that a column does not reach. They stand in a list that has no steps yet.
 pub fn text_steps<W: Wants<State = SmallState, Marks = PageMarks>>(
-    sources: &Sources<'_>,
-    state: &State,
-    known: &Known,
+    opening: &Opening<'_>,
     layouts: &mut Layouts,
     kept: &mut PlaceEnds,
     wants: &W,
+    emptied: StepList<SmallState, SmallMove>,
 ) -> Result<StepList<SmallState, SmallMove>, AllocError>
-    requires own { IsState (doc_of sources.now) state.now }
-    requires known { known.now ≡ known_of (doc_of sources.now) state.now }
-    requires counts { kept.old.counts ≡ counts_of (doc_of sources.now) state.now.place }
-    requires layouts { AreLayouts (doc_of sources.now) layouts.old }
-    ensures steps { IfOk result (λ steps. ArePlaceEnds (doc_of sources.now) state.now.place kept.old →
-        AreTextSteps (doc_of sources.now) state.now (called sources.now.galley.now.blocks sources.now.style.now
-        (beyond (doc_of sources.now) state.now.place)) (W.spares wants.now) steps) }
-    ensures kept { OnOk result (ArePlaceEnds (doc_of sources.now) state.now.place kept.old →
-        ArePlaceEnds (doc_of sources.now) state.now.place kept.new) }
+    requires own { IsState (doc_of opening.now.sources.now) opening.now.state.now }
+    requires known { opening.now.known.now ≡ known_of (doc_of opening.now.sources.now) opening.now.state.now }
+    requires counts { kept.old.counts ≡ counts_of (doc_of opening.now.sources.now) opening.now.state.now.place }
+    requires layouts { AreLayouts (doc_of opening.now.sources.now) layouts.old }
+    requires emptied { emptied ≡ [] }
+    ensures steps { IfOk result (λ steps. ArePlaceEnds (doc_of opening.now.sources.now) opening.now.state.now.place
+        kept.old → AreTextSteps (doc_of opening.now.sources.now) opening.now.state.now
+        (called opening.now.sources.now.galley.now.blocks opening.now.sources.now.style.now
+        (beyond (doc_of opening.now.sources.now) opening.now.state.now.place)) (W.spares wants.now) steps) }
+    ensures kept { OnOk result (ArePlaceEnds (doc_of opening.now.sources.now) opening.now.state.now.place kept.old →
+        ArePlaceEnds (doc_of opening.now.sources.now) opening.now.state.now.place kept.new) }
     ensures walk { OnOk result (kept.new.walk ≡ kept.old.walk) }
     ensures counts { OnOk result (kept.new.counts ≡ kept.old.counts) }
-    ensures layouts { OnOk result (AreLayouts (doc_of sources.now) layouts.new) }
+    ensures layouts { OnOk result (AreLayouts (doc_of opening.now.sources.now) layouts.new) }
 {
+    let sources = opening.sources;
+    let state = opening.state;
     candidates_give_ends(sources.galley, sources.style);
     let at = layouts.find_texts(sources, state, &kept.counts.most)?;
     let laid = layouts.texts(at);
     kept.ask_all(sources, state.place, laid)?;
-    let opening = Opening {
-        sources,
-        state,
-        known,
-    };
-    let mut steps = StepList::new(sources.alloc);
-    add_all(&opening, laid, kept, wants, &mut steps)?;
+    let mut steps = emptied;
+    add_all(opening, laid, kept, wants, &mut steps)?;
     Ok(steps)
 }

@@ -122,7 +122,32 @@ fn keep_room(
     Ok(())
 }
 
+// Works out the ends in a room from candidates. A function of its own, since few rooms that are asked for come to it.
+#[inline(never)]
+fn make_room(
+    sources: &Sources<'_>,
+    near: &NearList,
+    room: &TextRoom,
+    rooms: &mut Vec<RoomEnds>,
+    calls: &mut Calls,
+) -> Result<(), AllocError>
+    requires { IsRoom room.now }
+    ensures has { OnOk result (has_room rooms.new.items room.now ≡ true) }
+    ensures keeps { OnOk result ((other : ATextRoom) → has_room rooms.old.items other ≡ true →
+        has_room rooms.new.items other ≡ true) }
+    ensures right { OnOk result ((cs : List Candidate) → IsNearOnPages (doc_of sources.now) cs near.now →
+        IsPageRoom sources.now.style.now room.now → AreCalls (doc_of sources.now) calls.old.items.items →
+        AllByRecursion (AreRoomEnds (doc_of sources.now) cs near.now.picks) rooms.old.items →
+        AllByRecursion (AreRoomEnds (doc_of sources.now) cs near.now.picks) rooms.new.items) }
+    ensures calls { OnOk result (AreCalls (doc_of sources.now) calls.old.items.items →
+        AreCalls (doc_of sources.now) calls.new.items.items) }
+{
+    let ends = near.text_ends(sources.alloc, sources.style, room)?;
+    keep_room(sources, room, ends, Vec::new(sources.alloc), rooms, calls)
+}
+
 /// Works out the ends in a room from candidates, where they are not kept yet.
+#[inline(always)]
 pub(crate) fn add_room(
     sources: &Sources<'_>,
     near: &NearList,
@@ -144,8 +169,7 @@ pub(crate) fn add_room(
     if is_kept(rooms.as_slice(), room) {
         return Ok(());
     }
-    let ends = near.text_ends(sources.alloc, sources.style, room)?;
-    keep_room(sources, room, ends, Vec::new(sources.alloc), rooms, calls)
+    make_room(sources, near, room, rooms, calls)
 }
 
 // Works out the ends in a room along the first stretch from a place by a walk, where they are not kept yet.

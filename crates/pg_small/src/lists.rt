@@ -41,12 +41,44 @@ pub(crate) fn few_counts(counts: &[u16]) -> Option<(u8, [u16; 3])>
 pub(crate) fn few_ages(ages: &[u8]) -> Option<(u8, [u8; 6])>
     ensures { IfSome result (λ few. take few.0 few.1 ≡ ages.now) }
 {
-    if ages.len() > 6 {
-        return None;
+    match ages {
+        [] => Some((0, [0, 0, 0, 0, 0, 0])),
+        [a] => Some((1, [*a, 0, 0, 0, 0, 0])),
+        [a, b] => Some((2, [*a, *b, 0, 0, 0, 0])),
+        [a, b, c] => Some((3, [*a, *b, *c, 0, 0, 0])),
+        [a, b, c, d] => Some((4, [*a, *b, *c, *d, 0, 0])),
+        [a, b, c, d, e] => Some((5, [*a, *b, *c, *d, *e, 0])),
+        [a, b, c, d, e, f] => Some((6, [*a, *b, *c, *d, *e, *f])),
+        _ => None,
     }
-    let mut few = [0; 6];
-    few[..ages.len()].copy_from_slice(ages);
-    Some((ages.len() as u8, few))
+}
+
+// The first of three counts, as many as told.
+pub(crate) fn first_of_three(alloc: Global, count: u8, counts: &[u16; 3]) -> Counts
+    ensures { result ≡ take count counts.now }
+{
+    let [a, b, c] = *counts;
+    match count {
+        0 => Counts::zeros(alloc, 0),
+        1 => {
+            let mut one = Counts::zeros(alloc, 1);
+            one.set(0, a);
+            one
+        }
+        2 => {
+            let mut two = Counts::zeros(alloc, 2);
+            two.set(0, a);
+            two.set(1, b);
+            two
+        }
+        _ => {
+            let mut three = Counts::zeros(alloc, 3);
+            three.set(0, a);
+            three.set(1, b);
+            three.set(2, c);
+            three
+        }
+    }
 }
 
 pub(crate) fn counts_from(alloc: Global, counts: &[u16]) -> Result<Counts, AllocError>

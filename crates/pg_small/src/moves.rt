@@ -1,5 +1,5 @@
 //! Columns in few bytes.
-ghost use Rattle.std.specs.Prelude.{◌≡◌, IfOk, IfSome};
+ghost use Rattle.std.specs.Prelude.{◌≡◌, [], IfOk, IfSome};
 ghost use Rattle.std.specs.Cmp.Lexicographic.{slice_cmp};
 ghost use Rattle.pg_plan.specs.Order.{column_cmp, counts_cmp};
 ghost use Rattle.pg_small.specs.Columns.{floats_cmp, move_kept, picks_seen};
@@ -84,6 +84,49 @@ fn many_move(
     Ok(Kept::Many(Box::new(alloc, step)?))
 }
 
+// The column of a layout by these picks.
+#[inline(never)]
+fn picked_move(
+    alloc: Global,
+    layout: &SmallLayout,
+    from: Place,
+    to: Place,
+    picks: &[u32],
+) -> Result<SmallMove, AllocError>
+    ensures { IfOk result (λ it. it ≡ column_of layout.now from to picks.now) }
+{
+    match few_move(layout, from, to, picks) {
+        Some(kept) => Ok(SmallMove { kept }),
+        None => Ok(SmallMove {
+            kept: many_move(alloc, layout, from, to, picks)?,
+        }),
+    }
+}
+
+// The column of a layout without picks.
+#[inline(never)]
+fn plain_move(
+    alloc: Global,
+    layout: &SmallLayout,
+    from: Place,
+    to: Place,
+) -> Result<SmallMove, AllocError>
+    ensures { IfOk result (λ it. it ≡ column_of layout.now from to []) }
+{
+    match layout.few() {
+        Some(few) => Ok(SmallMove {
+            kept: Kept::Few {
+                count: 0,
+                layout: *few,
+                picks: [0; 18],
+                from,
+                to,
+            },
+        }),
+        None => picked_move(alloc, layout, from, to, &[]),
+    }
+}
+
 fn compare_counts(a: &[u16], b: &[u16]) -> Ordering
     ensures { result ≡ counts_cmp a.now b.now }
 {
@@ -91,7 +134,9 @@ fn compare_counts(a: &[u16], b: &[u16]) -> Ordering
 }
 
 impl SmallMove {
-    /// The column of a layout between two places, by these picks, in few bytes. It fails where memory runs out.
+    /// The column of a layout between two places, by these picks, in few bytes. It fails where memory runs out. Most have no
+    /// picks, so that no list of them is handed on.
+    #[inline(always)]
     pub fn of(
         alloc: Global,
         layout: &SmallLayout,
@@ -101,11 +146,10 @@ impl SmallMove {
     ) -> Result<SmallMove, AllocError>
         ensures { IfOk result (λ it. it ≡ column_of layout.now from to picks.now) }
     {
-        match few_move(layout, from, to, picks) {
-            Some(kept) => Ok(SmallMove { kept }),
-            None => Ok(SmallMove {
-                kept: many_move(alloc, layout, from, to, picks)?,
-            }),
+        if picks.is_empty() {
+            plain_move(alloc, layout, from, to)
+        } else {
+            picked_move(alloc, layout, from, to, picks)
         }
     }
 
@@ -200,11 +244,22 @@ impl SmallMove {
         ensures { result ≡ floats_cmp self.now other.now }
     {
         let run = self.run().cmp(&other.run());
+        if run.is_ne() {
+            return run;
+        }
         let wide = compare_counts(self.wide(), other.wide());
+        if wide.is_ne() {
+            return wide;
+        }
         let bottom = compare_counts(self.bottom(), other.bottom());
+        if bottom.is_ne() {
+            return bottom;
+        }
         let top = compare_counts(self.top(), other.top());
-        let picks = compare_picks(&self.picks(), &other.picks());
-        run.then(wide.then(bottom.then(top.then(picks))))
+        if top.is_ne() {
+            return top;
+        }
+        compare_picks(&self.picks(), &other.picks())
     }
 
     /// The order among columns: by `to`, `from`, run, wide counts, bottom counts, top counts and picks, these from the

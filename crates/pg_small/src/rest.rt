@@ -2,7 +2,7 @@
 ghost use Rattle.std.specs.Prelude.{◌≡◌, ◌<◌, ◌≤◌, ℕ, IfOk, IfSome, None, get_or, length, take, true};
 ghost use Rattle.pg_small.specs.Seen.{wide_kept, placed_kept, ages_kept};
 
-use crate::lists::{few_ages, few_counts, first_bytes, first_counts};
+use crate::lists::{few_ages, few_counts, first_bytes, first_counts, first_of_three};
 use pg_plan::{Ages, Counts};
 use std::alloc::{AllocError, Global};
 
@@ -64,12 +64,17 @@ fn many_rest(
 
 #[cold]
 #[inline(never)]
-fn copy_many(alloc: Global, many: &ManyRest) -> Result<Rest, AllocError>
-    ensures wide { IfOk result (λ it. wide_kept it ≡ many.now.wide) }
-    ensures placed { IfOk result (λ it. placed_kept it ≡ many.now.placed) }
-    ensures ages { IfOk result (λ it. ages_kept it ≡ many.now.ages) }
+fn copy_many(
+    alloc: Global,
+    wide: Option<i64>,
+    placed: &Counts,
+    ages: &Ages,
+) -> Result<Rest, AllocError>
+    ensures wide { IfOk result (λ it. wide_kept it ≡ wide) }
+    ensures placed { IfOk result (λ it. placed_kept it ≡ placed.now) }
+    ensures ages { IfOk result (λ it. ages_kept it ≡ ages.now) }
 {
-    many_rest(alloc, many.wide, many.placed.copy()?, many.ages.copy()?)
+    many_rest(alloc, wide, placed.copy()?, ages.copy()?)
 }
 
 // Whether the counts are told to be the same by all bytes, those that are none of the list too.
@@ -94,7 +99,50 @@ fn are_no_greater(a: &[u8; 6], b: &[u8; 6]) -> bool
     (a[0] <= b[0] && a[1] <= b[1] && a[2] <= b[2]) && (a[3] <= b[3] && a[4] <= b[4] && a[5] <= b[5])
 }
 
+// A number that equal counts have in common.
+#[cold]
+#[inline(never)]
+fn mixed_counts(counts: &[u16]) -> u64 {
+    let mut mixed = 0u64;
+    for count in counts {
+        mixed = mixed
+            .wrapping_add(u64::from(*count) + 1)
+            .wrapping_mul(0xC2B2_AE3D_27D4_EB4F);
+    }
+    mixed
+}
+
+// A number that equal ages have in common.
+#[cold]
+#[inline(never)]
+fn mixed_ages(ages: &[u8]) -> u64 {
+    let mut mixed = 0u64;
+    for age in ages {
+        mixed = mixed
+            .wrapping_add(u64::from(*age) + 1)
+            .wrapping_mul(0x1656_67B1_9E37_79F9);
+    }
+    mixed
+}
+
+impl FewRest {
+    // The counts as one number.
+    fn placed_number(&self) -> u64 {
+        let [a, b, c] = self.placed;
+        u64::from(a) | u64::from(b) << 16 | u64::from(c) << 32 | u64::from(self.count) << 48
+    }
+
+    // The ages as one number.
+    fn ages_number(&self) -> u64 {
+        let [a, b, c, d, e, f] = self.ages;
+        let low = u32::from(a) | u32::from(b) << 8 | u32::from(c) << 16 | u32::from(d) << 24;
+        let high = u16::from(e) | u16::from(f) << 8;
+        u64::from(low) | u64::from(high) << 32 | u64::from(self.waiting) << 48
+    }
+}
+
 impl Rest {
+    #[inline(always)]
     pub(crate) fn of(
         alloc: Global,
         wide: Option<i64>,
@@ -107,7 +155,7 @@ impl Rest {
     {
         match few_rest(wide, placed.as_slice(), ages.as_slice()) {
             Some(few) => Ok(Rest::Few(few)),
-            None => many_rest(alloc, wide, placed.copy()?, ages.copy()?),
+            None => copy_many(alloc, wide, placed, ages),
         }
     }
 
@@ -118,7 +166,7 @@ impl Rest {
     {
         match self {
             Rest::Few(few) => Ok(Rest::Few(*few)),
-            Rest::Many(many) => copy_many(alloc, many),
+            Rest::Many(many) => copy_many(alloc, many.wide, &many.placed, &many.ages),
         }
     }
 
@@ -137,6 +185,16 @@ impl Rest {
         match self {
             Rest::Few(few) => first_counts(&few.placed, few.count),
             Rest::Many(many) => many.placed.as_slice(),
+        }
+    }
+
+    // The counts as a list of their own. It fails where memory runs out, in the rare case alone that it needs some.
+    pub(crate) fn placed_counts(&self, alloc: Global) -> Result<Counts, AllocError>
+        ensures { IfOk result (λ it. it ≡ placed_kept self.now) }
+    {
+        match self {
+            Rest::Few(few) => Ok(first_of_three(alloc, few.count, &few.placed)),
+            Rest::Many(many) => many.placed.copy(),
         }
     }
 
@@ -163,24 +221,18 @@ impl Rest {
 
     // A number that equal counts have in common.
     pub(crate) fn placed_hash(&self) -> u64 {
-        let mut mixed = 0u64;
-        for count in self.placed() {
-            mixed = mixed
-                .wrapping_add(u64::from(*count) + 1)
-                .wrapping_mul(0xC2B2_AE3D_27D4_EB4F);
+        match self {
+            Rest::Few(few) => few.placed_number().wrapping_mul(0xC2B2_AE3D_27D4_EB4F),
+            Rest::Many(many) => mixed_counts(many.placed.as_slice()),
         }
-        mixed
     }
 
     // A number that equal ages have in common.
     pub(crate) fn ages_hash(&self) -> u64 {
-        let mut mixed = 0u64;
-        for age in self.ages() {
-            mixed = mixed
-                .wrapping_add(u64::from(*age) + 1)
-                .wrapping_mul(0x1656_67B1_9E37_79F9);
+        match self {
+            Rest::Few(few) => few.ages_number().wrapping_mul(0x1656_67B1_9E37_79F9),
+            Rest::Many(many) => mixed_ages(many.ages.as_slice()),
         }
-        mixed
     }
 
     // Whether the counts are the same, as far as few bytes tell.

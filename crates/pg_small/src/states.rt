@@ -2,7 +2,7 @@
 ghost use Rattle.std.specs.Prelude.{◌≡◌, ◌<◌, ◌≤◌, ℕ, IfOk, get_or, length, true};
 ghost use Rattle.pg_small.specs.Parts.{whole};
 
-use crate::lists::{ages_from, counts_from};
+use crate::lists::ages_from;
 use crate::rest::Rest;
 use pg_list::Place;
 use pg_plan::{Ages, Counts, PageKey, Side, State};
@@ -91,7 +91,7 @@ impl SmallState {
             run: self.run,
             wide: self.rest.wide(),
             fitness: self.fitness,
-            placed: counts_from(alloc, self.rest.placed())?,
+            placed: self.rest.placed_counts(alloc)?,
             ages: ages_from(alloc, self.rest.ages())?,
         })
     }
@@ -129,7 +129,7 @@ impl SmallState {
             run: self.run(),
             wide: self.wide(),
             fitness: self.fitness(),
-            placed: counts_from(alloc, self.placed())?,
+            placed: self.rest.placed_counts(alloc)?,
         })
     }
 
@@ -196,6 +196,16 @@ impl SmallState {
         self.place == other.place
             && self.has_same_page(other)
             && self.rest.is_surely_same(&other.rest)
+    }
+
+    /// Whether another state is the same but for place and fitness, as far as few bytes tell: a no proves nothing. No memory
+    /// is taken.
+    #[inline]
+    pub fn is_surely_same_line(&self, other: &SmallState) -> bool
+        ensures { result ≡ true → other.now ≡ record self.now { place = other.now.place; fitness = other.now.fitness } }
+    {
+        (self.column == other.column && self.side == other.side)
+            && (self.run == other.run && self.rest.is_surely_same(&other.rest))
     }
 
     /// A number that states have in common that differ in place, fitness and ages alone. No memory is taken.

@@ -10,15 +10,18 @@ use pg_list::Galley;
 use pg_style::Style;
 use std::alloc::Global;
 
-/// A galley, a style, and the list of its floats.
+/// A galley, a style, the list of its floats, and how many float classes there are.
 #[derive(Drop)]
 pub struct Sources<'a> {
     pub galley: &'a Galley,
     pub style: &'a Style,
     pub floats: &'a FloatList,
     pub alloc: Global,
+    slots: usize,
     ghost in_range: { AreInRange galley.now style.now } by { AreInRange_prop galley.now style.now },
     ghost list: { IsListOf galley.now.blocks style.now floats.now } by { IsListOf_prop galley.now.blocks style.now floats.now },
+    ghost count: { slots ≡ length (float_numbers style.now) },
+    ghost few: { slots ≤ 8 },
 }
 
 impl<'a> Sources<'a> {
@@ -42,6 +45,7 @@ impl<'a> Sources<'a> {
             style,
             floats,
             alloc,
+            slots: slots_of(style),
         }
     }
 
@@ -50,6 +54,6 @@ impl<'a> Sources<'a> {
         ensures value { result ≡ length (float_numbers self.now.style.now) }
         ensures few { result ≤ 8 }
     {
-        slots_of(self.style)
+        self.slots
     }
 }

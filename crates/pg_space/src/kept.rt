@@ -1,6 +1,6 @@
 //! The space of pages of one document, which keeps the walk of the place that was opened last, what stands behind the front
 //! of the next choice, and what is called before all ends.
-ghost use Rattle.std.specs.Prelude.{◌≡◌, ◌<ℤ◌, ◌≤ℤ◌, ◌^◌, [], true, false, is_some, pos, IfOk};
+ghost use Rattle.std.specs.Prelude.{◌≡◌, ◌+◌, ◌<ℤ◌, ◌≤ℤ◌, ◌^◌, [], true, false, is_some, pos, IfOk};
 ghost use Rattle.pg_floats.specs.AreFloats.{AreFloats};
 ghost use Rattle.pg_hops.specs.Index.{AreHops};
 ghost use Rattle.pg_hops.specs.OneProof.{AreHops_prop};
@@ -39,7 +39,7 @@ use pg_small::{SmallMove, SmallState};
 use pg_sources::PlaceCounts;
 use pg_states::{PageMarks, no_worse};
 use pg_style::Style;
-use pg_table::{EveryMove, Offering, Opened, Space, Steps, Wants};
+use pg_table::{EveryMove, Offering, Opened, Space, StepList, Steps, Wants};
 use pg_walk::{
     FirstWalk, Front, LoweredState, PlaceWalk, fronts_serve, lowered, reach_behind, reaches_serve,
     walk_behind, walk_first,
@@ -364,9 +364,11 @@ impl<'a, D: Document> KeptPages<'a, D> {
         state: &State,
         kept: Kept<D>,
         wants: &W,
+        emptied: StepList<SmallState, SmallMove>,
     ) -> Result<OpenedBy<D>, AllocError>
         requires own { IsState (doc_of self.now.pages.sources) state.now }
         requires from { kept.from ≡ state.now.place }
+        requires emptied { emptied ≡ [] }
         ensures moves { IfOk result (λ it. AreWanted (page_meaning (doc_of self.now.pages.sources)) state.now
             (W.spares wants.now) it.opened.steps) }
         ensures reach { IfOk result (λ it.
@@ -375,7 +377,14 @@ impl<'a, D: Document> KeptPages<'a, D> {
         let from = kept.from;
         let mut ends = kept.ends;
         let mut layouts = kept.layouts;
-        let opened = open_by(&self.pages.sources, state, &mut *layouts, &mut *ends, wants)?;
+        let opened = open_by(
+            &self.pages.sources,
+            state,
+            &mut *layouts,
+            &mut *ends,
+            wants,
+            emptied,
+        )?;
         Ok(OpenedBy {
             opened,
             kept: Kept {
@@ -393,15 +402,17 @@ impl<'a, D: Document> KeptPages<'a, D> {
         &self,
         state: &SmallState,
         wants: &W,
+        emptied: StepList<SmallState, SmallMove>,
     ) -> Result<Opened<SmallState, SmallMove>, AllocError>
-        requires { IsState (doc_of self.now.pages.sources) state.now }
+        requires own { IsState (doc_of self.now.pages.sources) state.now }
+        requires emptied { emptied ≡ [] }
         ensures moves { IfOk result (λ it. AreWanted (page_meaning (doc_of self.now.pages.sources)) state.now
             (W.spares wants.now) it.steps) }
         ensures reach { IfOk result (λ it. it.reach ≡ reach_at (doc_of self.now.pages.sources) state.now.place) }
     {
         let own = state.to_state(self.pages.sources.alloc)?;
         let kept = self.take(own.place)?;
-        let by = self.open_by(&own, kept, wants)?;
+        let by = self.open_by(&own, kept, wants, emptied)?;
         let _was = self.kept.try_replace(Some(by.kept));
         Ok(by.opened)
     }
@@ -456,7 +467,8 @@ impl<D: Document> Space for KeptPages<'_, D> {
         steps: &mut Steps<L>,
     ) -> Result<Opened<SmallState, SmallMove>, AllocError> {
         steps.tick();
-        self.open(state, &EveryMove::<SmallState, PageMarks>::new())
+        let emptied = StepList::new(self.pages.sources.alloc);
+        self.open(state, &EveryMove::<SmallState, PageMarks>::new(), emptied)
     }
 }
 
@@ -472,9 +484,17 @@ impl<D: Document> Offering for KeptPages<'_, D> {
         state: &SmallState,
         steps: &mut Steps<L>,
         wants: &W,
-    ) -> Result<Opened<SmallState, SmallMove>, AllocError> {
+        emptied: StepList<SmallState, SmallMove>,
+    ) -> Result<Opened<SmallState, SmallMove>, AllocError>
+        requires own { IsState (doc_of self.now.pages.sources) state.now }
+        requires emptied { emptied ≡ [] }
+        ensures moves { IfOk result (λ it. AreWanted (page_meaning (doc_of self.now.pages.sources)) state.now
+            (W.spares wants.now) it.steps) }
+        ensures reach { IfOk result (λ it. it.reach ≡ reach_at (doc_of self.now.pages.sources) state.now.place) }
+        ensures counted { steps.new ≡ steps.old + 1 }
+    {
         steps.tick();
-        self.open(state, wants)
+        self.open(state, wants, emptied)
     }
 
     ghost marked_alike = { λ s a b h. h };

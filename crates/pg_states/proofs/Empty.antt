@@ -1,19 +1,17 @@
--- Where no float waits and none is called, none is left and none pays.
-use Rattle.std.proofs.Common.{◌≡◌, refl, sym, ap, ◌∙◌, ℕ, zero, suc, ◌-◌, ◌≤◌, List, [], ◌∷◌, length, take, drop, true, arith}
-use Rattle.std.specs.Prelude.{◌==◌, nat_le, ℤ, pos, ◌+ℤ◌}
-use Rattle.std.specs.List.{flat_map, list_all, range_with_len}
+-- Where no float of a class waits and none is called, none is left, none pays, and the ages ahead stay as they are.
+use Rattle.std.proofs.Common.{◌≡◌, refl, sym, ap, ◌∙◌, ℕ, zero, suc, ◌+◌, ◌-◌, ◌≤◌, List, [], ◌∷◌, ◌++◌, length, take, drop, true, arith}
+use Rattle.std.specs.Prelude.{◌==◌, nat_le}
 use Rattle.std.proofs.lemmas.Bool.{eqb-true, leb-true}
-use Rattle.std.proofs.lemmas.Int.{ints}
+use Rattle.std.proofs.lemmas.List.{append-nil}
 use Rattle.std.proofs.Math.Seq.{drop-nil}
 use Rattle.pg_lemmas.proofs.Bools.{both_of}
-use Rattle.pg_list.specs.Whole.{whole_sum_by}
 use Rattle.pg_style.specs.Values.{StyleValue}
 use Rattle.pg_floats.specs.History.{ages_of}
 use Rattle.pg_rules.specs.Floats.{distance_table, entry}
-use Rattle.law_places.proofs.Among.{Among, all_at, all_of, sum_same}
-use Rattle.law_moves.proofs.Ages.{flat_same}
-use Rattle.pg_states.specs.Lines.{is_line_empty, later, left_in, line_in, paid_by, price_in, with_zeros, young_in, are_young}
+use Rattle.pg_states.specs.Lines.{are_young, is_line_empty, later, line_in, paid_by, with_zeros}
 use Rattle.pg_states.specs.Settling.{AreSettled}
+use Rattle.pg_states.proofs.Ahead.{AreAhead, next_ahead}
+use Rattle.pg_states.proofs.Next.{next_settled}
 
 none_waits : (waits ages : List ℕ) (slot : ℕ) → entry waits slot ≡ 0 → ages_of waits ages slot ≡ []
 none_waits [] ages slot e = refl
@@ -34,43 +32,29 @@ take_none : (n : ℕ) → ◌≡◌ {A = List ℕ} (take n []) []
 take_none zero = refl
 take_none (suc n) = refl
 
-flat_none : (xs : List ℕ) → ◌≡◌ {A = List ℕ} (flat_map (λ (x : ℕ). []) xs) []
-flat_none [] = refl
-flat_none (x ∷ xs) = flat_none xs
+nothing_behind : (xs : List ℕ) (pages taken : ℕ) → xs ≡ xs ++ later pages (drop taken [])
+nothing_behind xs pages taken =
+    sym (append-nil xs) ∙ ap (λ (ys : List ℕ). xs ++ later pages ys) (sym (drop-nil taken))
 
-sum_none : (xs : List ℕ) → whole_sum_by (λ (x : ℕ). pos 0) xs ≡ pos 0
-sum_none [] = refl
-sum_none (x ∷ xs) = zero_more (whole_sum_by (λ (y : ℕ). pos 0) xs) (sum_none xs)
+-- one more class of which no float waits and none is called
+pub next_empty : (style : StyleValue) (waits ages before reached placed after : List ℕ) (pages slot : ℕ)
+    (left : List ℕ) (sum : ℕ) → is_line_empty waits before reached slot ≡ true →
+    AreSettled style (line_in waits ages before reached) placed after pages slot left sum →
+    AreSettled style (line_in waits ages before reached) placed after pages (slot + 1) left sum
+next_empty style waits ages before reached placed after pages slot left sum h s =
+    next_settled style (line_in waits ages before reached) placed after pages slot [] (distance_table style slot)
+    taken (no_line waits ages before reached slot h) refl refl left left sum 0 sum s
+    (ap (are_young (length (distance_table style slot)) pages) (sym (drop-nil taken)))
+    (nothing_behind left pages taken) (ap (paid_by (distance_table style slot)) (sym (take_none taken)))
+    (omega arith) (omega arith)
   where
-    zero_more : (z : ℤ) → z ≡ pos 0 → pos 0 +ℤ z ≡ pos 0
-    zero_more z e = omega (arith, ints, e)
+    taken : ℕ
+    taken = entry after slot - entry placed slot
 
-pub empty_settled : (style : StyleValue) (waits ages before reached placed after : List ℕ) (pages slots : ℕ)
-    (none : List ℕ) → true ≡ list_all (is_line_empty waits before reached) (range_with_len 0 slots) → none ≡ [] →
-    AreSettled style (line_in waits ages before reached) placed after pages slots none 0
-empty_settled style waits ages before reached placed after pages slots none h e = record {
-  young = all_of (young_in style line placed after pages) (range_with_len 0 slots)
-      (λ slot a. ap (λ (xs : List ℕ). are_young (length (distance_table style slot)) pages xs) (none_left slot a));
-  left = e ∙ sym (flat_same (left_in line placed after pages) (λ (slot : ℕ). []) (range_with_len 0 slots)
-      (λ slot a. ap (later pages) (none_left slot a)) ∙ flat_none (range_with_len 0 slots));
-  paid = sym (sum_same (price_in style line placed after) (λ (slot : ℕ). pos 0) (range_with_len 0 slots)
-      (λ slot a. ap (paid_by (distance_table style slot)) (none_placed slot a)) ∙ sum_none (range_with_len 0 slots));
-  small = omega arith;
-}
-  where
-    line : ℕ → List ℕ
-    line = line_in waits ages before reached
-
-    empty : (slot : ℕ) → Among slot (range_with_len 0 slots) → line slot ≡ []
-    empty slot a = no_line waits ages before reached slot
-        (all_at (is_line_empty waits before reached) (range_with_len 0 slots) slot (sym h) a)
-
-    none_left : (slot : ℕ) → Among slot (range_with_len 0 slots) →
-        drop (entry after slot - entry placed slot) (line slot) ≡ []
-    none_left slot a = ap (drop (entry after slot - entry placed slot)) (empty slot a)
-        ∙ drop-nil (entry after slot - entry placed slot)
-
-    none_placed : (slot : ℕ) → Among slot (range_with_len 0 slots) →
-        take (entry after slot - entry placed slot) (line slot) ≡ []
-    none_placed slot a = ap (take (entry after slot - entry placed slot)) (empty slot a)
-        ∙ take_none (entry after slot - entry placed slot)
+pub same_ahead : (waits ages before reached : List ℕ) (slot : ℕ) (ahead : List ℕ) →
+    is_line_empty waits before reached slot ≡ true → AreAhead waits ages slot ahead →
+    AreAhead waits ages (slot + 1) ahead
+same_ahead waits ages before reached slot ahead h a =
+    let b = both_of (entry waits slot == 0) (nat_le (entry reached slot) (entry before slot)) h in
+    next_ahead waits ages slot ahead ahead a
+    (ap (λ (n : ℕ). drop n ahead) (sym (eqb-true (entry waits slot) 0 b.0)))

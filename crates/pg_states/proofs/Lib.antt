@@ -9,3 +9,4 @@ pub mod Sums
 pub mod Young
 pub mod NoOlder
 pub mod Told
+pub mod Zeros

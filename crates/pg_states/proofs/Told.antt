@@ -56,7 +56,7 @@ no_worse_along u v at fitness h =
     past.1
 
 -- a line is no worse than itself
-line_refl : (u : State) → is_no_worse_line u u ≡ true
+pub line_refl : (u : State) → is_no_worse_line u u ≡ true
 line_refl u =
     let own = both_of (is_same_place u.place u.place) _ (key_refl (key u)) in
     let column = both_of (u.column == u.column) _ own.1 in

@@ -1,6 +1,5 @@
 //! The floats of all classes at the end of a column.
 ghost use Rattle.std.specs.Prelude.{◌≡◌, ◌≤◌, ◌<◌, ◌^◌, ◌-◌, length, take, IfOk};
-ghost use Rattle.std.specs.List.{list_all, range_with_len};
 ghost use Rattle.pg_rules.specs.Floats.{distance_table, entry as entry_of, float_numbers};
 ghost use Rattle.pg_states.specs.Lines.{is_line_empty, with_zeros};
 ghost use Rattle.pg_states.specs.Settling.{SettlesBy, line_by};
@@ -25,7 +24,9 @@ pub struct Classes<'a> {
     pub after: &'a [u16],
 }
 
-// The demerits of the floats of a slot by the pages that they wait.
+// The demerits of the floats of a slot by the pages that they wait. Made part of its caller, it would be looked for among all
+// classes before it is known whether it is asked for.
+#[inline(never)]
 fn short_table(style: &Style, slot: usize) -> &[u32]
     requires { slot < length (float_numbers style.now) }
     ensures table { result.now ≡ distance_table style.now slot }
@@ -70,21 +71,10 @@ impl Classes<'_> {
         entry(self.waits, slot) == 0 && entry(self.reached, slot) <= entry(self.called, slot)
     }
 
-    // The same for all classes.
-    fn are_lines_empty(&self, slots: usize) -> bool
-        ensures { result ≡ list_all (is_line_empty self.now.waits.now self.now.called.now self.now.reached.now)
-            (range_with_len 0 slots) }
-    {
-        for slot in 0..slots {
-            if !self.is_line_empty(slot) {
-                return false;
-            }
-        }
-        true
-    }
-
-    // The floats at the end of the column, class by class along the ages of those that wait.
-    fn settle_lines(
+    /// The floats at the end of the column, so many pages later, from the ages of those that wait: the ages of those
+    /// that are left, and what the placed ones pay. None where one of those that are left is too old.
+    #[inline(always)]
+    pub fn settle(
         &self,
         alloc: Global,
         style: &Style,
@@ -101,6 +91,9 @@ impl Classes<'_> {
         let mut price = 0u128;
         let mut ahead = ages;
         for slot in 0..slots {
+            if self.is_line_empty(slot) {
+                continue;
+            }
             let line = self.line(ahead, slot);
             let table = short_table(style, slot);
             let taken = self.taken(slot);
@@ -111,29 +104,5 @@ impl Classes<'_> {
             ahead = behind(ahead, self.waiting(slot));
         }
         Ok(Some(Settled { ages: left, price }))
-    }
-
-    /// The floats at the end of the column, so many pages later, from the ages of those that wait: the ages of those
-    /// that are left, and what the placed ones pay. None where one of those that are left is too old.
-    pub fn settle(
-        &self,
-        alloc: Global,
-        style: &Style,
-        slots: usize,
-        ages: &[u8],
-        pages: u8,
-    ) -> Result<Option<Settled>, AllocError>
-        requires slots { slots ≡ length (float_numbers style.now) }
-        requires few { slots ≤ 8 }
-        ensures { IfOk result (SettlesBy style.now (line_by self.now ages.now) self.now.placed.now self.now.after.now
-            pages slots) }
-    {
-        if self.are_lines_empty(slots) {
-            return Ok(Some(Settled {
-                ages: Ages::new(alloc),
-                price: 0,
-            }));
-        }
-        self.settle_lines(alloc, style, slots, ages, pages)
     }
 }

@@ -151,11 +151,25 @@ fn is_no_worse_past(a: &SmallState, b: &SmallState) -> bool
     has_same_placed(a, b) && has_no_older(a, b)
 }
 
-/// Whether states are equal but for place, fitness and ages, and no age of the first is greater. No memory is taken.
-pub(crate) fn is_no_worse_line(a: &SmallState, b: &SmallState) -> bool
+// Whether states are equal but for place, fitness and ages, and no age of the first is greater.
+#[cold]
+#[inline(never)]
+fn is_no_worse_part(a: &SmallState, b: &SmallState) -> bool
     ensures { result ≡ is_no_worse_line_of a.now b.now }
 {
     is_same_column(a, b) && (is_same_page(a, b) && is_no_worse_past(a, b))
+}
+
+/// Whether states are equal but for place, fitness and ages, and no age of the first is greater. Most that are compared are the
+/// same but for place and fitness, which few bytes tell. No memory is taken.
+#[inline(always)]
+pub(crate) fn is_no_worse_line(a: &SmallState, b: &SmallState) -> bool
+    ensures { result ≡ is_no_worse_line_of a.now b.now }
+{
+    if a.is_surely_same_line(b) {
+        return true;
+    }
+    is_no_worse_part(a, b)
 }
 
 /// Whether two states are equal but for their ages, and no age of the first is greater. Most that are compared are the

@@ -1,12 +1,12 @@
 //! Counts of floats by class, one beside another.
-ghost use Rattle.std.specs.Prelude.{◌≡◌, ◌-◌, map, IfOk};
+ghost use Rattle.std.specs.Prelude.{◌≡◌, ◌≤◌, ◌-◌, map};
 ghost use Rattle.std.specs.List.{list_all, range_with_len};
 ghost use Rattle.pg_rules.specs.Floats.{entry as entry_of};
 ghost use Rattle.pg_states.specs.Lines.{covers, covers_one as covers_one_of};
 
 use pg_floats::entry;
 use pg_plan::Counts;
-use std::alloc::{AllocError, Global};
+use std::alloc::Global;
 
 /// By how many the one counts are greater in a class; 0 where they are not.
 pub fn excess(a: &[u16], b: &[u16], slot: usize) -> u16
@@ -15,21 +15,16 @@ pub fn excess(a: &[u16], b: &[u16], slot: usize) -> u16
     entry(a, slot).saturating_sub(entry(b, slot))
 }
 
-/// The same for each class.
-pub fn excess_counts(
-    alloc: Global,
-    slots: usize,
-    a: &[u16],
-    b: &[u16],
-) -> Result<Counts, AllocError>
-    ensures { IfOk result (λ counts. counts ≡ map (λ slot. entry_of a.now slot - entry_of b.now slot)
-        (range_with_len 0 slots)) }
+/// The same for each class. No memory is taken.
+pub fn excess_counts(alloc: Global, slots: usize, a: &[u16], b: &[u16]) -> Counts
+    requires { slots ≤ 8 }
+    ensures { result ≡ map (λ slot. entry_of a.now slot - entry_of b.now slot) (range_with_len 0 slots) }
 {
-    let mut counts = Counts::new(alloc);
+    let mut counts = Counts::zeros(alloc, slots);
     for slot in 0..slots {
-        counts.push(excess(a, b, slot))?;
+        counts.set(slot, excess(a, b, slot));
     }
-    Ok(counts)
+    counts
 }
 
 // Whether the one counts are at least the others in a class.

@@ -18,9 +18,9 @@ use std::alloc::{AllocError, Global};
 use std::marker::Model;
 
 /// How many states are remembered at first, and how many at most.
-const FIRST_CELLS: usize = 1 << 12;
+const FIRST_CELLS: usize = 1 << 10;
 
-const MOST_CELLS: usize = 1 << 17;
+const MOST_CELLS: usize = 1 << 16;
 
 /// How many states a search reaches before it remembers any.
 const REACHED_BEFORE: usize = 512;
@@ -340,6 +340,13 @@ impl Marking<SmallState> for PageMarks {
             cells: Vec::new(alloc),
             mask: 0,
             reached: 0,
+        }
+    }
+
+    fn detail(state: &SmallState) -> u64 {
+        match state.fitness() {
+            None => 0,
+            Some(fitness) => (u64::from(fitness) + 1) << 20,
         }
     }
 

@@ -73,7 +73,9 @@ fn turns(style: &Style, state: &State) -> u8
 }
 
 /// The floats at the end of a column, behind which so many of each class are placed, and before whose end `reached` are
-/// called. None where one of those that are left is too old.
+/// called. None where one of those that are left is too old. It is made part of its callers, since a call would hand on what is
+/// left twice.
+#[inline(always)]
 pub fn settle(
     sources: &Sources<'_>,
     state: &State,

@@ -39,7 +39,7 @@ pub fn known(
         sources.slots(),
         counts.called.as_slice(),
         state.placed.as_slice(),
-    )?;
+    );
     Ok(Known {
         called: counts.called.copy()?,
         waits,

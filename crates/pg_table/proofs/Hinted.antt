@@ -22,6 +22,11 @@ pub held_in : {S M : Type 0} (bs : List (Labels S M)) (i j : ℕ) (b : Labels S 
 held_in bs i j b None at is = tt
 held_in bs i j b (Some p) at is = (i, (b, (at, contains_at b.items j p.now (sym is))))
 
+-- a list with a last element is not empty
+pub has_last : {X : Type 0} (xs : List X) (x : X) → xs ++ x ∷ [] ≡ [] → ⊥
+has_last [] x e = cc
+has_last (y ∷ xs) x e = cc
+
 -- lists that end alike have the same last element
 pub same_last : {X : Type 0} (xs ys : List X) (x y : X) → xs ++ x ∷ [] ≡ ys ++ y ∷ [] → x ≡ y
 same_last [] [] x y e = cc

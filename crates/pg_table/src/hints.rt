@@ -28,17 +28,17 @@ impl Hint {
     }
 }
 
-/// Where a label was held, by a hash of its block and rank. Nothing is promised of a hint: who follows
-/// it has to look at what is there. A search that is short has none, so that it pays nothing for them.
+/// Where a label was held, by a hash of its block, its rank and what else the marks tell of its state. Nothing is
+/// promised of a hint: who follows it has to look at what is there. A search that is short has none, so that it pays nothing for them.
 #[derive(Drop)]
 pub(crate) struct Hints {
     added: u32,
     list: Vec<Hint>,
 }
 
-/// Which of the hints is for labels of this block and rank.
-pub(crate) fn spot_of(block: u32, rank: u64) -> usize {
-    let mixed = rank ^ u64::from(block).rotate_left(40);
+/// Which of the hints is for labels of this block, rank and detail.
+pub(crate) fn spot_of(block: u32, rank: u64, detail: u64) -> usize {
+    let mixed = rank ^ u64::from(block).rotate_left(40) ^ detail;
     (mixed.wrapping_mul(0x9E37_79B9_7F4A_7C15) >> 49) as usize
 }
 

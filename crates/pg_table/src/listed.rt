@@ -1,10 +1,11 @@
 //! A space that lists its moves, for who looks for wanted ones.
-ghost use Rattle.std.specs.Prelude.{◌≡◌};
+ghost use Rattle.std.specs.Prelude.{◌≡◌, ◌+◌, [], IfOk};
+ghost use Rattle.pg_table.specs.Space.{AreWanted};
 
 use crate::Steps;
 use crate::marking::NoMarks;
 use crate::space::{Offering, Space, Wants};
-use crate::step::Opened;
+use crate::step::{Opened, StepList};
 use std::alloc::AllocError;
 use std::cmp::Ordering;
 use std::sync::ledger::Ledger;
@@ -75,7 +76,15 @@ impl<S: Space> Offering for Listed<'_, S> {
         state: &S::State,
         steps: &mut Steps<L>,
         _wants: &W,
-    ) -> Result<Opened<S::State, S::Move>, AllocError> {
+        _emptied: StepList<S::State, S::Move>,
+    ) -> Result<Opened<S::State, S::Move>, AllocError>
+        requires own { (S.meaning self.now.space.now).Own state.now }
+        requires emptied { _emptied ≡ [] }
+        ensures moves { IfOk result
+            (λ o. AreWanted (S.meaning self.now.space.now) state.now (W.spares _wants.now) o.steps) }
+        ensures reach { IfOk result (λ o. o.reach ≡ (S.meaning self.now.space.now).reach state.now) }
+        ensures counted { steps.new ≡ steps.old + 1 }
+    {
         self.space.expand(state, steps)
     }
 

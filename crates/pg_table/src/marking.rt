@@ -16,6 +16,9 @@ pub trait Marking<T> {
     fn none(alloc: Global) -> Self
         ensures { (v : T) (c : ℤ) → outdone result v c ≡ false };
 
+    /// A number that tells states of one block and rank apart. Nothing is promised of it.
+    fn detail(state: &T) -> u64;
+
     /// Remembers that a state was reached at a cost. It may forget others, or this one.
     fn mark(&mut self, state: &T, cost: i128) -> Result<(), AllocError>
         ensures { OnOk result ((v : T) (c : ℤ) → outdone self.new v c ≡ true →
@@ -37,6 +40,10 @@ impl<T: Drop> Marking<T> for NoMarks<T> {
 
     fn none(_alloc: Global) -> NoMarks<T> {
         NoMarks { of: PhantomData }
+    }
+
+    fn detail(_state: &T) -> u64 {
+        0
     }
 
     fn mark(&mut self, _state: &T, _cost: i128) -> Result<(), AllocError> {

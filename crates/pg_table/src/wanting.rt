@@ -1,5 +1,5 @@
 //! Which moves the table wants.
-ghost use Rattle.std.specs.Prelude.{◌≡◌, ◌+◌, ◌+ℤ◌, IfOk};
+ghost use Rattle.std.specs.Prelude.{◌≡◌, ◌+◌, ◌+ℤ◌, [], IfOk};
 ghost use Rattle.pg_table.specs.Space.{AreWanted};
 ghost use Rattle.pg_table.specs.Needless.{is_spared};
 
@@ -7,7 +7,7 @@ use crate::Steps;
 use crate::marking::{Marked, Marking};
 use crate::search::is_below;
 use crate::space::{Offering, Wants};
-use crate::step::Opened;
+use crate::step::{Opened, StepList};
 use crate::table::Entry;
 use std::alloc::AllocError;
 use std::marker::PhantomData;
@@ -81,15 +81,17 @@ impl<S: Offering> Wants for Wanting<'_, S> {
     }
 }
 
-/// The steps of a label that are wanted beside the pending ones, from the block `below` on.
+/// The steps of a label that are wanted beside the pending ones, from the block `below` on, in a list that has none yet.
 pub(crate) fn wanted_steps<S: Offering, L: Ledger>(
     space: &S,
     label: &Entry<S::State, S::Move>,
     below: u32,
     marks: &S::Marks,
     steps: &mut Steps<L>,
+    emptied: StepList<S::State, S::Move>,
 ) -> Result<Opened<S::State, S::Move>, AllocError>
-    requires { (S.meaning space.now).Own label.now.state }
+    requires own { (S.meaning space.now).Own label.now.state }
+    requires emptied { emptied ≡ [] }
     ensures moves { IfOk result (λ o. AreWanted (S.meaning space.now) label.now.state
         (λ v c. is_spared (S.meaning space.now) below (S.Marks.outdone marks.now) v (label.now.cost +ℤ c)) o.steps) }
     ensures reach { IfOk result (λ o. o.reach ≡ (S.meaning space.now).reach label.now.state) }
@@ -101,5 +103,5 @@ pub(crate) fn wanted_steps<S: Offering, L: Ledger>(
         cost: label.cost,
         below,
     };
-    space.offer(&label.state, steps, &wants)
+    space.offer(&label.state, steps, &wants, emptied)
 }

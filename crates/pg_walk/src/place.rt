@@ -184,7 +184,7 @@ fn walk_straight(
     let straight = Some(straight);
     let told = quiet_greatest(&walked);
     let near = NearList::none(alloc);
-    if !comes_to_choice(galley, state_behind(&walked)) {
+    if !comes_to_choice(galley, &walked) {
         let reach = reach_told(alloc, galley, style, index, from, told)?;
         return Ok(Some(FirstWalk {
             near,
@@ -234,7 +234,7 @@ fn walk_for_rooms(
     };
     let walked = first_stretch(&context, from, &mut found)?;
     let told = quiet_greatest(&walked);
-    if !comes_to_choice(galley, state_behind(&walked)) {
+    if !comes_to_choice(galley, &walked) {
         let reach = reach_told(alloc, galley, style, index, from, told)?;
         return Ok(FirstWalk {
             near: found.into_near(),

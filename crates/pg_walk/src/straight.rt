@@ -13,7 +13,7 @@ use crate::walking::first_stretch;
 use crate::{Context, variants_at};
 use pg_candidates::{OneRoom, RoomEnd, Walked};
 use pg_column::TextRoom;
-use pg_hops::{BreakIndex, State};
+use pg_hops::BreakIndex;
 use pg_list::{Galley, Place};
 use pg_style::{Give, Kind, Style};
 use std::alloc::{AllocError, Global};
@@ -111,10 +111,10 @@ pub fn straight_ends(
 }
 
 // Whether columns come to a choice behind the first stretch.
-pub(crate) fn comes_to_choice(galley: &Galley, start: Option<State>) -> bool
-    ensures { result ≡ false → IsLast galley.now.blocks start }
+pub(crate) fn comes_to_choice(galley: &Galley, walked: &Walked) -> bool
+    ensures { result ≡ false → IsLast galley.now.blocks walked.now.state }
 {
-    match start {
+    match &walked.state {
         Some(state) => !variants_at(galley, state.block).is_empty(),
         None => false,
     }

@@ -1,13 +1,11 @@
-use Rattle.std.proofs.Common.{◌≡◌, ◌+◌, rules, arith, sym, ap, subst, refl, ◌∙◌, [], List, ℕ, IfSome, length, w64, to_z, of_z}
+use Rattle.std.proofs.Common.{◌≡◌, ◌+◌, rules, arith, sym, ap, subst, refl, ◌∙◌, [], List, Option, IfSome, None, length, w64, to_z, of_z}
 use Rattle.std.specs.Option.{option_copied}
-use Rattle.pg_list.specs.Places.{place}
 use Rattle.std.proofs.lemmas.Int.{to_z-of_z}
 use mir.Val.{SFits}
 use Rattle.pg_rules.specs.Legal.{document}
 use Rattle.pg_column.specs.Passed.{fits, is_end_here}
 use Rattle.pg_hops.specs.Ahead.{front_ahead, items_ahead}
 use Rattle.law_walk.specs.Candidates.{Candidate}
-use Rattle.law_walk.specs.Walk.{ends_along}
 use Rattle.pg_hops.specs.Needs.{AreNeeds, AreNoted}
 use Rattle.pg_hops.specs.Quiet.{is_quiet}
 use Rattle.pg_notes.specs.declared.sums.NoteSum.{NoteSum}
@@ -24,6 +22,10 @@ use Rattle.pg_candidates.proofs.Stretched.{end_ends, over_ends, over_quiet, step
 use Rattle.pg_candidates.proofs.Handed.{all_taken, handed, taking_on}
 use Rattle.pg_candidates.proofs.along.walk_on.Goals as goal
 
+-- nothing is said of no state
+of_none : {S : Type 0} (P : S → Type 0) (o : Option S) → o ≡ None → IfSome o P
+of_none P o e = subst (λ o. IfSome o P) (sym e) tt
+
 pub hand_on-requires-clause-noted : goal.hand_on-requires-clause-noted
 hand_on-requires-clause-noted g c =
     subst (λ (it : Candidate). AreNoted c.args.style.now it.passed.notes c.ahead.noted) (sym c.end_to-end.ensures)
@@ -34,13 +36,13 @@ hand_on-requires-clause-needs g c =
     subst (λ (it : Candidate). AreNeeds c.args.style.now it.passed c.with-needs.result) (sym c.end_to-end.ensures)
     (c.with-needs.ensures c.args.style.now c.ahead.invariant.noted)
 
-pub end_at-requires : goal.end_at-requires
-end_at-requires g c =
+pub end_at-requires-clause-noted : goal.end_at-requires-clause-noted
+end_at-requires-clause-noted g c =
     subst (λ (it : Candidate). AreNoted c.args.style.now it.passed.notes c.ahead.noted)
     (sym c.end_to-end-in-ahead.ensures) c.ahead.invariant.noted
 
-pub end_at-requires-2 : goal.end_at-requires-2
-end_at-requires-2 g c =
+pub end_at-requires-2-clause-noted : goal.end_at-requires-2-clause-noted
+end_at-requires-2-clause-noted g c =
     subst (λ (it : Candidate). AreNoted c.args.style.now it.passed.notes c.ahead.noted) (sym c.end_to-last.ensures)
     c.ahead.invariant.noted
 
@@ -59,15 +61,12 @@ returns-in_default-go-clause-ends g c =
     let doc = document c.args.galley.now c.args.style.now in
     let top = to_z w64 (of_z w64 c.args.top) in
     let demerits = c.args.start.now.demerits in
-    subst (λ (picks : List ℕ). g.T.TakesEnds.Took c.args.style.now c.args.found.now c.end_at.new.found
-    (ends_along doc c.args.top picks c.args.start.now.demerits (place (front_ahead c.args.galley.now.blocks c.args.start.now.at) 0 0)
-    (view c.args.start.now.passed) (items_ahead c.args.galley.now.blocks c.args.start.now.at))) c.in_ok-picks.ensures
-    (simp to_z-of_z at (all_taken (g.T.TakesEnds.Took c.args.style.now) (g.met.T.TakesEnds.both_taken c.args.style.now) c.args.found.now c.ahead.found
+    simp to_z-of_z at (all_taken (g.T.TakesEnds.Took c.args.style.now) (g.met.T.TakesEnds.both_taken c.args.style.now) c.args.found.now c.ahead.found
     c.end_at.new.found _ _ _ c.ahead.invariant.ends
     (handed (g.T.TakesEnds.Took c.args.style.now) doc c.ahead.found c.end_at.new.found _ _ _ c.end_to-end-in-ahead.ensures
     (c.in_ok-end_at.ensures c.args.galley.now) c.ends_at-is_end.ensures)
     (stop_ends doc top c.ahead.at c.place-here-in-ahead.result c.place-here-in-ahead.ensures (view c.ahead.passed)
-    c.in_ok-picks.picks.value demerits [] _ refl c.in_default-go.ensures.stops)))
+    c.args.start.now.picks.now demerits [] _ refl c.in_default-go.ensures.stops))
 
 pub returns-in_default-go-clause-past : goal.returns-in_default-go-clause-past
 returns-in_default-go-clause-past g c =
@@ -84,10 +83,7 @@ returns-then-not-fits-clause-ends g c =
     let doc = document c.args.galley.now c.args.style.now in
     let top = to_z w64 (of_z w64 c.args.top) in
     let demerits = c.args.start.now.demerits in
-    subst (λ (picks : List ℕ). g.T.TakesEnds.Took c.args.style.now c.args.found.now c.hand_on.new.found
-    (ends_along doc c.args.top picks c.args.start.now.demerits (place (front_ahead c.args.galley.now.blocks c.args.start.now.at) 0 0)
-    (view c.args.start.now.passed) (items_ahead c.args.galley.now.blocks c.args.start.now.at))) c.in_ok-picks.ensures
-    (simp to_z-of_z at (all_taken (g.T.TakesEnds.Took c.args.style.now) (g.met.T.TakesEnds.both_taken c.args.style.now) c.args.found.now c.ahead.found
+    simp to_z-of_z at (all_taken (g.T.TakesEnds.Took c.args.style.now) (g.met.T.TakesEnds.both_taken c.args.style.now) c.args.found.now c.ahead.found
     c.hand_on.new.found _ _ _ c.ahead.invariant.ends
     (handed (g.T.TakesEnds.Took c.args.style.now) doc c.ahead.found c.hand_on.new.found _ _ _ c.end_to-end.ensures
     (c.in_ok-hand_on.ensures c.args.galley.now)
@@ -97,8 +93,8 @@ returns-then-not-fits-clause-ends g c =
     (option_copied o)) c.in-Some.is (c.hop_ahead.ensures c.args.galley.now.blocks c.args.style.now.maxdepth
     c.requires.hops))))
     (over_ends doc top c.ahead.at c.place-here.result c.place-here.ensures (view c.ahead.passed)
-    c.in_ok-picks.picks.value demerits [] _ refl c.hop_on-at.result (view c.hop_on-at.new.passed) c.hop_on-at.ensures.goes
-    (sym c.fits.ensures ∙ c.if-not-fits.true))))
+    c.args.start.now.picks.now demerits [] _ refl c.hop_on-at.result (view c.hop_on-at.new.passed) c.hop_on-at.ensures.goes
+    (sym c.fits.ensures ∙ c.if-not-fits.true)))
 
 pub returns-then-not-fits-2-clause-ends : goal.returns-then-not-fits-2-clause-ends
 returns-then-not-fits-2-clause-ends g c =
@@ -107,16 +103,13 @@ returns-then-not-fits-2-clause-ends g c =
     let doc = document c.args.galley.now c.args.style.now in
     let top = to_z w64 (of_z w64 c.args.top) in
     let demerits = c.args.start.now.demerits in
-    subst (λ (picks : List ℕ). g.T.TakesEnds.Took c.args.style.now c.args.found.now c.end_at.new.found
-    (ends_along doc c.args.top picks c.args.start.now.demerits (place (front_ahead c.args.galley.now.blocks c.args.start.now.at) 0 0)
-    (view c.args.start.now.passed) (items_ahead c.args.galley.now.blocks c.args.start.now.at))) c.in_ok-picks.ensures
-    (simp to_z-of_z at (all_taken (g.T.TakesEnds.Took c.args.style.now) (g.met.T.TakesEnds.both_taken c.args.style.now) c.args.found.now c.ahead.found
+    simp to_z-of_z at (all_taken (g.T.TakesEnds.Took c.args.style.now) (g.met.T.TakesEnds.both_taken c.args.style.now) c.args.found.now c.ahead.found
     c.end_at.new.found _ _ _ c.ahead.invariant.ends
     (handed (g.T.TakesEnds.Took c.args.style.now) doc c.ahead.found c.end_at.new.found _ _ _ c.end_to-end-in-ahead.ensures
     (c.in_ok-end_at.ensures c.args.galley.now) c.ends_at-is_end.ensures)
     (over_ends doc top c.ahead.at c.place-here-in-ahead.result c.place-here-in-ahead.ensures (view c.ahead.passed)
-    c.in_ok-picks.picks.value demerits [] _ refl c.in-Some-go.next (view c.go.new.passed) c.in-Some-go.ensures.goes
-    (sym c.fits-in-ahead.ensures ∙ c.if-not-fits-2.true))))
+    c.args.start.now.picks.now demerits [] _ refl c.in-Some-go.next (view c.go.new.passed) c.in-Some-go.ensures.goes
+    (sym c.fits-in-ahead.ensures ∙ c.if-not-fits-2.true)))
 
 pub returns-then-not-fits-clause-past : goal.returns-then-not-fits-clause-past
 returns-then-not-fits-clause-past g c =
@@ -189,7 +182,7 @@ ahead-preserved-in-Some g c =
           (subst (λ o. MayHop c.args.galley.now.blocks c.args.style.now.maxdepth (view c.ahead.passed) c.ahead.at
           (option_copied o)) c.in-Some.is (c.hop_ahead.ensures c.args.galley.now.blocks c.args.style.now.maxdepth
           c.requires.hops)))) _
-          (step_ends doc top c.ahead.at c.place-here.result c.place-here.ensures old c.in_ok-picks.picks.value demerits
+          (step_ends doc top c.ahead.at c.place-here.result c.place-here.ensures old c.args.start.now.picks.now demerits
           [] _ refl to new went bound);
       reach = step_reach c.ahead.at c.place-here.result c.place-here.ensures c.ahead.greatest
           c.max-greatest.result c.max-greatest.ensures doc top to old new went bound
@@ -222,7 +215,7 @@ ahead-preserved g c =
           c.end_at.new.found _ _ _ c.ahead.invariant.ends
           (handed (g.T.TakesEnds.Took c.args.style.now) doc c.ahead.found c.end_at.new.found _ _ _ c.end_to-end-in-ahead.ensures
           (c.in_ok-end_at.ensures c.args.galley.now) c.ends_at-is_end.ensures) _
-          (step_ends doc top c.ahead.at c.place-here-in-ahead.result c.place-here-in-ahead.ensures old c.in_ok-picks.picks.value demerits
+          (step_ends doc top c.ahead.at c.place-here-in-ahead.result c.place-here-in-ahead.ensures old c.args.start.now.picks.now demerits
           [] _ refl to new went bound);
       reach = step_reach c.ahead.at c.place-here-in-ahead.result c.place-here-in-ahead.ensures c.ahead.greatest
           c.max-greatest-in-ahead.result c.max-greatest-in-ahead.ensures doc top to old new went bound
@@ -237,15 +230,12 @@ returns-clause-ends g c =
     let doc = document c.args.galley.now c.args.style.now in
     let top = to_z w64 (of_z w64 c.args.top) in
     let demerits = c.args.start.now.demerits in
-    subst (λ (picks : List ℕ). g.T.TakesEnds.Took c.args.style.now c.args.found.now c.end_at-2.new.found
-    (ends_along doc c.args.top picks c.args.start.now.demerits (place (front_ahead c.args.galley.now.blocks c.args.start.now.at) 0 0)
-    (view c.args.start.now.passed) (items_ahead c.args.galley.now.blocks c.args.start.now.at))) c.in_ok-picks.ensures
-    (simp to_z-of_z at (all_taken (g.T.TakesEnds.Took c.args.style.now) (g.met.T.TakesEnds.both_taken c.args.style.now) c.args.found.now c.ahead.found
+    simp to_z-of_z at (all_taken (g.T.TakesEnds.Took c.args.style.now) (g.met.T.TakesEnds.both_taken c.args.style.now) c.args.found.now c.ahead.found
     c.end_at-2.new.found _ _ _ c.ahead.invariant.ends
     (handed (g.T.TakesEnds.Took c.args.style.now) doc c.ahead.found c.end_at-2.new.found _ _ _ c.end_to-last.ensures
     (c.in_ok-end_at-2.ensures c.args.galley.now) c.is_end-is_end.ensures)
     (end_ends doc top c.ahead.at c.ahead.invariant.settled c.in_default-item.ensures.item (view c.ahead.passed)
-    c.in_ok-picks.picks.value demerits c.place-front.result c.place-front.ensures [] _ refl)))
+    c.args.start.now.picks.now demerits c.place-front.result c.place-front.ensures [] _ refl))
 
 pub returns-clause-past : goal.returns-clause-past
 returns-clause-past g c =
@@ -365,3 +355,39 @@ returns-clause-quiet g c =
     ∙ (ap (is_quiet c.args.style.now)
     (end_along doc c.args.top c.ahead.at c.ahead.invariant.settled c.in_default-item.ensures.item (view c.ahead.passed))
     ∙ (simp to_z-of_z at c.ahead.invariant.quiet))
+
+pub returns-in_default-go-clause-front : goal.returns-in_default-go-clause-front
+returns-in_default-go-clause-front g c = of_none _ c.stopped-in_default-go.result.state
+    (ap (λ (w : Walked). w.state) c.stopped-in_default-go.ensures)
+
+pub returns-in_default-go-clause-style : goal.returns-in_default-go-clause-style
+returns-in_default-go-clause-style g c = of_none _ c.stopped-in_default-go.result.state
+    (ap (λ (w : Walked). w.state) c.stopped-in_default-go.ensures)
+
+pub returns-in_default-go-clause-counts : goal.returns-in_default-go-clause-counts
+returns-in_default-go-clause-counts g c = of_none _ c.stopped-in_default-go.result.state
+    (ap (λ (w : Walked). w.state) c.stopped-in_default-go.ensures)
+
+pub returns-then-not-fits-clause-front : goal.returns-then-not-fits-clause-front
+returns-then-not-fits-clause-front g c = of_none _ c.stopped.result.state
+    (ap (λ (w : Walked). w.state) c.stopped.ensures)
+
+pub returns-then-not-fits-clause-style : goal.returns-then-not-fits-clause-style
+returns-then-not-fits-clause-style g c = of_none _ c.stopped.result.state
+    (ap (λ (w : Walked). w.state) c.stopped.ensures)
+
+pub returns-then-not-fits-clause-counts : goal.returns-then-not-fits-clause-counts
+returns-then-not-fits-clause-counts g c = of_none _ c.stopped.result.state
+    (ap (λ (w : Walked). w.state) c.stopped.ensures)
+
+pub returns-then-not-fits-2-clause-front : goal.returns-then-not-fits-2-clause-front
+returns-then-not-fits-2-clause-front g c = of_none _ c.stopped-then-not-fits-2.result.state
+    (ap (λ (w : Walked). w.state) c.stopped-then-not-fits-2.ensures)
+
+pub returns-then-not-fits-2-clause-style : goal.returns-then-not-fits-2-clause-style
+returns-then-not-fits-2-clause-style g c = of_none _ c.stopped-then-not-fits-2.result.state
+    (ap (λ (w : Walked). w.state) c.stopped-then-not-fits-2.ensures)
+
+pub returns-then-not-fits-2-clause-counts : goal.returns-then-not-fits-2-clause-counts
+returns-then-not-fits-2-clause-counts g c = of_none _ c.stopped-then-not-fits-2.result.state
+    (ap (λ (w : Walked). w.state) c.stopped-then-not-fits-2.ensures)

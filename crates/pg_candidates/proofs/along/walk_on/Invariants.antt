@@ -26,9 +26,9 @@ invariant-ahead g l = record {
   past : past_stretch (document l.galley l.style) l.top (view l.passed) (items_ahead l.galley.blocks l.at)
       ≡ past_stretch (document l.galley l.style) l.top (view l.start.passed) (items_ahead l.galley.blocks l.start.at);
   ends : Taking (g.T.TakesEnds.Took l.style) l.initial.found l.found
-      (ends_along (document l.galley l.style) l.top l.picks.value l.start.demerits
+      (ends_along (document l.galley l.style) l.top l.start.picks.now l.start.demerits
       (place (front_ahead l.galley.blocks l.at) 0 0) (view l.passed) (items_ahead l.galley.blocks l.at))
-      (ends_along (document l.galley l.style) l.top l.picks.value l.start.demerits
+      (ends_along (document l.galley l.style) l.top l.start.picks.now l.start.demerits
       (place (front_ahead l.galley.blocks l.start.at) 0 0) (view l.start.passed) (items_ahead l.galley.blocks l.start.at));
   reach : max l.greatest (reach_along (document l.galley l.style) l.top (front_ahead l.galley.blocks l.at)
       (view l.passed) (items_ahead l.galley.blocks l.at))

@@ -13,5 +13,5 @@ more-preserved c =
           (one_row c.args.galley.now.blocks c.args.style.now.maxdepth c.more.rows.items c.with_leap-kept.result
           (c.more.invariant.hops are)
           (subst (λ (n : ℕ). AreRowHops c.args.galley.now.blocks c.args.style.now.maxdepth n c.with_leap-kept.result)
-          (c.len-in-more-3.ensures ∙ long) c.with_leap-kept.ensures));
+          (c.len-in-more-4.ensures ∙ long) c.with_leap-kept.ensures));
     }

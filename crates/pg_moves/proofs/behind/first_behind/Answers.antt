@@ -7,19 +7,12 @@ use Rattle.pg_small.specs.Parts.{whole}
 use Rattle.pg_moves.proofs.Built.{behind_is}
 use Rattle.pg_moves.proofs.behind.first_behind.Goals as goal
 
-pub returns-clause-behind : goal.returns-clause-behind
-returns-clause-behind g c =
+pub returns : goal.returns
+returns c =
     let fits : SFits w128 c.page_price-page.result = search rules in
     behind_is c.args.sources.now.style.now c.args.state.now c.args.laid.now c.args.settled.now
-    c.args.state.now.place None (whole c.parts_behind-next.result) c.in_ok-small.small
-    (to_z w128 (of_z w128 c.page_price-page.result)) c.tail_of-tail.result c.reached_at-reached.result
-    (search rules) (search rules)
+    c.args.state.now.place None (whole c.parts_behind-next.result) c.in_ok-of_parts.field-0
+    (to_z w128 (of_z w128 c.page_price-page.result)) None (search rules) (search rules)
     (subst (λ (page : ℤ). nat_abs page ≤ 2 ^ 52) (sym (to_z-of_z w128 c.page_price-page.result fits))
     c.page_price-page.ensures.size)
-    (search rules) (search rules)
-
-pub returns-clause-spared : goal.returns-clause-spared
-returns-clause-spared g c = record {
-  asked = c.reached_at-reached.ensures.asked;
-  late = c.reached_at-reached.ensures.spared;
-}
+    (search rules)

@@ -1,6 +1,8 @@
-use Rattle.std.proofs.Common.{◌∙◌, sym, rules, of_z, to_z}
+use Rattle.std.proofs.Common.{◌∙◌, ap, sym, rules, of_z, to_z}
 use Rattle.std.proofs.lemmas.Int.{to_z-of_z}
 use Rattle.std.specs.Int.{w128}
+use Rattle.pg_plan.specs.declared.states.State.{State}
+use Rattle.pg_rules.specs.Floats.{total_count}
 use Rattle.pg_moves.specs.Columns.{IsBehindIt, doc_at, move_at}
 use Rattle.pg_moves.specs.Outdone.{AreSpared}
 use Rattle.pg_moves.proofs.Built.{asked_is, step, still_behind, still_spared}
@@ -24,7 +26,8 @@ pub cost_to-cost-requires : goal.cost_to-cost-requires
 cost_to-cost-requires g c = c.requires.behind.small
 
 pub rank-requires : goal.rank-requires
-rank-requires g c = (behind g (goal.at.rank-requires g c).After-end_at).tail
+rank-requires g c = c.count_after-placed.ensures ∙ ap total_count (sym (ap (λ (v : State). v.placed)
+    (behind g (goal.at.rank-requires g c).After-end_at).state))
 
 pub returns-then-ends_here-clause-added : goal.returns-then-ends_here-clause-added
 returns-then-ends_here-clause-added g c =

@@ -1,22 +1,34 @@
 use Rattle.pg_rooms.proofs.Grouped.{no_end, split_read}
-use Rattle.pg_moves.specs.Columns.{doc_at}
+use Rattle.pg_moves.specs.Columns.{IsBehindIt, doc_at}
+use Rattle.pg_moves.proofs.Built.{still_asked}
 use Rattle.pg_moves.proofs.Late.{none_left, one_more, skipped}
 use Rattle.pg_moves.proofs.Stepped.{all_gone, not_gone}
 use Rattle.pg_moves.proofs.steps.add_ends.Goals as goal
+use Rattle.pg_moves.proofs.steps.add_ends.Goals.{After-ask}
+
+-- what is remembered is asked for, and it stays behind the column
+asked : (g : _) (c : After-ask g) → IsBehindIt c.args.column.now c.args.settled.now c.ask.new.self
+asked g c =
+    let column = c.args.column.now in
+    still_asked column.sources.now.style.now column.state.now column.laid.now c.args.settled.now
+    c.in_ok-behind.behind c.ask.new.self _ c.ask.ensures.same c.in_ok-behind.ensures
+
+pub ask-requires : goal.ask-requires
+ask-requires g c = c.in_ok-behind.ensures.small
 
 pub skip_outdone-rest-requires : goal.skip_outdone-rest-requires
-skip_outdone-rest-requires g c = c.in_ok-behind.ensures.spared.asked
+skip_outdone-rest-requires g c = c.ask.ensures.spared.asked
 
 pub skip_outdone-rest-requires-in-len1-up : goal.skip_outdone-rest-requires-in-len1-up
 skip_outdone-rest-requires-in-len1-up g c = c.in_ok-add_end.ensures.spared.asked
 
 pub ends-init : goal.ends-init
 ends-init g c = let column = c.args.column.now in record {
-  behind = c.in_ok-behind.ensures.behind;
-  spared = c.in_ok-behind.ensures.spared;
+  behind = asked g (goal.at.ends-init g c).After-ask;
+  spared = c.ask.ensures.spared;
   going = λ all. skipped (doc_at column) column.state.now column.laid.now c.requires.laid
-      (g.W.Wants.spares c.args.wants.now) column.near.now.picks c.args.settled.now c.in_ok-behind.behind
-      c.in_ok-behind.ensures.behind c.in_ok-behind.ensures.spared c.args.ends.now c.args.ends.now
+      (g.W.Wants.spares c.args.wants.now) column.near.now.picks c.args.settled.now c.ask.new.self
+      (asked g (goal.at.ends-init g c).After-ask) c.ask.ensures.spared c.args.ends.now c.args.ends.now
       c.skip_outdone-rest.result.now c.args.steps.now c.args.steps.now c.skip_outdone-rest.ensures (
         all,
         not_gone (doc_at column) column.state.now (g.W.Wants.spares c.args.wants.now)

@@ -1,4 +1,4 @@
-use Rattle.std.proofs.Common.{arith, rules, subst, ◌∙◌, ap, ℤ, w64}
+use Rattle.std.proofs.Common.{refl, arith, rules, subst, ◌∙◌, ap, ℤ, w64}
 use Rattle.std.specs.List.{AllByRecursion}
 use Rattle.std.proofs.lemmas.Int.{to_z-of_z}
 use Rattle.pg_list.specs.Shapes.{IsBlock}
@@ -29,8 +29,8 @@ pub front_behind-requires-clause-start : goal.front_behind-requires-clause-start
 front_behind-requires-clause-start c =
     let doc = document c.args.galley.now c.args.style.now in
     let top = to_z-of_z w64 c.tallest.result (record { sfits = search rules }) ∙ c.tallest.ensures in
-    subst (λ (z : ℤ). HasStart doc z c.args.from c.state_behind-2.result) top
-    (has_start doc _ c.args.from c.in_ok-walked.walked c.state_behind-2.result c.state_behind-2.ensures
+    subst (λ (z : ℤ). HasStart doc z c.args.from c.state_behind.result) top
+    (has_start doc _ c.args.from c.in_ok-walked.walked c.state_behind.result c.state_behind.ensures
     c.in_ok-walked.ensures.walked)
 
 pub reach_told-requires-clause-told : goal.reach_told-requires-clause-told
@@ -39,11 +39,11 @@ reach_told-requires-clause-told c =
     let most = tallest c.args.style.now in
     let top = to_z-of_z w64 c.tallest.result (record { sfits = search rules }) ∙ c.tallest.ensures in
     let walked = subst (λ (z : ℤ). HasWalked doc z c.args.from c.in_ok-walked.walked) top c.in_ok-walked.ensures.walked in
-    let start = has_start doc most c.args.from c.in_ok-walked.walked c.state_behind.result c.state_behind.ensures
+    let start = has_start doc most c.args.from c.in_ok-walked.walked c.in_ok-walked.walked.state refl
     walked in
-    tells_alone doc most c.args.from c.in_ok-walked.walked c.state_behind.result c.quiet_greatest-told.result
-    c.state_behind.ensures c.quiet_greatest-told.ensures walked
-    (last_told doc most c.args.from c.state_behind.result start
+    tells_alone doc most c.args.from c.in_ok-walked.walked c.in_ok-walked.walked.state c.quiet_greatest-told.result
+    refl c.quiet_greatest-told.ensures walked
+    (last_told doc most c.args.from c.in_ok-walked.walked.state start
     (c.comes_to_choice.ensures c.if-not-comes_to_choice.true))
 
 pub returns-then-not-comes_to_choice-clause-whole : goal.returns-then-not-comes_to_choice-clause-whole
@@ -51,14 +51,14 @@ returns-then-not-comes_to_choice-clause-whole c = λ none.
     let doc = document c.args.galley.now c.args.style.now in
     let top = to_z-of_z w64 c.tallest.result (record { sfits = search rules }) ∙ c.tallest.ensures in
     let walked = subst (λ (z : ℤ). HasWalked doc z c.args.from c.in_ok-walked.walked) top c.in_ok-walked.ensures.walked in
-    let start = has_start doc (tallest c.args.style.now) c.args.from c.in_ok-walked.walked c.state_behind.result
-    c.state_behind.ensures walked in
+    let start = has_start doc (tallest c.args.style.now) c.args.from c.in_ok-walked.walked c.in_ok-walked.walked.state
+    refl walked in
     let took = subst (λ (z : ℤ). TookAlone c.args.style.now c.in_ok-found.found c.first_stretch.new.found
     (first_ends doc z c.args.from)) top c.in_ok-walked.ensures.ends in
     record {
       candidates = straight_candidates doc c.args.from;
       found = c.walk_is_a_space.ensures.stretch c.args.from (tallest c.args.style.now) c.requires.place
-          (last_alone doc (tallest c.args.style.now) c.args.from c.state_behind.result start
+          (last_alone doc (tallest c.args.style.now) c.args.from c.in_ok-walked.walked.state start
           (c.comes_to_choice.ensures c.if-not-comes_to_choice.true));
       tells = record {
         near = λ e. near_told c.args.galley.now c.args.style.now (greatest_areas gap_stretch c.args.style.now)

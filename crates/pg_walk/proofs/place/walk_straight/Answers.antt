@@ -20,12 +20,12 @@ pub returns-then-not-comes_to_choice-clause-whole : goal.returns-then-not-comes_
 returns-then-not-comes_to_choice-clause-whole c = λ none.
     let doc = document c.args.galley.now c.args.style.now in
     let top = tallest c.args.style.now in
-    let start = has_start doc top c.args.from c.in_ok-straight.field-0.walked c.state_behind.result c.state_behind.ensures
+    let start = has_start doc top c.args.from c.in_ok-straight.field-0.walked c.in_ok-straight.field-0.walked.state refl
     c.in_ok-straight.ensures.walked in
     record {
       candidates = straight_candidates doc c.args.from;
       found = c.walk_is_a_space.ensures.stretch c.args.from top c.requires.place
-          (last_alone doc top c.args.from c.state_behind.result start
+          (last_alone doc top c.args.from c.in_ok-straight.field-0.walked.state start
           (c.comes_to_choice.ensures c.if-not-comes_to_choice.true));
       tells = record {
         near = λ e. absurd cc;

@@ -26,7 +26,7 @@ returns-then-is_too_low c = record {
       grind (arith, ints, c.is_too_low.ensures, c.if-is_too_low.true) in
       subst (λ (x : Candidate). AreBest (text_ends doc room (cs ++ x ∷ [])) ends) (sym (plain_is _ plain.0))
       (best_too_low doc room cs (plain_to c.args.end.now.to (view c.args.end.now.passed.now)) c.args.needs.now.bound ends low
-      (needs_least doc (plain_to c.args.end.now.to (view c.args.end.now.passed.now)) c.args.needs.now c.requires) best);
+      (needs_least doc (plain_to c.args.end.now.to (view c.args.end.now.passed.now)) c.args.needs.now c.requires.needs) best);
 }
 
 pub returns-then-not-is_tolerable : goal.returns-then-not-is_tolerable
@@ -39,7 +39,7 @@ returns-then-not-is_tolerable c = record {
       let it = plain_to c.args.end.now.to (view c.args.end.now.passed.now) in
       let near = plain_value doc it c.kind_at-kind.result c.args.needs.now.bound in
       let is = plain_near doc room.give.stretch it c.kind_at-kind.result c.args.needs.now.bound c.kind_at-kind.ensures
-      (needs_least doc (plain_to c.args.end.now.to (view c.args.end.now.passed.now)) c.args.needs.now c.requires) in
+      (needs_least doc (plain_to c.args.end.now.to (view c.args.end.now.passed.now)) c.args.needs.now c.requires.needs) in
       let high : int_lt (most_room room) c.args.needs.now.bound ≡ false =
       grind (arith, ints, c.is_too_low.ensures, c.if-is_too_low.false) in
       subst (λ (x : Candidate). AreBest (text_ends doc room (cs ++ x ∷ [])) (ends_of [] c.args.self.now.ends.items))
@@ -59,7 +59,7 @@ returns c = on_ok_weaker c.keep_best.result (λ added. record {
       let it = plain_to c.args.end.now.to (view c.args.end.now.passed.now) in
       let near = plain_value doc it c.kind_at-kind.result c.args.needs.now.bound in
       let is = plain_near doc room.give.stretch it c.kind_at-kind.result c.args.needs.now.bound c.kind_at-kind.ensures
-      (needs_least doc (plain_to c.args.end.now.to (view c.args.end.now.passed.now)) c.args.needs.now c.requires) in
+      (needs_least doc (plain_to c.args.end.now.to (view c.args.end.now.passed.now)) c.args.needs.now c.requires.needs) in
       let high : int_lt (most_room room) c.args.needs.now.bound ≡ false =
       grind (arith, ints, c.is_too_low.ensures, c.if-is_too_low.false) in
       subst (λ (x : Candidate). AreBest (text_ends doc room (cs ++ x ∷ [])) (ends_of [] c.keep_best.new.ends.items))

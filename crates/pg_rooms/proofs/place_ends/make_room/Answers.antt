@@ -6,7 +6,7 @@ use Rattle.pg_rules.specs.Floats.{gap_stretch}
 use Rattle.pg_rules.specs.Reach.{greatest_areas}
 use Rattle.pg_sources.specs.Document.{doc_of}
 use Rattle.law_walk.specs.Candidates.{text_ends}
-use Rattle.pg_rooms.proofs.place_ends.add_room.Goals as goal
+use Rattle.pg_rooms.proofs.place_ends.make_room.Goals as goal
 
 pub returns-clause-right : goal.returns-clause-right
 returns-clause-right c = on_ok_weaker c.keep_room.result (λ right cs near page calls are.

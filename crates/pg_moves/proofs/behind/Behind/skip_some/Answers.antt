@@ -1,7 +1,7 @@
 use Rattle.std.proofs.Common.{rules}
 use Rattle.pg_rooms.proofs.Grouped.{no_end, split_read}
 use Rattle.pg_moves.proofs.Late.{skip_more, skip_none}
-use Rattle.pg_moves.proofs.behind.Behind.skip_outdone.Goals as goal
+use Rattle.pg_moves.proofs.behind.Behind.skip_some.Goals as goal
 
 pub ends-init : goal.ends-init
 ends-init c = skip_none _ _ _ _ _ (search rules) (search rules)

@@ -1,6 +1,6 @@
 use Rattle.pg_states.specs.Settling.{AreSettled, line_by}
 use Rattle.pg_states.proofs.Ahead.{AreAhead}
-use Rattle.pg_states.proofs.classes.Classes.settle_lines.Given as goal
+use Rattle.pg_states.proofs.classes.Classes.settle.Given as goal
 
 abbrev pub invariant-loop-slot : goal.invariant-loop-slot
 invariant-loop-slot l =
