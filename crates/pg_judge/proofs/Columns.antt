@@ -43,7 +43,10 @@ text_is column it c b e = ap (λ (x : Column). not (is_same_place x.from x.to)) 
 
 pub room_is : (it : ColumnContext) (seat : Seat) → IsSeat it seat →
     room it ≡ ((seat.full -ℤ seat.wide) -ℤ seat.top) -ℤ seat.bottom
-room_is it seat is = sym (rw (is.full, is.wide, is.top, is.bottom) refl)
+room_is it seat is = sym (left is.full is.wide is.top is.bottom)
+  where
+    left : {a b c d e f g h : ℤ} → a ≡ e → b ≡ f → c ≡ g → d ≡ h → ((a -ℤ b) -ℤ c) -ℤ d ≡ ((e -ℤ f) -ℤ g) -ℤ h
+    left p q r s = rw (p, q, r, s) refl
 
 -- the room of its text
 pub whole_room_is : (it : ColumnContext) (seat : Seat) (held : TextRoom) → IsSeat it seat →
@@ -84,19 +87,34 @@ text_cost_is it numbers t f j =
 
 pub count_is : (style other : StyleValue) (slots : ℕ) (xs ys : List ℕ) → slots ≡ length (float_numbers style) →
     other ≡ style → ys ≡ xs → count_in slots xs ≡ float_count other ys
-count_is style other slots xs ys s o e = rw (s, o, e) refl
+count_is style other slots xs ys s o e =
+    ap (λ (n : ℕ). count_in n xs) s
+    ∙ (ap (λ (it : StyleValue). count_in (length (float_numbers it)) xs) (sym o)
+    ∙ ap (count_in (length (float_numbers other))) (sym e))
 
 pub formed_is : (it : ColumnContext) (top bottom : ℕ) (wide : Bool) → is_text it ≡ false →
     top ≡ float_count it.document.style it.column.top → bottom ≡ float_count it.document.style it.column.bottom →
     wide ≡ is_some it.wide → ((length it.column.picks == 0)
     && ((nat_lt 0 top && (bottom == 0)) || ((top == 0) && (bottom == 0) && wide))) ≡ is_well_formed it
-formed_is it top bottom wide f t b w = rw (t, b, w) (sym (if_false (is_text it) _ _ f))
+formed_is it top bottom wide f t b w =
+    shape (length it.column.picks == 0) t b w ∙ sym (if_false (is_text it) _ _ f)
+  where
+    shape : (none : Bool) {a b c d : ℕ} {e f : Bool} → a ≡ c → b ≡ d → e ≡ f →
+        (none && ((nat_lt 0 a && (b == 0)) || ((a == 0) && (b == 0) && e)))
+        ≡ (none && ((nat_lt 0 c && (d == 0)) || ((c == 0) && (d == 0) && f)))
+    shape none p q r = rw (p, q, r) refl
 
 pub column_is : (it : ColumnContext) (seat : Seat) (top : ℕ) → IsSeat it seat → is_text it ≡ false →
     top ≡ float_count it.document.style it.column.top →
     int_le ((seat.wide +ℤ seat.top) -ℤ (if top == 0 then it.document.style.wide.gap.size else it.document.style.top.gap.size))
     seat.full ≡ has_room it
-column_is it seat top is f t = rw (t, is.wide, is.top, is.full) (sym (if_false (is_text it) _ _ f))
+column_is it seat top is f t =
+    fits it.document.style.wide.gap.size it.document.style.top.gap.size t is.wide is.top is.full
+    ∙ sym (if_false (is_text it) _ _ f)
+  where
+    fits : (g h : ℤ) {m n : ℕ} {a b c d e f : ℤ} → m ≡ n → a ≡ d → b ≡ e → c ≡ f →
+        int_le ((a +ℤ b) -ℤ (if m == 0 then g else h)) c ≡ int_le ((d +ℤ e) -ℤ (if n == 0 then g else h)) f
+    fits g h p q r s = rw (p, q, r, s) refl
 
 free : (b test : Bool) → b ≡ false → (not b || test) ≡ true
 free b test e = rw e refl
@@ -135,6 +153,10 @@ floats_fault it f = by (is_well_formed it) (is_tolerable it) (passes_breaks it) 
         ≡ option_or (unless a 3) (unless d 6)
     by a b c d e g p q r h = rw (p, q, r) (two a d g h)
 
+both_rules : {a b c d : Bool} → a ≡ c → b ≡ d →
+    option_or (unless a 3) (unless b 6) ≡ option_or (unless c 3) (unless d 6)
+both_rules e f = rw (e, f) refl
+
 -- ---- the same from the parts of a column and its seat
 
 module _ (style : StyleValue) (column : Column) (seat : Seat) (slots top : ℕ) (tops : List ℕ)
@@ -168,15 +190,15 @@ module _ (style : StyleValue) (column : Column) (seat : Seat) (slots top : ℕ) 
       ∙ column_is it seat top is no_text top_count)
 
   pub breaks_shape : is_well_formed it ≡ false → text_fault it ≡ Some 3
-  breaks_shape e = floats_fault it no_text ∙ rw e refl
+  breaks_shape e = floats_fault it no_text ∙ ap (λ (b : Bool). option_or (unless b 3) (unless (has_room it) 6)) e
 
   pub breaks_room : is_well_formed it ≡ true → has_room it ≡ false → text_fault it ≡ Some 6
-  breaks_room e f = floats_fault it no_text ∙ rw (e, f) refl
+  breaks_room e f = floats_fault it no_text ∙ both_rules e f
 
   pub breaks_none : is_well_formed it ≡ true → has_room it ≡ true →
       JudgesColumn it (Ok (record { demerits = pos style.float_column.demerits; fitness = None }))
   breaks_none e f = (
-    floats_fault it no_text ∙ rw (e, f) refl,
+    floats_fault it no_text ∙ both_rules e f,
     record {
       demerits = ap (λ (s : StyleValue). pos s.float_column.demerits) (sym same)
           ∙ sym (if_false (is_text it) (option_map_or (text_demerits it) (size_of it) (pos 0)) _ no_text);

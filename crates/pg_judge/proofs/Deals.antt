@@ -64,6 +64,27 @@ called_test a b c h (inr few) =
     (λ e. le-leb b a (let l : b - a ≡ 0 = eqb-true _ _ e in omega (arith, l))) in
     rw (p, q, r, s) refl
 
+-- what floats pay by this cost, or the least of rules 7 to 10 by these tests
+abbrev IsAdded : Bool → Bool → Bool → Bool → ℤ → Result ℕ ℕ → Type 0
+IsAdded counts dealt called near cost (Ok price) = (added_rule counts dealt called near ≡ None) × (pos price ≡ cost)
+IsAdded counts dealt called near cost (Err rule) = added_rule counts dealt called near ≡ Some rule
+
+too_far : (counts dealt called near : Bool) (cost : ℤ) (c d k : Bool) → c ≡ counts → d ≡ dealt →
+    (d ≡ true → k ≡ called) → (d ≡ true → near ≡ false) → IsAdded counts dealt called near cost (added_by c d k None)
+too_far counts dealt called near cost false d k e f g h = rw (sym e) refl
+too_far counts dealt called near cost true false k e f g h = rw (sym e, sym f) refl
+too_far counts dealt called near cost true true false e f g h = rw (sym e, sym f, sym (g refl)) refl
+too_far counts dealt called near cost true true true e f g h = rw (sym e, sym f, sym (g refl), h refl) refl
+
+near_enough : (counts dealt called near : Bool) (cost : ℤ) (price : ℕ) (c d k : Bool) → c ≡ counts → d ≡ dealt →
+    (d ≡ true → k ≡ called) → (d ≡ true → (near ≡ true) × (pos price ≡ cost)) →
+    IsAdded counts dealt called near cost (added_by c d k (Some price))
+near_enough counts dealt called near cost price false d k e f g h = rw (sym e) refl
+near_enough counts dealt called near cost price true false k e f g h = rw (sym e, sym f) refl
+near_enough counts dealt called near cost price true true false e f g h = rw (sym e, sym f, sym (g refl)) refl
+near_enough counts dealt called near cost price true true true e f g h =
+    (rw (sym e, sym f, sym (g refl), (h refl).0) refl, (h refl).1)
+
 module _ (doc : Document) (all : AllByRecursion IsBlock doc.blocks) (few : AreFew (floats doc.blocks doc.style))
     (m : PageMove) (ms : List PageMove) where
   abbrev slot_count : ℕ
@@ -179,22 +200,20 @@ module _ (doc : Document) (all : AllByRecursion IsBlock doc.blocks) (few : AreFe
 
   -- what the floats pay, or the least of rules 7 to 10
   abbrev pub AreAdded : Result ℕ ℕ → Type 0
-  AreAdded (Ok price) = (added_rule (has_counts (context doc m ms) && has_wide_counts doc (next_column doc.style ms) m)
-      (deals_floats doc placed m (context doc m ms)) (has_callouts doc placed m) (is_near doc m ms) ≡ None)
-      × (pos price ≡ float_demerits doc.style (distance doc m ms) (added doc placed m))
-  AreAdded (Err rule) = added_rule (has_counts (context doc m ms) && has_wide_counts doc (next_column doc.style ms) m)
-      (deals_floats doc placed m (context doc m ms)) (has_callouts doc placed m) (is_near doc m ms) ≡ Some rule
+  AreAdded = IsAdded (has_counts (context doc m ms) && has_wide_counts doc (next_column doc.style ms) m)
+      (deals_floats doc placed m (context doc m ms)) (has_callouts doc placed m) (is_near doc m ms)
+      (float_demerits doc.style (distance doc m ms) (added doc placed m))
 
   pub added_is : (c d k : Bool) (price : Option ℕ) →
       c ≡ (has_counts (context doc m ms) && has_wide_counts doc (next_column doc.style ms) m) →
       d ≡ deals_floats doc placed m (context doc m ms) →
       (d ≡ true → k ≡ has_callouts doc placed m) →
       (d ≡ true → ArePriced is_close pays (added doc placed m) price) → AreAdded (added_by c d k price)
-  added_is false d k price e f g h = rw (sym e) refl
-  added_is true false k price e f g h = rw (sym e, sym f) refl
-  added_is true true false price e f g h = rw (sym e, sym f, sym (g refl)) refl
-  added_is true true true None e f g h = rw (sym e, sym f, sym (g refl), h refl) refl
-  added_is true true true (Some price) e f g h = (
-    rw (sym e, sym f, sym (g refl), (h refl).0) refl,
-    (h refl).1,
-  )
+  added_is c d k None e f g h = too_far
+      (has_counts (context doc m ms) && has_wide_counts doc (next_column doc.style ms) m)
+      (deals_floats doc placed m (context doc m ms)) (has_callouts doc placed m) (is_near doc m ms)
+      (float_demerits doc.style (distance doc m ms) (added doc placed m)) c d k e f g h
+  added_is c d k (Some price) e f g h = near_enough
+      (has_counts (context doc m ms) && has_wide_counts doc (next_column doc.style ms) m)
+      (deals_floats doc placed m (context doc m ms)) (has_callouts doc placed m) (is_near doc m ms)
+      (float_demerits doc.style (distance doc m ms) (added doc placed m)) price c d k e f g h

@@ -1,6 +1,8 @@
+pub mod Adding
 pub mod Columns
 pub mod Deals
 pub mod Distances
+pub mod Either
 pub mod Flushed
 pub mod LeastRules
 pub mod MoveVerdict

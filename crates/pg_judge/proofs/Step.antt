@@ -24,7 +24,7 @@ use Rattle.pg_floats.specs.Counts.{capped, capped_sum}
 use Rattle.pg_floats.specs.Given.{IsListOf, IsWideHeight}
 use Rattle.pg_judge.specs.Moves.{fitness_cost, page_ends}
 use Rattle.pg_judge.specs.Judged.{IsColumnCost, own_fitness}
-use Rattle.pg_judge.specs.Progress.{AreCounted, IsAdvanced, IsGoing, IsKept, IsPaid, IsProgress, broken_pair, is_lost, the_move}
+use Rattle.pg_judge.specs.Progress.{AreCounted, IsAdvanced, IsGoing, IsKept, IsOutcome, IsPaid, IsProgress, broken_pair, is_lost, the_move}
 use Rattle.pg_judge.specs.Verdict.{broken_by, first_false, lesser, tests_on}
 use Rattle.pg_judge.specs.declared.progress.Broken.{Broken}
 use Rattle.pg_rules.specs.Cost.{differs, fitness_demerits, float_demerits, pick_demerits, run_demerits}
@@ -43,7 +43,7 @@ use Rattle.pg_floats.proofs.Capped.{AreFew, are_few, has_all_capped, plus_capped
 use Rattle.pg_judge.proofs.Deals.{AreAdded, added_is, called_is, is_close, pays, priced_is}
 use Rattle.pg_judge.proofs.Priced.{ArePriced}
 
-and_both : {a b c d : Bool} → a ≡ c → b ≡ d → (a && b) ≡ (c && d)
+pub and_both : {a b c d : Bool} → a ≡ c → b ≡ d → (a && b) ≡ (c && d)
 and_both {a} {b} {c} {d} e f = ap (λ (x : Bool). x && b) e ∙ ap (λ (x : Bool). c && x) f
 
 and_all : {a b c d e f : Bool} → a ≡ d → b ≡ e → c ≡ f → (a && (b && c)) ≡ (d && (e && f))
@@ -54,14 +54,14 @@ dealt_by : (lists : List (List ℤ)) → AreFew lists → (placed p counts : Lis
 dealt_by lists few placed p counts e =
     ap (λ (xs : List ℕ). has_all lists xs counts) e ∙ has_all_capped 0 lists placed counts few
 
-called_by : (doc : Document) (to : Place) {p a q b : List ℕ} {n k : ℕ} → p ≡ q → a ≡ b → n ≡ k →
+pub called_by : (doc : Document) (to : Place) {p a q b : List ℕ} {n k : ℕ} → p ≡ q → a ≡ b → n ≡ k →
     list_all (is_slot_called doc to p a) (range_with_len 0 n) ≡ list_all (is_slot_called doc to q b) (range_with_len 0 k)
 called_by doc to {p} {a} {q} {b} {n} {k} e f g =
     ap (λ (xs : List ℕ). list_all (is_slot_called doc to xs a) (range_with_len 0 n)) e
     ∙ (ap (λ (xs : List ℕ). list_all (is_slot_called doc to q xs) (range_with_len 0 n)) f
     ∙ ap (λ (i : ℕ). list_all (is_slot_called doc to q b) (range_with_len 0 i)) g)
 
-priced_by : (doc : Document) {turns ends : List Place} {p a q b : List ℕ} {n k : ℕ} → turns ≡ ends → p ≡ q → a ≡ b →
+pub priced_by : (doc : Document) {turns ends : List Place} {p a q b : List ℕ} {n k : ℕ} → turns ≡ ends → p ≡ q → a ≡ b →
     n ≡ k → prices_below (slot_price doc turns p a) n ≡ prices_below (slot_price doc ends q b) k
 priced_by doc {turns} {ends} {p} {a} {q} {b} {n} {k} d e f g =
     ap (λ (xs : List Place). prices_below (slot_price doc xs p a) n) d
@@ -282,23 +282,51 @@ sums_are : (a b c d e f p q r s t u : ℤ) → a ≡ p → b ≡ q → c ≡ r �
     a +ℤ ((b +ℤ c) +ℤ ((d +ℤ e) +ℤ f)) ≡ p +ℤ ((q +ℤ r) +ℤ ((s +ℤ t) +ℤ u))
 sums_are a b c d e f p q r s t u g h i j k l = rw (g, h, i, j, k, l) refl
 
-pub paid_on : (doc : Document) (m : PageMove) (ms : List PageMove) (old new : Progress) (own : ColumnCost) (price : ℕ)
-    (fitness : Option ℕ) (cost : ℤ) → old.column ≡ next_column doc.style ms → IsPaid doc ms old →
-    IsColumnCost (context doc m ms) own → pos price ≡ float_demerits doc.style (distance doc m ms)
-    (added doc (placed_of doc.style ms) m) →
+pub paid_on : (doc : Document) (m : PageMove) (ms : List PageMove) (old : Progress) (own : ColumnCost) (price : ℕ)
+    (fitness : Option ℕ) (cost : ℤ) → old.column ≡ next_column doc.style ms →
+    (first_false 2 (tests_on doc m ms) ≡ None) × IsColumnCost (context doc m ms) own
+    × (pos price ≡ float_demerits doc.style (distance doc m ms) (added doc (placed_of doc.style ms) m)) →
     fitness ≡ (if doc.style.version == 1 then None else option_or own.fitness old.fitness) →
     cost ≡ old.cost +ℤ ((own.demerits +ℤ pick_demerits (context doc m ms))
     +ℤ (((if old.column == 1 then run_demerits doc.style m.run else pos 0) +ℤ pos price)
-    +ℤ pos (fitness_cost doc.style old.fitness own.fitness))) →
-    new.fitness ≡ fitness → new.cost ≡ cost → IsPaid doc (m ∷ ms) new
-paid_on doc m ms old new own price fitness cost c paid alone p f k nf nc = record {
-  fitness = nf ∙ (f ∙ (next_fitness_is (context doc m ms) old.fitness own.fitness alone.fitness
-      ∙ ap (λ (o : Option ℕ). fitness_after o (context doc m ms)) paid.fitness));
-  cost = nc ∙ (k ∙ sums_are _ _ _ _ _ _ _ _ _ _ _ _ paid.cost alone.demerits refl
+    +ℤ pos (fitness_cost doc.style old.fitness own.fitness))) → IsOutcome doc m ms old fitness None cost
+paid_on doc m ms old own price fitness cost c (none, alone, p) f k = record {
+  rule_is = sym none;
+  fitness_is = λ e paid. f ∙ (next_fitness_is (context doc m ms) old.fitness own.fitness alone.fitness
+      ∙ ap (λ (o : Option ℕ). fitness_after o (context doc m ms)) paid.fitness);
+  cost_is = λ e paid. k ∙ sums_are _ _ _ _ _ _ _ _ _ _ _ _ paid.cost alone.demerits refl
       (ap (λ (n : ℕ). if n == 1 then run_demerits doc.style m.run else pos 0) c) p
       (fitness_is (context doc m ms) old.fitness own.fitness alone.fitness
-      ∙ ap (λ (o : Option ℕ). fitness_demerits o (context doc m ms)) paid.fitness));
+      ∙ ap (λ (o : Option ℕ). fitness_demerits o (context doc m ms)) paid.fitness);
 }
+
+pub broken_on : (doc : Document) (m : PageMove) (ms : List PageMove) (old : Progress) (rule : ℕ) →
+    first_false 2 (tests_on doc m ms) ≡ Some rule → IsOutcome doc m ms old old.fitness (Some rule) old.cost
+broken_on doc m ms old rule e = record {
+  rule_is = sym e;
+  fitness_is = λ f. absurd cc;
+  cost_is = λ f. absurd cc;
+}
+
+-- where nothing is broken behind a column, nothing was before it, and it breaks nothing itself
+pub none_broken : (old new : Option Broken) (rule : Option ℕ) (n : ℕ) →
+    broken_pair new ≡ lesser (broken_pair old) rule n → new ≡ None → (old ≡ None) × (rule ≡ None)
+none_broken old new rule n e f = by rule (sym e ∙ ap broken_pair f)
+  where
+    by : (rule : Option ℕ) → lesser (broken_pair old) rule n ≡ None → (old ≡ None) × (rule ≡ None)
+    by None g = (no_pair old (unbroken (broken_pair old) n g), refl)
+    by (Some r) g = absurd (broke (broken_pair old) r n g)
+
+pub paid_behind : (doc : Document) (m : PageMove) (ms : List PageMove) (old new : Progress) (fitness rule : Option ℕ)
+    (cost : ℤ) → IsOutcome doc m ms old fitness rule cost → (old.broken ≡ None → IsPaid doc ms old) → (n : ℕ) →
+    broken_pair new.broken ≡ lesser (broken_pair old.broken) rule n → new.fitness ≡ fitness → new.cost ≡ cost →
+    new.broken ≡ None → IsPaid doc (m ∷ ms) new
+paid_behind _ m ms old new fitness rule cost out paid n b f c e =
+    let none = none_broken old.broken new.broken rule n b e in
+    record {
+      fitness = f ∙ out.fitness_is none.1 (paid none.0);
+      cost = c ∙ out.cost_is none.1 (paid none.0);
+    }
 
 -- ---- columns that do not go on
 

@@ -1,7 +1,7 @@
 -- The columns of pages, one after another.
 use Rattle.std.proofs.Common.{◌≡◌, refl, sym, ap, ◌∙◌, ℕ, suc, ◌+◌, ◌-◌, ◌<◌, ◌≤◌, arith, List, [], ◌∷◌, ◌++◌, length, map, take, drop, get_or}
 use Rattle.std.specs.Prelude.{reverse}
-use Rattle.std.proofs.lemmas.List.{map-append, reverse-append}
+use Rattle.std.proofs.lemmas.List.{length-drop, length-take, map-append, reverse-append}
 use Rattle.std.proofs.Math.Seq.{take-suc}
 use Rattle.pg_plan.specs.declared.pages.Column.{Column}
 use Rattle.pg_plan.specs.declared.pages.Page.{Page}
@@ -26,6 +26,15 @@ more_moves f later i x h e ms =
     (take-suc later i x h ∙ ap (λ (c : Column). take i later ++ c ∷ []) e)
     ∙ (ap (λ (xs : List PageMove). reverse xs ++ ms) (map-append f (take i later) (x ∷ []))
     ∙ ap (λ (xs : List PageMove). xs ++ ms) (reverse-append (map f (take i later)) (f x ∷ [])))))
+
+-- the columns of a page behind its first
+pub later_long : (xs columns : List Column) → xs ≡ columns → 1 ≤ length xs →
+    length (take (length xs - 1) (drop 1 xs)) + 1 ≡ length columns
+later_long xs columns e h =
+    let t = length-take (length xs - 1) (drop 1 xs) in
+    let d = length-drop 1 xs in
+    let n = ap (λ (ys : List Column). length ys) e in
+    omega (arith, t, d, n, h)
 
 grouped : (xs ys zs : List PageMove) → (xs ++ ys) ++ zs ≡ xs ++ (ys ++ zs)
 grouped [] ys zs = refl

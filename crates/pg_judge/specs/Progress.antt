@@ -11,7 +11,7 @@ use Rattle.pg_rules.specs.Room.{Document}
 use Rattle.pg_floats.specs.Counts.{capped}
 use Rattle.pg_floats.specs.Given.{IsWideHeight}
 use Rattle.pg_judge.specs.Moves.{page_ends}
-use Rattle.pg_judge.specs.Verdict.{broken_by, lesser}
+use Rattle.pg_judge.specs.Verdict.{broken_by, first_false, lesser, tests_on}
 use Rattle.pg_judge.specs.declared.added.Counted.{Counted}
 use Rattle.pg_judge.specs.declared.progress.Broken.{Broken}
 use Rattle.pg_judge.specs.declared.progress.Progress.{Progress}
@@ -62,6 +62,13 @@ pub record AreCounted (style : StyleValue) (placed : List ℕ) (m : PageMove) (i
   pub before : it.before ≡ capped (with_wide style placed m)
   pub below : it.below ≡ capped (plus_counts style (with_wide style placed m) m.column.top)
   pub after : it.after ≡ capped (placed_after style placed m)
+
+-- the least rule that a column behind others breaks, and where it breaks none the last text's fitness and what is paid
+pub record IsOutcome (doc : Document) (m : PageMove) (ms : List PageMove) (old : Progress) (fitness rule : Option ℕ)
+    (cost : ℤ) : Type 0 where
+  pub rule_is : rule ≡ first_false 2 (tests_on doc m ms)
+  pub fitness_is : rule ≡ None → IsPaid doc ms old → fitness ≡ fitness_of doc (m ∷ ms)
+  pub cost_is : rule ≡ None → IsPaid doc ms old → cost ≡ cost_of doc (m ∷ ms)
 
 -- one column on
 pub record IsAdvanced (style : StyleValue) (column : Column) (run : ℕ) (wide : Option ℤ) (after : List ℕ)

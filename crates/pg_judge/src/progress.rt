@@ -15,7 +15,7 @@ ghost use Rattle.pg_column.specs.Fits.{does_fit_from};
 ghost use Rattle.pg_floats.specs.Given.{IsListOf, IsWideHeight};
 ghost use Rattle.pg_judge.specs.Bases.{IsBasis, doc_of, move_of};
 ghost use Rattle.pg_judge.specs.Moves.{JudgesMove, fitness_cost};
-ghost use Rattle.pg_judge.specs.Progress.{AreCounted, IsAdvanced, IsGoing, IsKept, IsProgress, broken_pair, is_lost as is_lost_of, the_move};
+ghost use Rattle.pg_judge.specs.Progress.{AreCounted, IsAdvanced, IsGoing, IsKept, IsOutcome, IsProgress, broken_pair, is_lost as is_lost_of, the_move};
 ghost use Rattle.pg_judge.specs.Verdict.{lesser};
 
 use crate::added::{Counted, judge_added, wide_height};
@@ -296,6 +296,41 @@ impl Progress {
         )
     }
 
+    // What a column comes to that goes on from the one before.
+    fn outcome(
+        &self,
+        basis: &Basis,
+        step: &NextColumn,
+        height: Option<i64>,
+        counted: &Counted,
+    ) -> Outcome
+        requires list { IsBasis basis.now }
+        requires kept { IsKept basis.now.style.now self.now }
+        requires number { self.now.number < 2 ^ 31 }
+        requires height { IsWideHeight height }
+        requires fits { does_fit_from basis.now.galley.now.blocks step.now.column.now.from step.now.column.now.picks
+            step.now.column.now.to ≡ true }
+        ensures size { nat_abs result.cost ≤ nat_abs self.now.cost + 2 ^ 70 }
+        ensures outcome { (ms : List APageMove) → IsGoing (doc_of basis.now) ms self.now →
+            height ≡ wide_of (doc_of basis.now) (move_of step.now ∷ ms) →
+            AreCounted basis.now.style.now (placed_of basis.now.style.now ms) (move_of step.now) counted.now →
+            is_chained_of (doc_of basis.now) (move_of step.now) ms ≡ true →
+            IsOutcome (doc_of basis.now) (move_of step.now) ms self.now result.fitness result.rule result.cost }
+    {
+        match self.judge_move(basis, step, height, counted) {
+            Ok(it) => Outcome {
+                fitness: next_fitness(basis.style, self.fitness, it.own.fitness),
+                rule: None,
+                cost: self.paid_with(basis, step, &it),
+            },
+            Err(rule) => Outcome {
+                fitness: self.fitness,
+                rule: Some(rule),
+                cost: self.cost,
+            },
+        }
+    }
+
     // Goes on behind a column that goes on from the one before.
     fn go_on(&mut self, alloc: Global, basis: &Basis, step: &NextColumn) -> Result<(), AllocError>
         requires list { IsBasis basis.now }
@@ -312,27 +347,9 @@ impl Progress {
         basis.style.stays_in_range();
         let counted = Counted::of(alloc, self.slots, &self.placed, step.wide, step.column)?;
         let height = self.next_wide(basis.galley, basis.style, basis.list, step.wide);
+        let outcome = self.outcome(basis, step, height, &counted);
         let after = counted.after.copy()?;
-        match self.judge_move(basis, step, height, &counted) {
-            Ok(it) => {
-                let fitness = next_fitness(basis.style, self.fitness, it.own.fitness);
-                let cost = self.paid_with(basis, step, &it);
-                let outcome = Outcome {
-                    fitness,
-                    rule: None,
-                    cost,
-                };
-                self.advance(basis.style, step, height, after, outcome)
-            }
-            Err(rule) => {
-                let outcome = Outcome {
-                    fitness: self.fitness,
-                    rule: Some(rule),
-                    cost: self.cost,
-                };
-                self.advance(basis.style, step, height, after, outcome)
-            }
-        }
+        self.advance(basis.style, step, height, after, outcome)
     }
 }
 

@@ -1,5 +1,5 @@
 -- Texts that grow.
-use Rattle.std.proofs.Common.{◌≡◌, ◌∙◌, sym, ap, ℕ, arith, List, ◌++◌, append_assoc, length-append, subst}
+use Rattle.std.proofs.Common.{◌≡◌, ◌∙◌, sym, ap, ℕ, arith, List, [], ◌++◌, append_assoc, append-nil, length-append, subst}
 use Rattle.std.specs.Prelude.{OnOk, Result, Ok, Err}
 use Rattle.std.proofs.Math.Seq.{take-append_seam}
 use Rattle.pg_scaled.specs.Scaled.{Grows}
@@ -17,6 +17,17 @@ pub grown : (old more new : List ℕ) → new ≡ old ++ more → Grows old new
 grown old more new e = subst (λ (text : List ℕ). Grows old text) (sym e)
     ((let long = length-append old more in omega (arith, long)), take-append_seam old more)
 
+-- nothing was printed
+pub grows_same : (text : List ℕ) → Grows text text
+grows_same text = grown text [] text (sym (append-nil text))
+
+-- three parts, and four, one behind the other
+pub grows_three : (a b c d : List ℕ) → Grows a b → Grows b c → Grows c d → Grows a d
+grows_three a b c d one two three = grows_on a c d (grows_on a b c one two) three
+
+pub grows_four : (a b c d e : List ℕ) → Grows a b → Grows b c → Grows c d → Grows d e → Grows a e
+grows_four a b c d e one two three four = grows_on a d e (grows_three a b c d one two three) four
+
 pub on_same : {T E : Type 0} (r : Result T E) (old new text whole : List ℕ) → text ≡ whole →
     OnOk r (new ≡ old ++ text) → OnOk r (new ≡ old ++ whole)
 on_same (Ok x) old new text whole e p = p ∙ ap (λ (more : List ℕ). old ++ more) e
@@ -27,6 +38,12 @@ pub on_two : {T E : Type 0} (r : Result T E) (old mid new front end : List ℕ) 
     OnOk r (new ≡ mid ++ end) → OnOk r (new ≡ old ++ (front ++ end))
 on_two r old mid new front end e = on_ok r (new ≡ mid ++ end) (new ≡ old ++ (front ++ end))
     (λ f. two_parts old mid new front end e f)
+
+-- three parts, of which the last may be refused
+pub on_three : {T E : Type 0} (r : Result T E) (old a b new first second third : List ℕ) → a ≡ old ++ first →
+    b ≡ a ++ second → OnOk r (new ≡ b ++ third) → OnOk r (new ≡ old ++ (first ++ second ++ third))
+on_three r old a b new first second third p q =
+    on_two r old b new (first ++ second) third (two_parts old a b first second p q)
 
 -- what is printed, and what is still ahead
 pub carried : (out new part more ahead whole : List ℕ) → new ≡ out ++ part → part ++ more ≡ ahead → out ++ ahead ≡ whole →

@@ -4,6 +4,7 @@ pub mod Numbers
 pub mod FirstLine
 pub mod Printed
 pub mod Sums
+pub mod Stretches
 pub mod GapLists
 pub mod Widths
 pub mod Excess

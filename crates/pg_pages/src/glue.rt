@@ -2,7 +2,7 @@
 ghost use Rattle.std.specs.Prelude.{◌≡◌, ◌<◌, ◌≤◌, ◌+◌, ◌^◌, ◌++◌, OnOk, IfOk, length, map, nat_abs, not, unsigned_abs, ◌-ℤ◌, ◌==◌};
 ghost use Rattle.std.specs.List.{flat_map};
 ghost use Rattle.pg_glue.specs.Widths.{entry_limit, set_widths as set_widths_of};
-ghost use Rattle.pg_list.specs.Totals.{stretch as stretch_of};
+ghost use Rattle.pg_list.specs.Totals.{stretch as stretch_of, stretch_of as own_stretch};
 ghost use Rattle.pg_pages.specs.SetGlue.{elastic, gap_elastic as gap_elastic_of, glue_between, own_sizes as own_sizes_of, own_width, stays_short as stays_short_of, widths_by};
 ghost use Rattle.pg_column.specs.Between.{behind};
 
@@ -144,6 +144,24 @@ fn own_widths(alloc: Global, glues: &Glues<'_, '_>) -> Result<Vec<i128>, AllocEr
     Ok(widths)
 }
 
+// The stretch of an item, where it is glue of this order.
+fn stretch_in(order: Order, item: &Item) -> i128
+    ensures value { result ≡ own_stretch order item.now }
+    ensures size { nat_abs result ≤ 2 ^ 31 }
+{
+    if let Item::Glue {
+        stretch,
+        order: own,
+        ..
+    } = item
+    {
+        if order == *own {
+            return i128::from(*stretch);
+        }
+    }
+    0
+}
+
 // Whether some infinite stretch of an order does not sum to 0.
 fn has_order(order: Order, items: &[&Item]) -> bool
     requires { length items.now ≤ entry_limit }
@@ -152,16 +170,7 @@ fn has_order(order: Order, items: &[&Item]) -> bool
     let mut sum = 0i128;
     let mut rest = items;
     'items: while let [item, after @ ..] = rest {
-        if let Item::Glue {
-            stretch,
-            order: own,
-            ..
-        } = item
-        {
-            if *own == order {
-                sum = large_plus(sum, i128::from(*stretch));
-            }
-        }
+        sum = large_plus(sum, stretch_in(order, item));
         rest = after;
     }
     sum != 0

@@ -21,3 +21,10 @@ each-preserved c =
       grows = grows_on c.args.out.now.items c.each.out.items c.print_class_notes.new.out.items c.each.invariant.grows
           c.in_ok-print_class_notes.ensures.grows;
     }
+
+pub returns-clause-grows : goal.returns-clause-grows
+returns-clause-grows c = c.each.invariant.grows
+
+pub returns-in_err-print_class_notes-clause-grows : goal.returns-in_err-print_class_notes-clause-grows
+returns-in_err-print_class_notes-clause-grows c = grows_on c.args.out.now.items c.each.out.items
+    c.print_class_notes.new.out.items c.each.invariant.grows c.print_class_notes.ensures.grows

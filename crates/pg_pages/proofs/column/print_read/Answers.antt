@@ -1,4 +1,4 @@
-use Rattle.std.proofs.Common.{◌≡◌, ◌∙◌, rules, sym, ap, subst, ℤ, ◌≤◌, ◌^◌, arith, List, ◌++◌, length, vec_len, w64, to_z, of_z}
+use Rattle.std.proofs.Common.{◌≡◌, ◌∙◌, rules, sym, ap, subst, ℤ, ◌≤◌, ◌^◌, arith, List, ◌++◌, length, vec_len, w64, to_z, of_z, ◌<◌}
 use Rattle.std.proofs.lemmas.Int.{to_z-of_z}
 use Rattle.std.specs.List.{AllByRecursion}
 use Rattle.pg_glue.specs.Widths.{IsPrintable}
@@ -7,9 +7,10 @@ use Rattle.pg_style.specs.declared.style.Gap.{Gap}
 use Rattle.pg_pages.specs.Gaps.{note_gaps}
 use Rattle.pg_pages.specs.SetGlue.{widths_by}
 use Rattle.pg_pages.specs.Printed.{lent}
-use Rattle.pg_pages.proofs.Grown.{on_same}
+use Rattle.pg_pages.proofs.Grown.{grows_same, on_same}
 use Rattle.pg_pages.proofs.Printed.{behind_long}
 use Rattle.pg_pages.proofs.SetColumn.{glues_few, read_from, set_printable, widths_are}
+use Rattle.std.specs.Prelude.{nat_abs, ◌-ℤ◌}
 use Rattle.pg_pages.proofs.column.print_read.Goals as goal
 
 pub widths_of-requires-clause-few : goal.widths_of-requires-clause-few
@@ -90,3 +91,29 @@ returns-clause-ok c =
     c.as_slice-4.result.now _ _ _
     widths many c.count_glue.ensures noted)
     c.print_set_column.ensures.ok
+
+pub widths_of-requires-clause-excess : goal.widths_of-requires-clause-excess
+widths_of-requires-clause-excess c =
+    let it = c.args.text.now.numbers.now in
+    let aim = to_z-of_z w64 it.goal (record { sfits = search rules }) in
+    let total = to_z-of_z w64 it.total (record { sfits = search rules }) in
+    subst (λ (z : ℤ). nat_abs (to_z w64 (of_z w64 it.goal) -ℤ z) < 2 ^ 52) (sym total)
+    (subst (λ (z : ℤ). nat_abs (z -ℤ it.total) < 2 ^ 52) (sym aim) c.requires.excess)
+
+pub returns-clause-grows : goal.returns-clause-grows
+returns-clause-grows c = c.print_set_column.ensures.grows
+
+pub returns-in_err-above-clause-grows : goal.returns-in_err-above-clause-grows
+returns-in_err-above-clause-grows c = grows_same c.args.out.now.items
+
+pub returns-in_err-below-clause-grows : goal.returns-in_err-below-clause-grows
+returns-in_err-below-clause-grows c = grows_same c.args.out.now.items
+
+pub returns-in_err-bottom_gaps-clause-grows : goal.returns-in_err-bottom_gaps-clause-grows
+returns-in_err-bottom_gaps-clause-grows c = grows_same c.args.out.now.items
+
+pub returns-in_err-extend_from_slice-clause-grows : goal.returns-in_err-extend_from_slice-clause-grows
+returns-in_err-extend_from_slice-clause-grows c = grows_same c.args.out.now.items
+
+pub returns-in_err-widths-clause-grows : goal.returns-in_err-widths-clause-grows
+returns-in_err-widths-clause-grows c = grows_same c.args.out.now.items

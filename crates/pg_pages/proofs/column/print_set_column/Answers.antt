@@ -1,6 +1,6 @@
 use Rattle.pg_column.specs.Between.{behind}
 use Rattle.pg_pages.specs.Printed.{lent}
-use Rattle.pg_pages.proofs.Grown.{on_ok}
+use Rattle.pg_pages.proofs.Grown.{grows_four, grows_on, grows_three, on_ok}
 use Rattle.pg_pages.proofs.SetColumn.{set_from}
 use Rattle.pg_pages.proofs.column.print_set_column.Goals as goal
 
@@ -17,3 +17,28 @@ returns-clause-ok c =
     c.print_bottom_area.new.out.items c.print_note_area.new.out.items c.in_ok-print_numbers.ensures.ok
     c.in_ok-print_top_area.ensures.ok c.in_ok-print_text_area.ensures.ok c.in_ok-print_bottom_area.ensures.ok printed)
     c.print_note_area.ensures.ok
+
+pub returns-in_err-print_numbers-clause-grows : goal.returns-in_err-print_numbers-clause-grows
+returns-in_err-print_numbers-clause-grows c = c.print_numbers.ensures.grows
+
+pub returns-in_err-print_top_area-clause-grows : goal.returns-in_err-print_top_area-clause-grows
+returns-in_err-print_top_area-clause-grows c = grows_on c.args.out.now.items c.print_numbers.new.out.items
+    c.print_top_area.new.out.items c.in_ok-print_numbers.ensures.grows c.print_top_area.ensures.grows
+
+pub returns-in_err-print_text_area-clause-grows : goal.returns-in_err-print_text_area-clause-grows
+returns-in_err-print_text_area-clause-grows c = grows_three c.args.out.now.items c.print_numbers.new.out.items
+    c.print_top_area.new.out.items c.print_text_area.new.out.items c.in_ok-print_numbers.ensures.grows
+    c.in_ok-print_top_area.ensures.grows c.print_text_area.ensures.grows
+
+pub returns-in_err-print_bottom_area-clause-grows : goal.returns-in_err-print_bottom_area-clause-grows
+returns-in_err-print_bottom_area-clause-grows c = grows_four c.args.out.now.items c.print_numbers.new.out.items
+    c.print_top_area.new.out.items c.print_text_area.new.out.items c.print_bottom_area.new.out.items
+    c.in_ok-print_numbers.ensures.grows c.in_ok-print_top_area.ensures.grows c.in_ok-print_text_area.ensures.grows
+    c.print_bottom_area.ensures.grows
+
+pub returns-clause-grows : goal.returns-clause-grows
+returns-clause-grows c = grows_four c.args.out.now.items c.print_top_area.new.out.items
+    c.print_text_area.new.out.items c.print_bottom_area.new.out.items c.print_note_area.new.out.items (grows_on
+    c.args.out.now.items c.print_numbers.new.out.items c.print_top_area.new.out.items
+    c.in_ok-print_numbers.ensures.grows c.in_ok-print_top_area.ensures.grows) c.in_ok-print_text_area.ensures.grows
+    c.in_ok-print_bottom_area.ensures.grows c.print_note_area.ensures.grows

@@ -3,7 +3,7 @@ use Rattle.std.specs.Int.{w128}
 use Rattle.std.proofs.lemmas.Int.{to_z-of_z}
 use Rattle.pg_pages.specs.Gaps.{gap_gives, gap_name, gap_set}
 use Rattle.pg_pages.proofs.GapLists.{line_from}
-use Rattle.pg_pages.proofs.Grown.{on_ok}
+use Rattle.pg_pages.proofs.Grown.{grows_four, grows_on, grows_three, on_ok}
 use Rattle.pg_pages.proofs.gaps.print_gap_line.Goals as goal
 
 pub returns-clause-ok : goal.returns-clause-ok
@@ -22,3 +22,21 @@ returns-clause-ok c =
     ∙ ap (λ (z : ℤ). first ++ gap_gives gap.stretch z) shrink)
     (c.in_ok-print_gap_set.ensures.ok ∙ ap (λ (z : ℤ). c.print_gap_gives.new.out.items ++ gap_set z) width)
     ended) c.end_line.ensures.ok
+
+pub returns-in_err-print_gap_name-clause-grows : goal.returns-in_err-print_gap_name-clause-grows
+returns-in_err-print_gap_name-clause-grows c = c.print_gap_name.ensures.grows
+
+pub returns-in_err-print_gap_gives-clause-grows : goal.returns-in_err-print_gap_gives-clause-grows
+returns-in_err-print_gap_gives-clause-grows c = grows_on c.args.out.now.items c.print_gap_name.new.out.items
+    c.print_gap_gives.new.out.items c.in_ok-print_gap_name.ensures.grows c.print_gap_gives.ensures.grows
+
+pub returns-in_err-print_gap_set-clause-grows : goal.returns-in_err-print_gap_set-clause-grows
+returns-in_err-print_gap_set-clause-grows c = grows_three c.args.out.now.items c.print_gap_name.new.out.items
+    c.print_gap_gives.new.out.items c.print_gap_set.new.out.items c.in_ok-print_gap_name.ensures.grows
+    c.in_ok-print_gap_gives.ensures.grows c.print_gap_set.ensures.grows
+
+pub returns-clause-grows : goal.returns-clause-grows
+returns-clause-grows c = grows_four c.args.out.now.items c.print_gap_name.new.out.items
+    c.print_gap_gives.new.out.items c.print_gap_set.new.out.items c.end_line.new.out.items
+    c.in_ok-print_gap_name.ensures.grows c.in_ok-print_gap_gives.ensures.grows c.in_ok-print_gap_set.ensures.grows
+    c.end_line.ensures.grows

@@ -4,7 +4,7 @@ use Rattle.std.specs.Int.{w128}
 use Rattle.std.proofs.lemmas.Int.{to_z-of_z}
 use Rattle.pg_scaled.specs.Scaled.{scaled_text}
 use Rattle.pg_pages.specs.Gaps.{gap_name}
-use Rattle.pg_pages.proofs.Grown.{on_same, on_two, two_parts}
+use Rattle.pg_pages.proofs.Grown.{grows_four, grows_on, grows_three, on_same, on_two, two_parts}
 use Rattle.pg_pages.proofs.gaps.print_gap_name.Goals as goal
 
 pub returns-clause-ok : goal.returns-clause-ok
@@ -23,3 +23,20 @@ returns-clause-ok c =
     (two_parts old first second (codes ".\\glue(") name c.in_ok-print_bytes.ensures.ok c.in_ok-print_bytes-2.ensures.ok)
     c.in_ok-print_bytes-3.ensures.ok)
     (on_same c.print_width.result third new _ (scaled_text c.args.size) (ap scaled_text size) c.print_width.ensures.ok)
+
+pub returns-in_err-print_bytes-clause-grows : goal.returns-in_err-print_bytes-clause-grows
+returns-in_err-print_bytes-clause-grows c = c.print_bytes.ensures.grows
+
+pub returns-in_err-print_bytes-2-clause-grows : goal.returns-in_err-print_bytes-2-clause-grows
+returns-in_err-print_bytes-2-clause-grows c = grows_on c.args.out.now.items c.print_bytes.new.out.items
+    c.print_bytes-2.new.out.items c.in_ok-print_bytes.ensures.grows c.print_bytes-2.ensures.grows
+
+pub returns-in_err-print_bytes-3-clause-grows : goal.returns-in_err-print_bytes-3-clause-grows
+returns-in_err-print_bytes-3-clause-grows c = grows_three c.args.out.now.items c.print_bytes.new.out.items
+    c.print_bytes-2.new.out.items c.print_bytes-3.new.out.items c.in_ok-print_bytes.ensures.grows
+    c.in_ok-print_bytes-2.ensures.grows c.print_bytes-3.ensures.grows
+
+pub returns-clause-grows : goal.returns-clause-grows
+returns-clause-grows c = grows_four c.args.out.now.items c.print_bytes.new.out.items c.print_bytes-2.new.out.items
+    c.print_bytes-3.new.out.items c.print_width.new.out.items c.in_ok-print_bytes.ensures.grows
+    c.in_ok-print_bytes-2.ensures.grows c.in_ok-print_bytes-3.ensures.grows c.print_width.ensures.grows

@@ -1,4 +1,4 @@
-use Rattle.std.proofs.Common.{ap, ◌∙◌, List, ℕ, length}
+use Rattle.std.proofs.Common.{ap, ◌∙◌, List, ℕ, length, refl}
 use Rattle.pg_rules.specs.Floats.{plus_counts}
 use Rattle.pg_pages.proofs.Shown.{fit_as}
 use Rattle.pg_rules.specs.Legal.{document}
@@ -15,3 +15,12 @@ returns-clause-before c =
     c.requires.bodies) c.as_slice-2.ensures _
     c.in_ok-before.ensures
     ∙ ap (λ (counts : List ℕ). plus_counts c.args.matter.now.style.now counts c.args.page.now.wide) c.as_slice.ensures
+
+pub made_wide-requires : goal.made_wide-requires
+made_wide-requires c = c.requires.wide
+
+pub returns-clause-run : goal.returns-clause-run
+returns-clause-run c = refl
+
+pub returns-clause-wide : goal.returns-clause-wide
+returns-clause-wide c = c.made_wide.ensures c.args.matter.now.galley.now.blocks c.requires.floats

@@ -1,13 +1,14 @@
-use Rattle.std.proofs.Common.{arith, sym, ap, subst, ◌∙◌, ◌≡◌, ◌++◌, ◌+◌, ◌-◌, ◌∷◌, [], List, ℕ, take, drop, length, append-nil, append_assoc}
+use Rattle.std.proofs.Common.{arith, sym, ap, subst, ◌∙◌, ◌≡◌, ◌++◌, ◌+◌, ◌-◌, ◌∷◌, [], List, ℕ, take, drop, length, append-nil, append_assoc, refl, Option, ℤ}
 use Rattle.pg_lemmas.proofs.Lists.{no_items}
 use Rattle.pg_plan.specs.declared.pages.Column.{Column}
 use Rattle.pg_rules.specs.Floats.{plus_counts}
 use Rattle.pg_rules.specs.Legal.{document}
 use Rattle.pg_pages.specs.Printed.{FitTogether}
-use Rattle.pg_pages.specs.Sheets.{MayFrom, columns_from, placed_behind, placed_from, seat_text}
+use Rattle.pg_pages.specs.Sheets.{MayFrom, columns_from, placed_behind, placed_from, seat_text, context_at}
 use Rattle.pg_pages.proofs.Printed.{split_first}
-use Rattle.pg_pages.proofs.Grown.{grows_on}
+use Rattle.pg_pages.proofs.Grown.{grows_on, grows_same}
 use Rattle.pg_pages.proofs.TextColumn.{bodies_long, seat_same}
+use Rattle.pg_pages.specs.Seated.{MayPrint}
 use Rattle.pg_pages.proofs.sheets.print_seats.Goals as goal
 
 pub each-preserved : goal.each-preserved
@@ -102,3 +103,29 @@ returns-clause-placed c =
 pub returns-in_err-print_column-clause-grows : goal.returns-in_err-print_column-clause-grows
 returns-in_err-print_column-clause-grows c = grows_on c.args.out.now.items c.each.out.items
     c.print_column.new.out.items c.each.invariant.grows c.print_column.ensures.grows
+
+pub each-init : goal.each-init
+each-init c = record {
+  run = refl;
+  wide = refl;
+  text = refl;
+  placed = refl;
+  may = c.requires.may;
+  number = refl;
+  grows = grows_same c.args.out.now.items;
+}
+
+pub print_column-requires-clause-may : goal.print_column-requires-clause-may
+print_column-requires-clause-may c =
+    let doc = document c.args.matter.now.galley.now c.args.matter.now.style.now in
+    let run = c.args.seat.now.run in
+    let column = c.column-item.result in
+    let before = c.each.seat.before in
+    let opened = split_first c.each.rest.now column _ c.in-len1-up.len_at_least c.column-item.is in
+    let may = subst (λ (columns : List Column). MayFrom doc run c.args.seat.now.wide before columns) (sym opened)
+    c.each.invariant.may in
+    subst (λ (run : ℕ). MayPrint (context_at doc run c.each.seat.wide before column)) (sym c.each.invariant.run)
+    (subst (λ (wide : Option ℤ). MayPrint (context_at doc run wide before column)) (sym c.each.invariant.wide) may.0)
+
+pub returns-clause-grows : goal.returns-clause-grows
+returns-clause-grows c = c.each.invariant.grows

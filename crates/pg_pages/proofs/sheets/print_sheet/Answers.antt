@@ -56,3 +56,9 @@ returns-clause-placed c =
     c.in_ok-seat.ensures.before
     ∙ ap (λ (columns : List Column). placed_from c.args.matter.now.style.now
     (plus_counts c.args.matter.now.style.now c.args.placed.now c.args.page.now.wide) columns) c.as_slice-columns.ensures
+
+pub returns-in_err-print_page_head-clause-grows : goal.returns-in_err-print_page_head-clause-grows
+returns-in_err-print_page_head-clause-grows c = c.print_page_head.ensures.grows
+
+pub returns-in_err-seat-clause-grows : goal.returns-in_err-seat-clause-grows
+returns-in_err-seat-clause-grows c = c.in_ok-print_page_head.ensures.grows

@@ -1,4 +1,4 @@
-use Rattle.std.proofs.Common.{rules, sym, ap, ◌∙◌, ◌≡◌, ◌++◌, [], List, ℕ, ℤ, length, w32, w64, to_z, of_z}
+use Rattle.std.proofs.Common.{rules, sym, ap, ◌∙◌, ◌≡◌, ◌++◌, [], List, ℕ, ℤ, length, w32, w64, to_z, of_z, subst}
 use Rattle.std.specs.Int.{w128}
 use Rattle.std.proofs.lemmas.Int.{to_z-of_z}
 use Rattle.pg_list.specs.declared.blocks.Block.{Block}
@@ -9,9 +9,9 @@ use Rattle.pg_rules.specs.History.{placed_of}
 use Rattle.pg_rules.specs.Legal.{document}
 use Rattle.pg_pages.specs.PageText.{head_line, page_text}
 use Rattle.pg_pages.specs.Printed.{bodies_of, lent}
-use Rattle.pg_pages.specs.Sheets.{sheets_text}
+use Rattle.pg_pages.specs.Sheets.{sheets_text, MaySheets}
 use Rattle.pg_pages.proofs.ColumnText.{bodies_are}
-use Rattle.pg_pages.proofs.Grown.{on_ok, on_same, two_parts}
+use Rattle.pg_pages.proofs.Grown.{grows_on, grows_same, on_ok, on_same, two_parts}
 use Rattle.pg_pages.proofs.Whole.{page_text_is}
 use Rattle.pg_pages.proofs.sheets.print_whole.Goals as goal
 
@@ -50,3 +50,21 @@ returns-clause-ok c =
     (printed ∙ ap (λ (pages : List Page). mid ++ sheets_text doc 1 (placed_of c.args.style.now []) pages)
     c.as_slice-pages.ensures))
     c.print_sheets.ensures.ok)
+
+pub print_sheets-requires-clause-floats : goal.print_sheets-requires-clause-floats
+print_sheets-requires-clause-floats c = c.requires.floats
+
+pub print_sheets-requires-clause-may : goal.print_sheets-requires-clause-may
+print_sheets-requires-clause-may c =
+    subst (MaySheets (document c.args.galley.now c.args.style.now) (placed_of c.args.style.now []))
+    (sym c.as_slice-pages.ensures) c.requires.may
+
+pub returns-in_err-bodies-clause-grows : goal.returns-in_err-bodies-clause-grows
+returns-in_err-bodies-clause-grows c = grows_same c.args.out.now.items
+
+pub returns-in_err-print_head-clause-grows : goal.returns-in_err-print_head-clause-grows
+returns-in_err-print_head-clause-grows c = c.print_head.ensures.grows
+
+pub returns-clause-grows : goal.returns-clause-grows
+returns-clause-grows c = grows_on c.args.out.now.items c.print_head.new.out.items c.print_sheets.new.out.items
+    c.in_ok-print_head.ensures.grows c.print_sheets.ensures.grows

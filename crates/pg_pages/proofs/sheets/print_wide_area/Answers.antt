@@ -5,7 +5,7 @@ use Rattle.pg_rules.specs.Floats.{dealt_from}
 use Rattle.pg_pages.specs.Gaps.{hung_gaps, shows_gaps}
 use Rattle.pg_pages.specs.SetGlue.{own_sizes}
 use Rattle.pg_pages.specs.Printed.{lent}
-use Rattle.pg_pages.proofs.Grown.{on_same}
+use Rattle.pg_pages.proofs.Grown.{grows_same, on_same}
 use Rattle.pg_pages.proofs.Printed.{behind_long}
 use Rattle.pg_pages.proofs.SetColumn.{wide_from, wides_printable}
 use Rattle.pg_pages.proofs.sheets.print_wide_area.Goals as goal
@@ -44,3 +44,15 @@ returns-clause-ok c =
     (wide_from style bodies placed counts c.as_slice-before.result.now c.as_slice-counts.result.now
     c.as_slice-before.ensures c.as_slice-counts.ensures c.as_slice-2.result.now sizes)
     c.print_wide_set.ensures.ok
+
+pub returns-clause-grows : goal.returns-clause-grows
+returns-clause-grows c = c.print_wide_set.ensures.grows
+
+pub returns-in_err-dealt-clause-grows : goal.returns-in_err-dealt-clause-grows
+returns-in_err-dealt-clause-grows c = grows_same c.args.out.now.items
+
+pub returns-in_err-gaps-clause-grows : goal.returns-in_err-gaps-clause-grows
+returns-in_err-gaps-clause-grows c = grows_same c.args.out.now.items
+
+pub returns-in_err-sizes-clause-grows : goal.returns-in_err-sizes-clause-grows
+returns-in_err-sizes-clause-grows c = grows_same c.args.out.now.items

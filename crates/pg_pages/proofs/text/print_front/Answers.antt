@@ -11,3 +11,10 @@ front-preserved c = record {
   grows = grows_on c.args.out.now.items c.front.out.items c.print_plain.new.out.items c.front.invariant.grows
       c.in_ok-print_plain.ensures.grows;
 }
+
+pub returns-clause-grows : goal.returns-clause-grows
+returns-clause-grows c = c.front.invariant.grows
+
+pub returns-in_err-print_plain-clause-grows : goal.returns-in_err-print_plain-clause-grows
+returns-in_err-print_plain-clause-grows c = grows_on c.args.out.now.items c.front.out.items
+    c.print_plain.new.out.items c.front.invariant.grows c.print_plain.ensures.grows

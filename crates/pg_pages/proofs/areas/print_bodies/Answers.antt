@@ -1,0 +1,9 @@
+use Rattle.pg_pages.proofs.Grown.{grows_on}
+use Rattle.pg_pages.proofs.areas.print_bodies.Goals as goal
+
+pub returns-clause-grows : goal.returns-clause-grows
+returns-clause-grows c = c.each.invariant.grows
+
+pub returns-in_err-print_body-clause-grows : goal.returns-in_err-print_body-clause-grows
+returns-in_err-print_body-clause-grows c = grows_on c.args.out.now.items c.each.out.items c.print_body.new.out.items
+    c.each.invariant.grows c.print_body.ensures.grows

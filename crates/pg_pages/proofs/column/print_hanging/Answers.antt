@@ -1,0 +1,32 @@
+use Rattle.pg_pages.proofs.Grown.{grows_on, two_parts}
+use Rattle.std.proofs.Common.{◌≡◌, ◌∙◌, ◌++◌, ap, arith, length, vec_len}
+use Rattle.std.specs.Prelude.{codes}
+use Rattle.pg_words.specs.Written.{line}
+use Rattle.pg_pages.specs.Printed.{hanging_by, lent}
+use Rattle.pg_pages.proofs.column.print_hanging.Goals as goal
+
+pub returns-in_err-start-clause-grows : goal.returns-in_err-start-clause-grows
+returns-in_err-start-clause-grows c = c.open_area.ensures.grows
+
+pub returns-in_err-print_hanging_floats-clause-grows : goal.returns-in_err-print_hanging_floats-clause-grows
+returns-in_err-print_hanging_floats-clause-grows c = grows_on c.args.out.now.items c.open_area.new.out.items
+    c.print_hanging_floats.new.out.items c.in_ok-start.ensures.grows c.print_hanging_floats.ensures.grows
+
+pub returns-clause-ok : goal.returns-clause-ok
+returns-clause-ok c =
+    let name = c.args.name.now in
+    let old = c.args.out.now.items in
+    let opened = c.open_area.new.out in
+    let text = hanging_by c.args.style.now c.args.rule.now (lent c.args.dealt.now.bodies.now)
+    c.args.dealt.now.before.now c.args.dealt.now.counts.now c.args.widths.now in
+    let long : vec_len opened ≡ length opened.items = opened.ok.0 in
+    c.close_area.ensures.text old name text
+    (two_parts old opened.items c.print_hanging_floats.new.out.items (line (codes "area " ++ name)) text
+    c.in_ok-start.ensures.ok c.in_ok-print_hanging_floats.ensures.ok)
+    c.in_ok-start.ensures.start (c.len-filled.ensures ∙ long ∙ ap length c.in_ok-start.ensures.ok)
+
+pub returns-clause-grows : goal.returns-clause-grows
+returns-clause-grows c =
+    let start = c.in_ok-start.ensures.start in
+    c.close_area.ensures.grows c.args.out.now.items (omega (arith, start)) (grows_on c.args.out.now.items
+    c.open_area.new.out.items c.print_hanging_floats.new.out.items c.in_ok-start.ensures.grows c.in_ok-print_hanging_floats.ensures.grows)
