@@ -11,8 +11,6 @@ mod outputs;
 mod paragraphs;
 mod said;
 mod scripts;
-mod shelves;
-mod sinks;
 mod styles;
 
 pub use drawings::serve_drawing;
@@ -21,6 +19,4 @@ pub use outputs::read_output;
 pub use paragraphs::read_paras;
 pub use said::say_line;
 pub use scripts::read_script;
-pub use shelves::{fetch, fetch_file, fetch_kept};
-pub use sinks::{write, write_stream};
 pub use styles::{make_distance, read_style};

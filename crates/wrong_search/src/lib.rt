@@ -1,6 +1,5 @@
 //! Calls of the search with the clauses that they have in their own crates, so that wrong bodies can be tried against
-//! these clauses at little cost: tables of labels, columns of text, states, moves, the space of pages, sessions. No
-//! program stands on it.
+//! these clauses at little cost: columns of text, states, moves, the space of pages, sessions. No program stands on it.
 #![tactic(auto)]
 
 mod columns;
@@ -8,7 +7,6 @@ mod moving;
 mod sessions;
 mod solutions;
 mod standing;
-mod tables;
 mod variants;
 
 pub use columns::reach_of;
@@ -16,5 +14,4 @@ pub use moving::open_by;
 pub use sessions::{edit, paginate, solve};
 pub use solutions::{frontier_of, outcome_of};
 pub use standing::{before, is_done, is_state, key_of, known, no_worse};
-pub use tables::{best, refill};
 pub use variants::expand;
