@@ -1,19 +1,37 @@
 -- What the code of layouts answers, in the words of its contracts.
 use Rattle.std.proofs.Common.{◌≡◌, sym, ap, ◌∙◌, ℕ, List, [], ◌∷◌, ◌++◌, length}
-use Rattle.std.specs.Prelude.{◌==◌, Result, Ok, Err, IfOk, replicate}
+use Rattle.std.specs.Prelude.{◌==◌, Result, Ok, Err, IfOk, IsErr, OnOk, replicate}
 use Rattle.std.specs.List.{flat_map}
 use Rattle.std.proofs.lemmas.Bool.{eqb-true}
 use Rattle.pg_list.specs.declared.blocks.Block.{Block}
 use Rattle.pg_plan.specs.declared.states.State.{State}
 use Rattle.pg_style.specs.Values.{StyleValue}
 use Rattle.pg_rules.specs.Floats.{float_numbers, takes_wide}
-use Rattle.pg_lemmas.proofs.Bools.{by_bool, if_false}
+use Rattle.pg_lemmas.proofs.Bools.{by_bool, if_false, if_true}
+use Rattle.pg_lemmas.proofs.Numbers.{eq_refl}
 use Rattle.pg_layouts.specs.Behind.{bare, of_run}
 use Rattle.pg_layouts.specs.Layouts.{area_lists, float_layouts, runs_of, text_layouts, wides_of, zeros}
 use Rattle.pg_layouts.specs.declared.kind.ColumnKind.{ColumnKind}
 use Rattle.pg_layouts.specs.declared.kind.ColumnKind.TheVariants.{Floats, Text}
 use Rattle.pg_layouts.specs.declared.layout.Layout.{Layout}
 use Rattle.pg_layouts.proofs.Fits.{zeros_made}
+
+-- what holds at a success need not be shown at a failure
+pub at_err : {T E : Type 0} (P : Type 0) (r : Result T E) → IsErr r → OnOk r P
+at_err P (Ok x) h = absurd cc
+at_err P (Err e) h = tt
+
+-- in a first column the wide floats are those of the wide area
+pub some_wide : {E : Type 0} (r : Result (List (List ℕ)) E) (style : StyleValue) (u : State) (ceiling : List ℕ)
+    (most : ℕ) (placed : List ℕ) → u.column ≡ 1 → most ≡ style.wide.count → placed ≡ u.placed →
+    IfOk r (λ lists. lists ≡ area_lists style takes_wide most placed ceiling) →
+    IfOk r (λ wides. wides ≡ wides_of (bare style) u ceiling)
+some_wide (Err e) style u ceiling most placed f m p h = tt
+some_wide (Ok lists) style u ceiling most placed f m p h =
+    h ∙ (ap (λ (n : ℕ). area_lists style takes_wide n placed ceiling) m
+    ∙ (ap (λ (counts : List ℕ). area_lists style takes_wide style.wide.count counts ceiling) p
+    ∙ sym (if_true (u.column == 1) (area_lists style takes_wide style.wide.count u.placed ceiling) (zeros style ∷ [])
+    (ap (λ (n : ℕ). n == 1) f ∙ eq_refl 1))))
 
 -- in a second column there are no wide floats
 pub none_wide : (wides : List (List ℕ)) (style : StyleValue) (u : State) (ceiling : List ℕ) (slots : ℕ) →

@@ -1,5 +1,5 @@
 -- One more of a list behind the others.
-use Rattle.std.proofs.Common.{◌≡◌, sym, ap, ◌∙◌, ℕ, suc, ◌+◌, ◌<◌, List, [], ◌∷◌, ◌++◌, append_assoc, map, get_or, length, take, Bool, arith}
+use Rattle.std.proofs.Common.{◌≡◌, sym, ap, ◌∙◌, ℕ, suc, ◌+◌, ◌<◌, ◌≤◌, List, [], ◌∷◌, ◌++◌, append_assoc, append-nil, map, get_or, length, take, take_all, Bool, true, false, arith}
 use Rattle.std.specs.Prelude.{if◌then◌else◌}
 use Rattle.std.specs.List.{filter, flat_map, range_with_len}
 use Rattle.std.proofs.lemmas.Grind.{flat_map-append}
@@ -36,3 +36,21 @@ taken_next {Y} f p old mid new n h k =
     ∙ (ap (λ ys. old ++ ys) (sym (flat_map-append f (filter p (range_with_len 0 n)) (if p n then n ∷ [] else [])))
     ∙ (ap (λ (ns : List ℕ). old ++ flat_map f ns) (sym (filter-append p (range_with_len 0 n) (n ∷ [])))
     ∙ ap (λ (ns : List ℕ). old ++ flat_map f (filter p ns)) (sym (next_range n))))))
+
+-- no more behind the last
+pub flat_all : {X Y : Type 0} (f : X → List Y) (old new : List Y) (xs : List X) (i : ℕ) → length xs ≤ i →
+    new ≡ old ++ flat_map f (take i xs) → new ≡ old ++ flat_map f xs
+flat_all f old new xs i l e = e ∙ ap (λ ys. old ++ flat_map f ys) (take_all i xs l)
+
+-- a number by itself, where it passes a test
+pub taken_one : {Y : Type 0} (f : ℕ → List Y) (old new : List Y) (n : ℕ) (t b : Bool) → t ≡ b → t ≡ true →
+    new ≡ old ++ f n → new ≡ old ++ flat_map f (if b then n ∷ [] else [])
+taken_one f old new n t b e h k =
+    k ∙ (ap (λ ys. old ++ ys) (sym (append-nil (f n)))
+    ∙ ap (λ (c : Bool). old ++ flat_map f (if c then n ∷ [] else [])) (sym h ∙ e))
+
+-- where it does not
+pub passed_one : {Y : Type 0} (f : ℕ → List Y) (old : List Y) (n : ℕ) (t b : Bool) → t ≡ b → t ≡ false →
+    old ≡ old ++ flat_map f (if b then n ∷ [] else [])
+passed_one f old n t b e h =
+    sym (append-nil old) ∙ ap (λ (c : Bool). old ++ flat_map f (if c then n ∷ [] else [])) (sym h ∙ e)

@@ -1,10 +1,9 @@
 -- A step of the parts that were settled.
-use Rattle.std.proofs.Common.{◌≡◌, refl, sym, subst, ap, ◌∙◌, ℕ, ◌+◌, ◌*◌, ◌^◌, ◌≤◌, List, [], length, Bool, true, Option, Some, None, ℤ, arith}
+use Rattle.std.proofs.Common.{◌≡◌, refl, sym, subst, ap, ◌∙◌, ℕ, ◌+◌, ◌*◌, ◌^◌, ◌≤◌, List, [], Bool, true, Option, Some, None, ℤ, arith}
 use Rattle.std.specs.Prelude.{◌==◌, if◌then◌else◌, nat_abs, pos, ◌+ℤ◌, IfSome}
 use Rattle.std.proofs.lemmas.Int.{ints}
 use Rattle.pg_style.specs.Values.{StyleValue}
-use Rattle.pg_rules.specs.Floats.{entry, float_numbers, plus_counts}
-use Rattle.pg_layouts.proofs.Areas.{slots_long}
+use Rattle.pg_rules.specs.Floats.{total_count}
 use Rattle.law_space.specs.PageSpace.{place_rank, rank}
 use Rattle.pg_list.specs.declared.galley.Place.{Place}
 use Rattle.pg_plan.specs.declared.pages.PageMove.{PageMove}
@@ -31,6 +30,10 @@ use Rattle.pg_moves.specs.declared.behind.Reached.{Reached}
 module _ (doc : Document) (u : State) (laid : Laid) (is : laid ≡ laid_of doc u laid.layout) where
   after_is : laid.after ≡ placed_with doc.style u.placed laid.layout
   after_is = ap (λ (it : Laid). it.after) is
+
+  -- and how many floats that are
+  pub placed_is : laid.placed ≡ total_count laid.after
+  placed_is = ap (λ (it : Laid). it.placed) is ∙ ap total_count (sym after_is)
 
   -- the state behind it
   state_is : (to : Place) (fitness : Option ℕ) (settled : Settled) → Settles doc u to laid.after (Some settled) →
@@ -148,16 +151,6 @@ late_at style u spared it v text pays s h =
   where
     in_order : (a b c : ℤ) → a +ℤ (b +ℤ c) ≡ b +ℤ (a +ℤ c)
     in_order a b c = omega (arith, ints)
-
--- the count of the floats behind a column is that of few classes
-pub few_after : (doc : Document) (u : State) (laid : Laid) (counts : List ℕ) (n : ℕ) →
-    laid ≡ laid_of doc u laid.layout → counts ≡ laid.after → n ≡ length (float_numbers doc.style) → n ≤ 8 →
-    length counts ≤ 8
-few_after doc u laid counts n is c e l =
-    let long : length counts ≡ length (float_numbers doc.style) =
-    ap length (c ∙ ap (λ (it : Laid). it.after) is) ∙ slots_long doc.style (λ (slot : ℕ).
-    entry (plus_counts doc.style (plus_counts doc.style u.placed laid.layout.wide) laid.layout.top) slot
-    + entry laid.layout.bottom slot) in omega (arith, long, e, l)
 
 -- a rank of its parts, and what 64 bits hold of it
 pub rank_is : (doc : Document) (u : State) (place tail : ℕ) → place ≡ place_rank u.place → tail ≡ rank_tail u →

@@ -1,6 +1,7 @@
 -- Ends of which is remembered that they come too late, and those that are left.
-use Rattle.std.proofs.Common.{◌≡◌, refl, sym, subst, ◌<◌, ℕ, Bool, List, [], ◌∷◌, ◌++◌, append_assoc, ◌∙◌, length, arith, ℤ}
-use Rattle.std.specs.Prelude.{◌+ℤ◌, Option, Some, true}
+use Rattle.std.proofs.Common.{◌≡◌, refl, sym, ap, subst, ◌<◌, ℕ, Bool, List, [], ◌∷◌, ◌++◌, append_assoc, ◌∙◌, length, length-append, arith, ℤ}
+use Rattle.std.specs.Prelude.{◌+ℤ◌, Option, Some, None, true}
+use Rattle.std.proofs.lemmas.Int.{ints}
 use Rattle.std.specs.List.{AllByRecursion}
 use Rattle.pg_lemmas.proofs.Lists.{all_append, all_parts}
 use Rattle.law_moves.specs.Steps.{fitness_cost, kept_fitness}
@@ -12,11 +13,11 @@ use Rattle.pg_plan.specs.declared.states.State.{State}
 use Rattle.pg_rooms.specs.Laid.{laid_of}
 use Rattle.pg_rooms.specs.declared.laid.Laid.{Laid}
 use Rattle.pg_rules.specs.Room.{Document}
-use Rattle.pg_states.specs.Marks.{along, is_marked}
+use Rattle.pg_states.specs.Marks.{Marks, along, is_marked}
 use Rattle.pg_states.specs.declared.settling.Settled.{Settled}
 use Rattle.pg_style.specs.Values.{StyleValue}
 use Rattle.pg_table.specs.declared.step.Step.{Step}
-use Rattle.pg_moves.specs.Outdone.{AreLeft, AreSameMarks, AreSpared, IsAsked, IsLate, IsLateBy, IsSkipping}
+use Rattle.pg_moves.specs.Outdone.{AreLeft, AreSameMarks, AreSpared, IsAsked, IsLate, IsLateBy, IsSkipping, marked_at}
 use Rattle.pg_moves.specs.Stepping.{IsBehind, IsOpenAt}
 use Rattle.pg_moves.specs.Thinned.{Adds}
 use Rattle.pg_moves.specs.declared.behind.Behind.{Behind}
@@ -24,6 +25,26 @@ use Rattle.pg_moves.specs.declared.behind.Reached.{Reached}
 use Rattle.pg_moves.proofs.Added.{adds_more, adds_none, adds_same}
 use Rattle.pg_moves.proofs.Built.{asked_is, late_at, step}
 use Rattle.pg_moves.proofs.Stepped.{Going, going_more, listed_append, listed_of, outdone_step}
+
+-- ---- what is remembered
+
+-- of nothing nothing is told
+pub none_told : (spared : State → ℤ → Bool) (page : ℤ) (it : Option Reached) → it ≡ None → (v : State) (pays : ℤ) →
+    marked_at it v pays ≡ true → spared v (page +ℤ pays) ≡ true
+none_told spared page None e v pays h = absurd cc
+none_told spared page (Some it) e v pays h = absurd cc
+
+-- what is told of moves from a label is told beside what the column pays for its page
+pub told_at : (spared : State → ℤ → Bool) (line marks : Marks) (cost page sum : ℤ) → line ≡ marks →
+    sum ≡ cost +ℤ page →
+    ((v : State) (pays : ℤ) → is_marked marks v (cost +ℤ pays) ≡ true → spared v pays ≡ true) →
+    (v : State) (pays : ℤ) → is_marked line v (sum +ℤ pays) ≡ true → spared v (page +ℤ pays) ≡ true
+told_at spared line marks cost page sum m s told v pays h = told v (page +ℤ pays)
+    (subst (λ (it : Marks). is_marked it v (cost +ℤ (page +ℤ pays)) ≡ true) m
+    (subst (λ (c : ℤ). is_marked line v c ≡ true) in_order h))
+  where
+    in_order : sum +ℤ pays ≡ cost +ℤ (page +ℤ pays)
+    in_order = omega (arith, ints, s)
 
 -- ---- ends that are left
 
@@ -44,6 +65,14 @@ late_more style u it ends rest after end is left late = record {
       ∙ sym (append_assoc left.first (end ∷ []) after));
   late = all_append (IsLate style u it) left.first (end ∷ []) left.late (late, tt);
 }
+
+-- fewer are left than before one more was looked at
+pub left_fewer : (style : StyleValue) (u : State) (it : Behind) (rest after left : List RoomEnd) (end : RoomEnd) →
+    rest ≡ end ∷ after → AreLeft style u it after left → length left < length rest
+left_fewer style u it rest after left end split are =
+    let longer = ap length split in
+    let parts = ap length are.whole in
+    omega (arith, longer, parts, length-append are.first left)
 
 -- ---- while they are passed over
 

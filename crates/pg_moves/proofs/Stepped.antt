@@ -391,6 +391,15 @@ behind_added doc u spared it behind left room old new is some step all are = sub
     steps_at doc u behind.ends.walk.near.picks behind.ends.rooms.items x it) o []) new)
     (sym some ∙ is) (step all are.rooms)
 
+-- there are none where the room of a layout leaves nothing
+pub behind_none : (doc : Document) (u : State) (spared : State → ℤ → Bool) (it : Laid) (behind : Behind)
+    (left : Option TextRoom) (old : List (Step State PageMove)) → left ≡ room_behind behind it.room → left ≡ None →
+    Adds spared old (steps_behind doc u (Some behind) it) old
+behind_none doc u spared it behind left old is none = subst (λ (o : Option TextRoom).
+    Adds spared old (option_map_or (λ (x : TextRoom).
+    steps_at doc u behind.ends.walk.near.picks behind.ends.rooms.items x it) o []) old)
+    (sym none ∙ is) (adds_none spared old)
+
 module _ (doc : Document) (u : State) (spared : State → ℤ → Bool) (it : Laid) (kept : PlaceEnds)
     (text : has_text doc.style it.room ≡ true) where
   abbrev first_steps : List (Step State PageMove)

@@ -5,16 +5,14 @@ ghost use Rattle.pg_rules.specs.IsState.{IsState};
 ghost use Rattle.pg_rules.specs.Room.{Document};
 ghost use Rattle.law_moves.specs.Steps.{fitness_cost as fitness_cost_of, kept_fitness as kept_fitness_of};
 ghost use Rattle.pg_sources.specs.Document.{doc_of};
-ghost use Rattle.pg_rooms.specs.Laid.{laid_of};
 ghost use Rattle.law_space.specs.PageSpace.{rank};
 ghost use Rattle.pg_plan.specs.declared.states.State.{State as AState};
 ghost use Rattle.pg_states.specs.Marks.{along};
 ghost use Rattle.pg_moves.specs.Outdone.{AreLeft, AreSameMarks, AreSpared, IsAsked, IsLateBy, marked_at};
-ghost use Rattle.pg_moves.specs.Stepping.{IsBehind, rank_tail};
+ghost use Rattle.pg_moves.specs.Stepping.{IsBehind};
 
 use crate::steps::{fitness_price, kept_fitness, page_price, parts_behind, text_price};
 use pg_candidates::RoomEnd;
-use pg_floats::total;
 use pg_list::Place;
 use pg_plan::State;
 use pg_rooms::Laid;
@@ -83,24 +81,6 @@ impl Reached<'_> {
         let cost = large_plus(self.cost, pays);
         self.line.is_outdone(own, place, fitness, cost)
     }
-}
-
-// What a state gives to its rank, but for its place, where so many floats are placed.
-fn tail_of(state: &SmallState, placed: u32) -> u64
-    requires { placed ≡ total_count state.now.placed }
-    ensures { result ≡ rank_tail state.now }
-{
-    rest_rank(state, placed)
-}
-
-/// How many floats are placed behind a column.
-pub(crate) fn count_after(sources: &Sources<'_>, state: &State, laid: &Laid) -> u32
-    requires { laid.now ≡ laid_of (doc_of sources.now) state.now laid.now.layout }
-    ensures { result ≡ total_count laid.now.after }
-{
-    // hands on that the classes are few
-    let _ = sources.slots();
-    total(laid.after.as_slice())
 }
 
 // A rank of its two parts, in 64 bits.
@@ -223,7 +203,7 @@ impl Behind<'_> {
         requires { placed ≡ total_count self.now.state.placed }
         ensures { (doc : Document) → result ≡ rank doc self.now.state % 2 ^ 64 }
     {
-        joined(place_rank(&self.state), tail_of(&self.state, placed))
+        joined(place_rank(&self.state), rest_rank(&self.state, placed))
     }
 
     /// What the column of text to an end costs.

@@ -16,7 +16,7 @@ ghost use Rattle.pg_moves.specs.Outdone.{AreSpared};
 ghost use Rattle.pg_moves.specs.Stepping.{page_price as page_price_of, state_behind as state_behind_of};
 ghost use Rattle.pg_moves.specs.Thinned.{Adds};
 
-use crate::behind::{Behind, count_after, first_behind};
+use crate::behind::{Behind, first_behind};
 use crate::column::TextColumn;
 use pg_candidates::RoomEnd;
 use pg_list::Place;
@@ -244,8 +244,8 @@ fn add_end<W: Wants<State = SmallState, Marks = PageMarks>>(
     }
     let cost = behind.cost_to(style, column.state, end);
     behind.end_at(style, end);
-    let placed = count_after(column.sources, column.state, column.laid);
-    if !wants.wants(&behind.state, behind.rank(placed), cost) {
+    let rank = behind.rank(column.laid.placed);
+    if !wants.wants(&behind.state, rank, cost) {
         return Ok(());
     }
     push_step(column, end, &behind.state, cost, steps)?;

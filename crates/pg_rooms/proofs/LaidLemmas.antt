@@ -23,6 +23,7 @@ use Rattle.pg_lemmas.proofs.Lists.{all_append, one_more}
 use Rattle.pg_lemmas.proofs.Bools.{both_of, by_bool, if_false}
 use Rattle.std.proofs.lemmas.Bool.{eqb-true}
 use Rattle.law_moves.proofs.Moves.{checked_give_is, checked_is, same_give}
+use Rattle.law_moves.specs.Listed.{placed_with}
 use Rattle.law_moves.specs.Steps.{area_of, give_of, text_give, text_room, text_size, wide_of}
 use Rattle.pg_rooms.specs.Laid.{IsLaidBy, IsThere, laid_of}
 use Rattle.pg_rooms.specs.Runs.{IsLow}
@@ -129,20 +130,23 @@ room_is doc u layout wide before below full w t b by f h i j =
         ((f -ℤ w) -ℤ t) -ℤ b ≡ ((f' -ℤ w') -ℤ t') -ℤ b'
     left_is f w t b f' w' t' b' p q r s = cc
 
-pub laid_is : (doc : Document) (u : State) (layout kept : Layout) (wide : Option ℤ) (before below after : List ℕ) (room : TextRoom) →
-    IsLaidBy doc u layout wide before below → after ≡ plus_counts doc.style below layout.bottom →
-    room ≡ text_room doc u layout → kept ≡ layout →
-    ◌≡◌ {A = Laid} (record { layout = kept; wide = wide; after = after; room = room }) (laid_of doc u layout)
-laid_is doc u layout kept wide before below after room by a r k =
-    same kept _ wide _ after _ room _ k by.wide_is
-    (a ∙ (ap (λ (counts : List ℕ). plus_counts doc.style counts layout.bottom) by.below_is
-    ∙ ap (λ (counts : List ℕ). plus_counts doc.style (plus_counts doc.style counts layout.top) layout.bottom)
-    by.before_is)) r
+pub laid_is : (doc : Document) (u : State) (layout kept : Layout) (wide : Option ℤ) (before below after : List ℕ) (placed : ℕ)
+    (room : TextRoom) → IsLaidBy doc u layout wide before below → after ≡ plus_counts doc.style below layout.bottom →
+    placed ≡ total_count after → room ≡ text_room doc u layout → kept ≡ layout →
+    ◌≡◌ {A = Laid} (record { layout = kept; wide = wide; after = after; placed = placed; room = room })
+    (laid_of doc u layout)
+laid_is doc u layout kept wide before below after placed room by a n r k =
+    same kept _ wide _ after _ placed _ room _ k by.wide_is is (n ∙ ap total_count is) r
   where
-    same : (l l' : Layout) (w w' : Option ℤ) (a a' : List ℕ) (r r' : TextRoom) → l ≡ l' → w ≡ w' → a ≡ a' → r ≡ r' →
-        ◌≡◌ {A = Laid} (record { layout = l; wide = w; after = a; room = r })
-        (record { layout = l'; wide = w'; after = a'; room = r' })
-    same l l' w w' a a' r r' o p q s = cc
+    is : after ≡ placed_with doc.style u.placed layout
+    is = a ∙ (ap (λ (counts : List ℕ). plus_counts doc.style counts layout.bottom) by.below_is
+        ∙ ap (λ (counts : List ℕ). plus_counts doc.style (plus_counts doc.style counts layout.top) layout.bottom)
+        by.before_is)
+
+    same : (l l' : Layout) (w w' : Option ℤ) (a a' : List ℕ) (n n' : ℕ) (r r' : TextRoom) → l ≡ l' → w ≡ w' → a ≡ a' →
+        n ≡ n' → r ≡ r' → ◌≡◌ {A = Laid} (record { layout = l; wide = w; after = a; placed = n; room = r })
+        (record { layout = l'; wide = w'; after = a'; placed = n'; room = r' })
+    same l l' w w' a a' n n' r r' o p q t s = cc
 
 -- one more layout behind those before it
 pub laid_more : (doc : Document) (u : State) (layouts : List Layout) (i : ℕ) (layout copy : Layout) (it : Laid)

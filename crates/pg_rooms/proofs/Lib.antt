@@ -1,3 +1,4 @@
+pub mod Added
 pub mod Higher
 pub mod Joined
 pub mod Dealt
@@ -9,4 +10,5 @@ pub mod Running
 pub mod Called
 pub mod Grouped
 pub mod Kept
+pub mod Asked
 pub mod Serving

@@ -14,7 +14,7 @@ use Rattle.pg_column.specs.declared.cost.TextRoom.{TextRoom}
 use Rattle.pg_style.specs.declared.style.Give.{Give}
 use Rattle.pg_plan.specs.declared.states.State.{State}
 use Rattle.pg_style.specs.Values.{StyleValue}
-use Rattle.pg_rules.specs.Floats.{gap_shrink, gap_stretch}
+use Rattle.pg_rules.specs.Floats.{gap_shrink, gap_stretch, total_count}
 use Rattle.pg_rules.specs.Room.{Document}
 use Rattle.pg_layouts.specs.declared.layout.Layout.{Layout}
 use Rattle.pg_layouts.specs.Layouts.{float_layouts, layout_of, runs_of, takes_run, text_layouts, wides_of, with_bottoms, with_floats, with_tops, zeros}
@@ -86,19 +86,21 @@ all_low [] low = tt
 all_low (it ∷ laid) low = (low.0.small, all_low laid low.1)
 
 -- a layout by its parts
-pub in_run_is : (style : StyleValue) (run : ℕ) (it : Laid) (layout : Layout) (after : List ℕ) (room : TextRoom) (more : ℤ) →
-    layout ≡ with_run run it.layout → after ≡ it.after →
+pub in_run_is : (style : StyleValue) (run : ℕ) (it : Laid) (layout : Layout) (after : List ℕ) (placed : ℕ) (room : TextRoom)
+    (more : ℤ) → layout ≡ with_run run it.layout → after ≡ it.after → placed ≡ it.placed →
     more ≡ full_in style run -ℤ full_in style it.layout.run → room.size ≡ it.room.size +ℤ more →
     room.give ≡ it.room.give →
-    ◌≡◌ {A = Laid} (record { layout = layout; wide = it.wide; after = after; room = room }) (laid_in style run it)
-in_run_is style run it layout after room more l a m s g =
-    same layout _ after _ room.size _ room.give _ l a
+    ◌≡◌ {A = Laid} (record { layout = layout; wide = it.wide; after = after; placed = placed; room = room })
+    (laid_in style run it)
+in_run_is style run it layout after placed room more l a n m s g =
+    same layout _ after _ placed _ room.size _ room.give _ l a n
     (s ∙ ap (λ (z : ℤ). it.room.size +ℤ z) m) g
   where
-    same : (l l' : Layout) (a a' : List ℕ) (s s' : ℤ) (g g' : Give) → l ≡ l' → a ≡ a' → s ≡ s' → g ≡ g' → ◌≡◌ {A = Laid}
-        (record { layout = l; wide = it.wide; after = a; room = record { size = s; give = g } })
-        (record { layout = l'; wide = it.wide; after = a'; room = record { size = s'; give = g' } })
-    same l l' a a' s s' g g' p q r u = cc
+    same : (l l' : Layout) (a a' : List ℕ) (n n' : ℕ) (s s' : ℤ) (g g' : Give) → l ≡ l' → a ≡ a' → n ≡ n' → s ≡ s' →
+        g ≡ g' → ◌≡◌ {A = Laid}
+        (record { layout = l; wide = it.wide; after = a; placed = n; room = record { size = s; give = g } })
+        (record { layout = l'; wide = it.wide; after = a'; placed = n'; room = record { size = s'; give = g' } })
+    same l l' a a' n n' s s' g g' p q o r u = cc
 
 -- ---- and so is what they make of their pages
 
@@ -111,6 +113,7 @@ laid_run doc u run layout = ap {A = ℤ} {B = Laid} (λ (size : ℤ). record {
   layout = with_run run layout;
   wide = wide_of doc u layout.wide;
   after = placed_with doc.style u.placed layout;
+  placed = total_count (placed_with doc.style u.placed layout);
   room = record {
     size = size;
     give = record { stretch = text_give gap_stretch doc u layout; shrink = text_give gap_shrink doc u layout };

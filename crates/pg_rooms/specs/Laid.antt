@@ -1,7 +1,7 @@
 -- A layout with what it makes of its page.
 use Rattle.std.specs.Prelude.{◌≡◌, ℕ, ◌≤◌, ◌<◌, true, List, length, Option, ℤ}
 use Rattle.pg_plan.specs.declared.states.State.{State}
-use Rattle.pg_rules.specs.Floats.{dealt, entry, float_numbers, floats, has_all, plus_counts}
+use Rattle.pg_rules.specs.Floats.{dealt, entry, float_numbers, floats, has_all, plus_counts, total_count}
 use Rattle.pg_rules.specs.Room.{Document}
 use Rattle.pg_column.specs.Numbers.{IsRoom}
 use Rattle.pg_layouts.specs.Fit.{Fit}
@@ -36,12 +36,14 @@ pub record IsLaidBy (doc : Document) (u : State) (layout : Layout) (wide : Optio
   pub before_is : before ≡ plus_counts doc.style u.placed layout.wide
   pub below_is : below ≡ plus_counts doc.style before layout.top
 
--- the height of its page's wide area, the floats that are placed behind it, and what it leaves to a text
+-- the height of its page's wide area, the floats that are placed behind it, how many these are, and what it leaves to a
+-- text
 abbrev pub laid_of : Document → State → Layout → Laid
 laid_of doc u layout = record {
   layout = layout;
   wide = wide_of doc u layout.wide;
   after = placed_with doc.style u.placed layout;
+  placed = total_count (placed_with doc.style u.placed layout);
   room = text_room doc u layout;
 }
 

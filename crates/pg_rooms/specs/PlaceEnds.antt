@@ -23,6 +23,7 @@ use Rattle.pg_walk.specs.Fronts.{AreApart, IsFrontWalkOf}
 use Rattle.pg_walk.specs.Moved.{moved_candidate}
 use Rattle.pg_walk.specs.Straight.{straight_candidates}
 use Rattle.pg_rooms.specs.Calls.{AreCalls}
+use Rattle.pg_rooms.specs.declared.calls.Call.{Call}
 use Rattle.pg_rooms.specs.declared.grouping.Group.{Group}
 use Rattle.pg_rooms.specs.declared.behind.Behind.{Behind}
 use Rattle.pg_rooms.specs.declared.behind.FrontEnds.{FrontEnds}
@@ -101,6 +102,15 @@ is_same_room a b =
 abbrev pub has_room : List RoomEnds → TextRoom → Bool
 has_room [] room = false
 has_room (first ∷ rooms) room = if is_same_room first.room room then true else has_room rooms room
+
+-- the ends in one more room are kept; what was right of rooms and of calls is still right
+pub record AddsRoom (doc : Document) (near : NearsValue) (room : TextRoom) (old new : List RoomEnds)
+    (before after : List Call) : Type 0 where
+  pub has : has_room new room ≡ true
+  pub keeps : (other : TextRoom) → has_room old other ≡ true → has_room new other ≡ true
+  pub right : (cs : List Candidate) → IsNearOnPages doc cs near → IsPageRoom doc.style room → AreCalls doc before →
+      AllByRecursion (AreRoomEnds doc cs near.picks) old → AllByRecursion (AreRoomEnds doc cs near.picks) new
+  pub calls : AreCalls doc before → AreCalls doc after
 
 -- the ends in a room, where they are kept
 abbrev pub ends_in : List RoomEnds → TextRoom → List RoomEnd

@@ -14,7 +14,7 @@ ghost use Rattle.pg_rooms.specs.Laid.{IsLaid, IsLaidBy, IsThere, laid_of};
 ghost use Rattle.pg_rooms.specs.Runs.{IsLow};
 
 use pg_column::TextRoom;
-use pg_floats::{checked_area, checked_give, count_floats, full_height};
+use pg_floats::{checked_area, checked_give, count_floats, full_height, total};
 use pg_layouts::{Layout, plus_counts};
 use pg_plan::{Counts, State};
 use pg_scaled::minus;
@@ -23,12 +23,14 @@ use pg_sources::Sources;
 use pg_style::{AreaRule, Give};
 use std::alloc::AllocError;
 
-/// A layout, the height of its page's wide area, the floats that are placed behind it, and the room of a text in it.
+/// A layout, the height of its page's wide area, the floats that are placed behind it, how many these are, and the room of a
+/// text in it.
 #[derive(Drop)]
 pub struct Laid {
     pub layout: SmallLayout,
     pub wide: Option<i64>,
     pub after: Counts,
+    pub placed: u32,
     pub room: TextRoom,
 }
 
@@ -104,6 +106,16 @@ fn bottom_area(sources: &Sources<'_>, before: &Counts, counts: &Counts) -> i64
     }
     let style = sources.style;
     checked_area(sources.floats, true, &style.bottom, before, counts)
+}
+
+// How many floats counts deal out.
+fn count(sources: &Sources<'_>, counts: &Counts) -> u32
+    requires { length counts.now ≡ length (float_numbers sources.now.style.now) }
+    ensures { result ≡ total_count counts.now }
+{
+    // hands on that the classes are few
+    let _ = sources.slots();
+    total(counts.as_slice())
 }
 
 /// Whether counts deal out a float.
@@ -221,11 +233,13 @@ pub fn lay(sources: &Sources<'_>, state: &State, layout: Layout) -> Result<Laid,
     let below = plus(sources, &before, &layout.top)?;
     let after = plus(sources, &below, &layout.bottom)?;
     let wide = wide_height(sources, state, &layout.wide);
+    let placed = count(sources, &after);
     let room = room(sources, wide, &before, &below, &layout);
     Ok(Laid {
         layout: SmallLayout::of(sources.alloc, layout)?,
         wide,
         after,
+        placed,
         room,
     })
 }

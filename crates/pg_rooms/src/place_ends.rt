@@ -14,7 +14,7 @@ ghost use Rattle.pg_walk.specs.Straight.{Tells, straight_candidates, tallest_roo
 ghost use Rattle.pg_rooms.specs.declared.laid.Laid.{Laid as ALaid};
 ghost use Rattle.pg_sources.specs.Document.{doc_of};
 ghost use Rattle.pg_rooms.specs.Calls.{AreCalls};
-ghost use Rattle.pg_rooms.specs.PlaceEnds.{AreFirst, AreFrontEndsOf, ArePlaceEnds, AreRoomEnds, IsNearOnPages, IsPageRoom, behind_candidates, ends_in as ends_in_of, groups_in as groups_in_of, has_behind, has_room, is_same_room};
+ghost use Rattle.pg_rooms.specs.PlaceEnds.{AddsRoom, AreFirst, AreFrontEndsOf, ArePlaceEnds, AreRoomEnds, IsNearOnPages, IsPageRoom, behind_candidates, ends_in as ends_in_of, groups_in as groups_in_of, has_behind, has_room, is_same_room};
 
 use crate::Laid;
 use crate::behind::Behind;
@@ -132,15 +132,8 @@ fn make_room(
     calls: &mut Calls,
 ) -> Result<(), AllocError>
     requires { IsRoom room.now }
-    ensures has { OnOk result (has_room rooms.new.items room.now ≡ true) }
-    ensures keeps { OnOk result ((other : ATextRoom) → has_room rooms.old.items other ≡ true →
-        has_room rooms.new.items other ≡ true) }
-    ensures right { OnOk result ((cs : List Candidate) → IsNearOnPages (doc_of sources.now) cs near.now →
-        IsPageRoom sources.now.style.now room.now → AreCalls (doc_of sources.now) calls.old.items.items →
-        AllByRecursion (AreRoomEnds (doc_of sources.now) cs near.now.picks) rooms.old.items →
-        AllByRecursion (AreRoomEnds (doc_of sources.now) cs near.now.picks) rooms.new.items) }
-    ensures calls { OnOk result (AreCalls (doc_of sources.now) calls.old.items.items →
-        AreCalls (doc_of sources.now) calls.new.items.items) }
+    ensures { OnOk result (AddsRoom (doc_of sources.now) near.now room.now rooms.old.items rooms.new.items
+        calls.old.items.items calls.new.items.items) }
 {
     let ends = near.text_ends(sources.alloc, sources.style, room)?;
     keep_room(sources, room, ends, Vec::new(sources.alloc), rooms, calls)

@@ -57,6 +57,7 @@ fn in_run(sources: &Sources<'_>, it: &Laid, run: u8) -> Result<Laid, AllocError>
         layout: it.layout.in_run(sources.alloc, run)?,
         wide: it.wide,
         after: it.after.copy()?,
+        placed: it.placed,
         room,
     })
 }

@@ -1,7 +1,11 @@
 use Rattle.std.proofs.Common.{◌≡◌, ◌++◌, ◌∙◌, ap, subst, map, List, ℕ, OnOk}
 use Rattle.pg_rules.specs.Floats.{takes_bottom}
 use Rattle.pg_layouts.specs.Layouts.{area_lists, layout_of}
+use Rattle.pg_layouts.proofs.Answered.{at_err}
 use Rattle.pg_layouts.proofs.layouts.push_bottoms.Goals as goal
+
+pub returns-in_err-bottoms : goal.returns-in_err-bottoms
+returns-in_err-bottoms c = at_err _ c.from_residual.result c.from_residual.ensures.0
 
 pub returns : goal.returns
 returns c = subst (λ (bottoms : List (List ℕ)). OnOk c.push_each.result (c.push_each.new.layouts.items

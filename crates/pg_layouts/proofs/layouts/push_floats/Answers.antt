@@ -3,7 +3,14 @@ use Rattle.pg_rules.specs.Floats.{takes_in_column}
 use Rattle.pg_layouts.specs.Behind.{floats_alone}
 use Rattle.pg_layouts.specs.Layouts.{area_lists}
 use Rattle.pg_layouts.proofs.Fits.{zeros_made}
+use Rattle.pg_layouts.proofs.Answered.{at_err}
 use Rattle.pg_layouts.proofs.layouts.push_floats.Goals as goal
+
+pub returns-in_err-tops : goal.returns-in_err-tops
+returns-in_err-tops c = at_err _ c.from_residual.result c.from_residual.ensures.0
+
+pub zeros-none-requires : goal.zeros-none-requires
+zeros-none-requires c = c.args.search.now.few
 
 pub returns : goal.returns
 returns c =

@@ -5,7 +5,11 @@ use Rattle.pg_rules.specs.Floats.{takes_top}
 use Rattle.pg_layouts.specs.Behind.{bottoms_behind}
 use Rattle.pg_layouts.specs.Layouts.{area_lists}
 use Rattle.pg_layouts.proofs.Fits.{fits_below, short_of}
+use Rattle.pg_layouts.proofs.Answered.{at_err}
 use Rattle.pg_layouts.proofs.layouts.push_tops.Goals as goal
+
+pub returns-in_err-tops : goal.returns-in_err-tops
+returns-in_err-tops c = at_err _ c.from_residual.result c.from_residual.ensures.0
 
 pub push_each_top-requires : goal.push_each_top-requires
 push_each_top-requires c = λ top m.

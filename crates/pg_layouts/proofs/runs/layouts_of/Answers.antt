@@ -5,7 +5,11 @@ use Rattle.pg_layouts.specs.Fit.{Fit}
 use Rattle.pg_layouts.specs.Layouts.{runs_of, wides_of}
 use Rattle.pg_layouts.proofs.Fits.{Short, fits_wides, short_of}
 use Rattle.pg_layouts.proofs.Answered.{grown_from}
+use Rattle.std.proofs.lemmas.Result.{IfOk-from_err}
 use Rattle.pg_layouts.proofs.runs.layouts_of.Goals as goal
+
+pub returns-in_err-wides : goal.returns-in_err-wides
+returns-in_err-wides c = IfOk-from_err c.from_residual.result _ c.from_residual.ensures.0
 
 pub push_runs-requires : goal.push_runs-requires
 push_runs-requires c = λ wide m.
@@ -15,6 +19,10 @@ push_runs-requires c = λ wide m.
     (subst Short c.requires (short_of c.args.placed.now c.type_inv.placed))
     c.args.search.now.short wide
     (subst (λ (lists : List (List ℕ)). Contains lists wide) wides m))
+
+pub returns-in_err-push_runs : goal.returns-in_err-push_runs
+returns-in_err-push_runs c = IfOk-from_err c.from_residual-in_err-push_runs.result _
+    c.from_residual-in_err-push_runs.ensures.0
 
 pub returns : goal.returns
 returns c = grown_from c.args.search.now.kind c.args.search.now.style.now c.args.state.now.placed

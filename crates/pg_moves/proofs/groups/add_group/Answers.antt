@@ -1,7 +1,9 @@
-use Rattle.std.proofs.Common.{◌∙◌, ap}
+use Rattle.std.proofs.Common.{◌≤◌, ◌^◌, ◌∙◌, ap, subst, Option, IfSome}
 use Rattle.std.proofs.lemmas.Result.{on_ok_weaker}
 use Rattle.pg_sources.specs.declared.calls.Before.{Before}
 use Rattle.pg_moves.specs.Columns.{doc_at}
+use Rattle.pg_states.specs.declared.settling.Settled.{Settled}
+use Rattle.pg_moves.proofs.AllSteps.{at_err}
 use Rattle.pg_moves.proofs.Stepped.{group_closed, group_old, group_open}
 use Rattle.pg_moves.proofs.groups.add_group.Goals as goal
 
@@ -30,3 +32,19 @@ returns-in-Some g c =
     c.may_end.result c.in_ok-settle.field-0 c.in-Some.settled c.as_slice.ensures c.if-not-may_end.false
     (λ to e. c.may_end.ensures column.state.now to c.requires.known e) c.in-Some.is
     (λ to e. c.in_ok-settle.ensures.settles to (c.as_slice-2.ensures ∙ ap (λ (it : Before). it.called) e)) all)) c.add_ends.ensures
+
+pub settle-requires : goal.settle-requires
+settle-requires g c = c.requires.known
+
+pub add_ends-requires-clause-own : goal.add_ends-requires-clause-own
+add_ends-requires-clause-own g c = c.requires.own
+
+pub add_ends-requires-clause-laid : goal.add_ends-requires-clause-laid
+add_ends-requires-clause-laid g c = c.requires.laid
+
+pub add_ends-requires-clause-price : goal.add_ends-requires-clause-price
+add_ends-requires-clause-price g c = subst (λ (it : Option Settled). IfSome it (λ settled. settled.price ≤ 2 ^ 51))
+    c.in-Some.is c.in_ok-settle.ensures.small
+
+pub returns-in_err-settle : goal.returns-in_err-settle
+returns-in_err-settle g c = at_err _ c.from_residual.result c.from_residual.ensures.0

@@ -1,5 +1,6 @@
 use Rattle.std.proofs.Common.{◌≡◌, ◌++◌, ◌∙◌, ap, subst, sym, length, List}
 use Rattle.std.proofs.lemmas.List.{append-nil}
+use Rattle.std.proofs.lemmas.Result.{on_ok_weaker}
 use Rattle.std.specs.Prelude.{Contains, OnOk}
 use Rattle.pg_plan.specs.declared.pages.PageMove.{PageMove}
 use Rattle.pg_plan.specs.declared.states.State.{State}
@@ -48,3 +49,24 @@ returns-then-not-may_have_floats-clause-steps c =
     sym (ap (λ (more : List (Step State PageMove)). c.args.steps.now ++ more)
     (no_columns (doc_of c.args.sources.now) c.args.state.now c.requires.own.placed
     (subst (λ (it : Known). total_count it.waits ≡ 0) c.requires.known none.0) none.1) ∙ append-nil c.args.steps.now)
+
+pub find_stays-requires-clause-own : goal.find_stays-requires-clause-own
+find_stays-requires-clause-own c = c.requires.own
+
+pub find_stays-requires-clause-kept : goal.find_stays-requires-clause-kept
+find_stays-requires-clause-kept c = c.requires.layouts
+
+pub add_stays-requires-clause-own : goal.add_stays-requires-clause-own
+add_stays-requires-clause-own c = c.requires.own
+
+pub add_stays-requires-clause-known : goal.add_stays-requires-clause-known
+add_stays-requires-clause-known c = c.requires.known
+
+pub returns-clause-layouts : goal.returns-clause-layouts
+returns-clause-layouts c = on_ok_weaker c.add_stays.result (λ _. c.in_ok-at.ensures.kept) c.add_stays.ensures
+
+pub returns-in_err-at-clause-layouts : goal.returns-in_err-at-clause-layouts
+returns-in_err-at-clause-layouts c = at_err _ c.from_residual.result c.from_residual.ensures.0
+
+pub returns-then-not-may_have_floats-clause-layouts : goal.returns-then-not-may_have_floats-clause-layouts
+returns-then-not-may_have_floats-clause-layouts c = c.requires.layouts

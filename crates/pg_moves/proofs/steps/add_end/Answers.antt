@@ -5,7 +5,7 @@ use Rattle.pg_plan.specs.declared.states.State.{State}
 use Rattle.pg_rules.specs.Floats.{total_count}
 use Rattle.pg_moves.specs.Columns.{IsBehindIt, doc_at, move_at}
 use Rattle.pg_moves.specs.Outdone.{AreSpared}
-use Rattle.pg_moves.proofs.Built.{asked_is, step, still_behind, still_spared}
+use Rattle.pg_moves.proofs.Built.{asked_is, placed_is, step, still_behind, still_spared}
 use Rattle.pg_moves.proofs.Stepped.{not_stepped, not_wanted, stepped}
 use Rattle.pg_moves.proofs.steps.add_end.Goals as goal
 use Rattle.pg_moves.proofs.steps.add_end.Goals.{After-end_at}
@@ -25,9 +25,10 @@ spared g c = still_spared (g.W.Wants.spares c.args.wants.now) c.args.behind.now 
 pub cost_to-cost-requires : goal.cost_to-cost-requires
 cost_to-cost-requires g c = c.requires.behind.small
 
-pub rank-requires : goal.rank-requires
-rank-requires g c = c.count_after-placed.ensures ∙ ap total_count (sym (ap (λ (v : State). v.placed)
-    (behind g (goal.at.rank-requires g c).After-end_at).state))
+pub rank-rank-requires : goal.rank-rank-requires
+rank-rank-requires g c = placed_is (doc_at c.args.column.now) c.args.column.now.state.now c.args.column.now.laid.now
+    c.requires.laid ∙ ap total_count (sym (ap (λ (v : State). v.placed)
+    (behind g (goal.at.rank-rank-requires g c).After-end_at).state))
 
 pub returns-then-ends_here-clause-added : goal.returns-then-ends_here-clause-added
 returns-then-ends_here-clause-added g c =

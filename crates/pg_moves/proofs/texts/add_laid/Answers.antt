@@ -6,6 +6,7 @@ use Rattle.pg_rooms.specs.PlaceEnds.{AreRoomEnds}
 use Rattle.pg_rooms.specs.declared.place_ends.RoomEnds.{RoomEnds}
 use Rattle.pg_moves.specs.Stepping.{steps_at}
 use Rattle.pg_moves.specs.Thinned.{Adds}
+use Rattle.pg_moves.proofs.AllSteps.{at_err}
 use Rattle.pg_moves.proofs.Stepped.{added_alone, added_both}
 use Rattle.pg_moves.proofs.texts.add_laid.Goals as goal
 
@@ -35,3 +36,27 @@ returns-in-None g c = λ right.
     c.add_kept.new.steps) c.as_slice-rooms.ensures.value (c.in_ok-add_kept.ensures right.first) in
     added_alone doc u spares c.args.laid.now kept (sym c.has_text.ensures ∙ c.if-not-has_text.false) c.args.steps.now
     c.add_kept.new.steps c.in-None.is (first right.rooms)
+
+pub add_kept-requires-clause-own : goal.add_kept-requires-clause-own
+add_kept-requires-clause-own g c = c.requires.own
+
+pub add_kept-requires-clause-known : goal.add_kept-requires-clause-known
+add_kept-requires-clause-known g c = c.requires.known
+
+pub add_kept-requires-clause-laid : goal.add_kept-requires-clause-laid
+add_kept-requires-clause-laid g c = c.requires.laid
+
+pub add_behind-requires-clause-own : goal.add_behind-requires-clause-own
+add_behind-requires-clause-own g c = c.requires.own
+
+pub add_behind-requires-clause-known : goal.add_behind-requires-clause-known
+add_behind-requires-clause-known g c = c.requires.known
+
+pub add_behind-requires-clause-laid : goal.add_behind-requires-clause-laid
+add_behind-requires-clause-laid g c = c.requires.laid
+
+pub add_behind-requires-clause-room : goal.add_behind-requires-clause-room
+add_behind-requires-clause-room g c = c.requires.room
+
+pub returns-in_err-add_kept : goal.returns-in_err-add_kept
+returns-in_err-add_kept g c = at_err _ c.from_residual.result c.from_residual.ensures.0

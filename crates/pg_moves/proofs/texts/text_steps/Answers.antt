@@ -1,4 +1,5 @@
 use Rattle.std.proofs.Common.{◌∙◌, ap, subst, sym, List, ℕ}
+use Rattle.std.proofs.lemmas.Result.{IfOk-from_err}
 use Rattle.std.specs.Prelude.{Contains}
 use Rattle.std.specs.List.{AllByRecursion}
 use Rattle.pg_column.specs.Numbers.{IsRoom}
@@ -11,7 +12,7 @@ use Rattle.law_moves.specs.Listed.{beyond}
 use Rattle.pg_rooms.specs.Laid.{HasSoMany}
 use Rattle.pg_rooms.proofs.Dealt.{called_has}
 use Rattle.pg_moves.specs.Stepping.{AreTextSteps}
-use Rattle.pg_moves.proofs.AllSteps.{laid_own, text_steps_are}
+use Rattle.pg_moves.proofs.AllSteps.{at_err, laid_own, text_steps_are}
 use Rattle.pg_moves.proofs.texts.text_steps.Goals as goal
 
 pub candidates_give_ends-requires-clause-blocks : goal.candidates_give_ends-requires-clause-blocks
@@ -50,3 +51,86 @@ pub returns-clause-kept : goal.returns-clause-kept
 returns-clause-kept g c = c.in_ok-ask_all.ensures.right
     (subst (AllByRecursion (λ (it : Laid). IsPageRoom c.args.opening.now.sources.now.style.now it.room))
     (sym c.texts-laid.ensures) c.in_ok-at.ensures.laid.low)
+
+pub find_texts-requires-clause-own : goal.find_texts-requires-clause-own
+find_texts-requires-clause-own g c = c.requires.own
+
+pub find_texts-requires-clause-kept : goal.find_texts-requires-clause-kept
+find_texts-requires-clause-kept g c = c.requires.layouts
+
+pub add_all-requires-clause-own : goal.add_all-requires-clause-own
+add_all-requires-clause-own g c = c.requires.own
+
+pub add_all-requires-clause-known : goal.add_all-requires-clause-known
+add_all-requires-clause-known g c = c.requires.known
+
+pub returns-in_err-at-clause-walk : goal.returns-in_err-at-clause-walk
+returns-in_err-at-clause-walk g c = at_err _ c.from_residual.result c.from_residual.ensures.0
+
+pub returns-in_err-at-clause-counts : goal.returns-in_err-at-clause-counts
+returns-in_err-at-clause-counts g c = at_err _ c.from_residual.result c.from_residual.ensures.0
+
+pub returns-in_err-at-clause-layouts : goal.returns-in_err-at-clause-layouts
+returns-in_err-at-clause-layouts g c = at_err _ c.from_residual.result c.from_residual.ensures.0
+
+pub returns-in_err-at-clause-kept : goal.returns-in_err-at-clause-kept
+returns-in_err-at-clause-kept g c = at_err _ c.from_residual.result c.from_residual.ensures.0
+
+pub returns-in_err-at-clause-steps : goal.returns-in_err-at-clause-steps
+returns-in_err-at-clause-steps g c = IfOk-from_err c.from_residual.result _ c.from_residual.ensures.0
+
+pub returns-in_err-ask_all-clause-steps : goal.returns-in_err-ask_all-clause-steps
+returns-in_err-ask_all-clause-steps g c = IfOk-from_err c.from_residual-in_err-ask_all.result _
+    c.from_residual-in_err-ask_all.ensures.0
+
+pub returns-in_err-ask_all-clause-walk : goal.returns-in_err-ask_all-clause-walk
+returns-in_err-ask_all-clause-walk g c = at_err _ c.from_residual-in_err-ask_all.result
+    c.from_residual-in_err-ask_all.ensures.0
+
+pub returns-in_err-ask_all-clause-counts : goal.returns-in_err-ask_all-clause-counts
+returns-in_err-ask_all-clause-counts g c = at_err _ c.from_residual-in_err-ask_all.result
+    c.from_residual-in_err-ask_all.ensures.0
+
+pub returns-in_err-ask_all-clause-layouts : goal.returns-in_err-ask_all-clause-layouts
+returns-in_err-ask_all-clause-layouts g c = at_err _ c.from_residual-in_err-ask_all.result
+    c.from_residual-in_err-ask_all.ensures.0
+
+pub returns-in_err-ask_all-clause-kept : goal.returns-in_err-ask_all-clause-kept
+returns-in_err-ask_all-clause-kept g c = at_err _ c.from_residual-in_err-ask_all.result
+    c.from_residual-in_err-ask_all.ensures.0
+
+pub returns-in_err-add_all-clause-steps : goal.returns-in_err-add_all-clause-steps
+returns-in_err-add_all-clause-steps g c = IfOk-from_err c.from_residual-in_err-add_all.result _
+    c.from_residual-in_err-add_all.ensures.0
+
+pub returns-in_err-add_all-clause-walk : goal.returns-in_err-add_all-clause-walk
+returns-in_err-add_all-clause-walk g c = at_err _ c.from_residual-in_err-add_all.result
+    c.from_residual-in_err-add_all.ensures.0
+
+pub returns-in_err-add_all-clause-counts : goal.returns-in_err-add_all-clause-counts
+returns-in_err-add_all-clause-counts g c = at_err _ c.from_residual-in_err-add_all.result
+    c.from_residual-in_err-add_all.ensures.0
+
+pub returns-in_err-add_all-clause-layouts : goal.returns-in_err-add_all-clause-layouts
+returns-in_err-add_all-clause-layouts g c = at_err _ c.from_residual-in_err-add_all.result
+    c.from_residual-in_err-add_all.ensures.0
+
+pub returns-in_err-add_all-clause-kept : goal.returns-in_err-add_all-clause-kept
+returns-in_err-add_all-clause-kept g c = at_err _ c.from_residual-in_err-add_all.result
+    c.from_residual-in_err-add_all.ensures.0
+
+pub returns-clause-walk : goal.returns-clause-walk
+returns-clause-walk g c = c.in_ok-ask_all.ensures.walk
+
+pub returns-clause-counts : goal.returns-clause-counts
+returns-clause-counts g c = c.in_ok-ask_all.ensures.counts
+
+pub returns-clause-layouts : goal.returns-clause-layouts
+returns-clause-layouts g c = c.in_ok-at.ensures.kept
+
+pub ask_all-requires-clause-place : goal.ask_all-requires-clause-place
+ask_all-requires-clause-place g c = c.requires.own.place
+
+pub ask_all-requires-clause-small : goal.ask_all-requires-clause-small
+ask_all-requires-clause-small g c = subst (AllByRecursion (λ (it : Laid). IsRoom it.room))
+    (sym c.texts-laid.ensures) c.in_ok-at.ensures.laid.small

@@ -5,6 +5,7 @@ use Rattle.pg_list.specs.declared.galley.Place.{Place}
 use Rattle.pg_sources.specs.Document.{doc_of}
 use Rattle.pg_rooms.specs.Calls.{IsLike}
 use Rattle.pg_rooms.proofs.Grouped.{all_next, no_end}
+use Rattle.std.proofs.lemmas.Result.{IfOk-from_err}
 use Rattle.pg_rooms.proofs.grouping.count_same.Goals as goal
 
 pub loop-end-init : goal.loop-end-init
@@ -36,3 +37,15 @@ returns-then-not-is_same-clause-same c = λ all. subst (λ (n : ℕ). AllByRecur
 
 pub returns-then-not-is_same-clause-calls : goal.returns-then-not-is_same-clause-calls
 returns-then-not-is_same-clause-calls c = λ all. c.in_ok-its.ensures.calls (c.loop-end.invariant.calls all)
+
+pub like_beside-requires : goal.like_beside-requires
+like_beside-requires c = c.requires
+
+pub returns-in_err-its-clause-same : goal.returns-in_err-its-clause-same
+returns-in_err-its-clause-same c = IfOk-from_err c.from_residual.result _ c.from_residual.ensures.0
+
+pub returns-in_err-its-clause-calls : goal.returns-in_err-its-clause-calls
+returns-in_err-its-clause-calls c = IfOk-from_err c.from_residual.result _ c.from_residual.ensures.0
+
+pub returns-in_err-its-clause-few : goal.returns-in_err-its-clause-few
+returns-in_err-its-clause-few c = IfOk-from_err c.from_residual.result _ c.from_residual.ensures.0

@@ -1,6 +1,6 @@
 use Rattle.std.proofs.Common.{refl, sym, subst, ◌∙◌, ◌+◌, ◌++◌, rules, arith, List, get_or}
 use Rattle.std.proofs.lemmas.List.{take_rest}
-use Rattle.std.proofs.lemmas.Result.{IfOk-weaker}
+use Rattle.std.proofs.lemmas.Result.{IfOk-weaker, IfOk-from_err}
 use Rattle.pg_sources.specs.Document.{doc_of}
 use Rattle.pg_rooms.specs.PlaceEnds.{AreGroups}
 use Rattle.pg_rooms.specs.declared.grouping.Group.{Group}
@@ -54,3 +54,36 @@ returns-clause-calls c = λ all. c.groups.invariant.calls all
 
 pub count_same-requires : goal.count_same-requires
 count_same-requires c = c.in_ok-before.ensures
+
+pub group_all-requires-clause-none : goal.group_all-requires-clause-none
+group_all-requires-clause-none c = c.requires
+
+pub returns-in_err-like-clause-groups : goal.returns-in_err-like-clause-groups
+returns-in_err-like-clause-groups c = IfOk-from_err c.from_residual.result _ c.from_residual.ensures.0
+
+pub returns-in_err-like-clause-calls : goal.returns-in_err-like-clause-calls
+returns-in_err-like-clause-calls c = IfOk-from_err c.from_residual.result _ c.from_residual.ensures.0
+
+pub returns-in_err-before-clause-groups : goal.returns-in_err-before-clause-groups
+returns-in_err-before-clause-groups c =
+    IfOk-from_err c.from_residual-in_err-before.result _ c.from_residual-in_err-before.ensures.0
+
+pub returns-in_err-before-clause-calls : goal.returns-in_err-before-clause-calls
+returns-in_err-before-clause-calls c =
+    IfOk-from_err c.from_residual-in_err-before.result _ c.from_residual-in_err-before.ensures.0
+
+pub returns-in_err-more-clause-groups : goal.returns-in_err-more-clause-groups
+returns-in_err-more-clause-groups c =
+    IfOk-from_err c.from_residual-in_err-more.result _ c.from_residual-in_err-more.ensures.0
+
+pub returns-in_err-more-clause-calls : goal.returns-in_err-more-clause-calls
+returns-in_err-more-clause-calls c =
+    IfOk-from_err c.from_residual-in_err-more.result _ c.from_residual-in_err-more.ensures.0
+
+pub returns-in_err-push-clause-groups : goal.returns-in_err-push-clause-groups
+returns-in_err-push-clause-groups c =
+    IfOk-from_err c.from_residual-in_err-push.result _ c.from_residual-in_err-push.ensures.0
+
+pub returns-in_err-push-clause-calls : goal.returns-in_err-push-clause-calls
+returns-in_err-push-clause-calls c =
+    IfOk-from_err c.from_residual-in_err-push.result _ c.from_residual-in_err-push.ensures.0

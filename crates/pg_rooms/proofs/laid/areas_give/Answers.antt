@@ -37,3 +37,9 @@ returns-clause-value c = λ u wide by.
     ∙ ap (λ (rule : AreaRuleValue). give_of gap_stretch doc rule c.args.below.now layout.bottom) bottom)
     (c.area_give-bottom.ensures.shrink
     ∙ ap (λ (rule : AreaRuleValue). give_of gap_shrink doc rule c.args.below.now layout.bottom) bottom)
+
+pub area_give-top-requires-clause-there : goal.area_give-top-requires-clause-there
+area_give-top-requires-clause-there c = c.requires.top
+
+pub area_give-bottom-requires-clause-there : goal.area_give-bottom-requires-clause-there
+area_give-bottom-requires-clause-there c = c.requires.bottom

@@ -11,3 +11,6 @@ returns c =
     c.count_floats.ensures ∙ (ap (λ (n : ℕ). count_in n c.as_slice.result.now) c.slots.ensures.value
     ∙ ap (λ (counts : List ℕ). count_in (length (float_numbers c.args.sources.now.style.now)) counts) c.as_slice.ensures) in
     ap (λ (n : ℕ). nat_lt 0 n) (e ∙ float_total c.args.sources.now.style.now c.args.counts.now c.requires)
+
+pub count_floats-requires : goal.count_floats-requires
+count_floats-requires c = c.slots.ensures.few

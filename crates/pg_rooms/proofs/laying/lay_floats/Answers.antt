@@ -10,6 +10,7 @@ use Rattle.pg_rooms.specs.Laid.{laid_of}
 use Rattle.pg_rooms.specs.Runs.{first_run}
 use Rattle.pg_rooms.proofs.Dealt.{placed_short, float_laid}
 use Rattle.pg_rooms.proofs.Running.{laid_first, on_floats}
+use Rattle.std.proofs.lemmas.Result.{IfOk-from_err}
 use Rattle.pg_rooms.proofs.laying.lay_floats.Goals as goal
 
 pub lay_all-requires-clause-laid : goal.lay_all-requires-clause-laid
@@ -34,3 +35,40 @@ returns-clause-laid c =
     ∙ ap (λ (it : State). float_layouts doc it c.args.ceiling.now) c.in_ok-first.ensures) in
     on_floats (λ all. all.items) c.on_runs.result doc u c.args.ceiling.now c.in_ok-laid.laid.items
     (c.in_ok-laid.ensures.laid ∙ ap (map (laid_of doc u)) is) c.on_runs.ensures.value
+
+pub float_layouts-requires-clause-slots : goal.float_layouts-requires-clause-slots
+float_layouts-requires-clause-slots c = c.slots.ensures.value
+
+pub float_layouts-requires-clause-few : goal.float_layouts-requires-clause-few
+float_layouts-requires-clause-few c = c.slots.ensures.few
+
+pub lay_all-requires-clause-own : goal.lay_all-requires-clause-own
+lay_all-requires-clause-own c = c.requires.own
+
+pub on_runs-requires : goal.on_runs-requires
+on_runs-requires c = c.in_ok-laid.ensures.low
+
+pub returns-clause-small : goal.returns-clause-small
+returns-clause-small c = c.on_runs.ensures.small
+
+pub returns-in_err-first-clause-laid : goal.returns-in_err-first-clause-laid
+returns-in_err-first-clause-laid c = IfOk-from_err c.from_residual.result _ c.from_residual.ensures.0
+
+pub returns-in_err-first-clause-small : goal.returns-in_err-first-clause-small
+returns-in_err-first-clause-small c = IfOk-from_err c.from_residual.result _ c.from_residual.ensures.0
+
+pub returns-in_err-layouts-clause-laid : goal.returns-in_err-layouts-clause-laid
+returns-in_err-layouts-clause-laid c =
+    IfOk-from_err c.from_residual-in_err-layouts.result _ c.from_residual-in_err-layouts.ensures.0
+
+pub returns-in_err-layouts-clause-small : goal.returns-in_err-layouts-clause-small
+returns-in_err-layouts-clause-small c =
+    IfOk-from_err c.from_residual-in_err-layouts.result _ c.from_residual-in_err-layouts.ensures.0
+
+pub returns-in_err-laid-clause-laid : goal.returns-in_err-laid-clause-laid
+returns-in_err-laid-clause-laid c =
+    IfOk-from_err c.from_residual-in_err-laid.result _ c.from_residual-in_err-laid.ensures.0
+
+pub returns-in_err-laid-clause-small : goal.returns-in_err-laid-clause-small
+returns-in_err-laid-clause-small c =
+    IfOk-from_err c.from_residual-in_err-laid.result _ c.from_residual-in_err-laid.ensures.0

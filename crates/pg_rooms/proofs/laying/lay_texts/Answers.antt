@@ -11,6 +11,7 @@ use Rattle.pg_rooms.specs.Runs.{first_run}
 use Rattle.pg_rooms.proofs.Dealt.{placed_short, text_laid}
 use Rattle.pg_rooms.proofs.Tallest.{on_text_low}
 use Rattle.pg_rooms.proofs.Running.{laid_first, on_texts}
+use Rattle.std.proofs.lemmas.Result.{IfOk-from_err}
 use Rattle.pg_rooms.proofs.laying.lay_texts.Goals as goal
 
 pub lay_all-requires-clause-laid : goal.lay_all-requires-clause-laid
@@ -45,3 +46,51 @@ returns-clause-low c =
     c.args.ceiling.now c.requires.ceiling (short_of c.args.ceiling.now c.type_inv.ceiling) c.args.state.now layout
     (placed_short doc c.args.state.now c.args.sources.now.floats.now c.args.sources.now.list c.requires.own) a)
     (returns-clause-laid c)
+
+pub text_layouts-requires-clause-slots : goal.text_layouts-requires-clause-slots
+text_layouts-requires-clause-slots c = c.slots.ensures.value
+
+pub text_layouts-requires-clause-few : goal.text_layouts-requires-clause-few
+text_layouts-requires-clause-few c = c.slots.ensures.few
+
+pub lay_all-requires-clause-own : goal.lay_all-requires-clause-own
+lay_all-requires-clause-own c = c.requires.own
+
+pub on_runs-requires : goal.on_runs-requires
+on_runs-requires c = c.in_ok-laid.ensures.low
+
+pub returns-clause-small : goal.returns-clause-small
+returns-clause-small c = c.on_runs.ensures.small
+
+pub returns-in_err-first-clause-laid : goal.returns-in_err-first-clause-laid
+returns-in_err-first-clause-laid c = IfOk-from_err c.from_residual.result _ c.from_residual.ensures.0
+
+pub returns-in_err-first-clause-small : goal.returns-in_err-first-clause-small
+returns-in_err-first-clause-small c = IfOk-from_err c.from_residual.result _ c.from_residual.ensures.0
+
+pub returns-in_err-first-clause-low : goal.returns-in_err-first-clause-low
+returns-in_err-first-clause-low c = IfOk-from_err c.from_residual.result _ c.from_residual.ensures.0
+
+pub returns-in_err-layouts-clause-laid : goal.returns-in_err-layouts-clause-laid
+returns-in_err-layouts-clause-laid c =
+    IfOk-from_err c.from_residual-in_err-layouts.result _ c.from_residual-in_err-layouts.ensures.0
+
+pub returns-in_err-layouts-clause-small : goal.returns-in_err-layouts-clause-small
+returns-in_err-layouts-clause-small c =
+    IfOk-from_err c.from_residual-in_err-layouts.result _ c.from_residual-in_err-layouts.ensures.0
+
+pub returns-in_err-layouts-clause-low : goal.returns-in_err-layouts-clause-low
+returns-in_err-layouts-clause-low c =
+    IfOk-from_err c.from_residual-in_err-layouts.result _ c.from_residual-in_err-layouts.ensures.0
+
+pub returns-in_err-laid-clause-laid : goal.returns-in_err-laid-clause-laid
+returns-in_err-laid-clause-laid c =
+    IfOk-from_err c.from_residual-in_err-laid.result _ c.from_residual-in_err-laid.ensures.0
+
+pub returns-in_err-laid-clause-small : goal.returns-in_err-laid-clause-small
+returns-in_err-laid-clause-small c =
+    IfOk-from_err c.from_residual-in_err-laid.result _ c.from_residual-in_err-laid.ensures.0
+
+pub returns-in_err-laid-clause-low : goal.returns-in_err-laid-clause-low
+returns-in_err-laid-clause-low c =
+    IfOk-from_err c.from_residual-in_err-laid.result _ c.from_residual-in_err-laid.ensures.0

@@ -5,6 +5,7 @@ use Rattle.pg_rooms.specs.KeptLaid.{AreStays, AreStaysOf, DoesServe}
 use Rattle.pg_rooms.specs.Laid.{HasSoMany}
 use Rattle.pg_rooms.specs.declared.kept_laid.KeptLaid.{KeptLaid}
 use Rattle.pg_rooms.proofs.Serving.{found, on_kept, on_there, stays_laid, stays_serve}
+use Rattle.std.proofs.lemmas.Result.{IfOk-from_err}
 use Rattle.pg_rooms.proofs.kept_laid.Layouts.find_stays.Goals as goal
 
 pub returns-in-Some-clause-laid : goal.returns-in-Some-clause-laid
@@ -39,3 +40,21 @@ returns-clause-kept c = on_kept (AreStays (doc_of c.args.sources.now)) _ c.keep.
     (ap (λ (it : KeptLaid). it.laid.items) c.in_ok-it.ensures) c.in_ok-laid.ensures.small
     c.in_ok-laid.ensures.laid).1 c.requires.kept.stays
     (λ all. record { texts = c.requires.kept.texts; stays = all }) c.keep.ensures.kept
+
+pub returns-in-Some-clause-kept : goal.returns-in-Some-clause-kept
+returns-in-Some-clause-kept c = c.requires.kept
+
+pub lay_floats-requires-clause-own : goal.lay_floats-requires-clause-own
+lay_floats-requires-clause-own c = c.requires.own
+
+pub returns-in_err-laid-clause-laid : goal.returns-in_err-laid-clause-laid
+returns-in_err-laid-clause-laid c = IfOk-from_err c.from_residual.result _ c.from_residual.ensures.0
+
+pub returns-in_err-laid-clause-kept : goal.returns-in_err-laid-clause-kept
+returns-in_err-laid-clause-kept c = IfOk-from_err c.from_residual.result _ c.from_residual.ensures.0
+
+pub returns-in_err-it-clause-laid : goal.returns-in_err-it-clause-laid
+returns-in_err-it-clause-laid c = IfOk-from_err c.from_residual-in_err-it.result _ c.from_residual-in_err-it.ensures.0
+
+pub returns-in_err-it-clause-kept : goal.returns-in_err-it-clause-kept
+returns-in_err-it-clause-kept c = IfOk-from_err c.from_residual-in_err-it.result _ c.from_residual-in_err-it.ensures.0

@@ -5,6 +5,7 @@ use Rattle.pg_rooms.specs.KeptLaid.{AreTexts, AreTextsOf, DoesServe}
 use Rattle.pg_rooms.specs.Laid.{HasSoMany}
 use Rattle.pg_rooms.specs.declared.kept_laid.KeptLaid.{KeptLaid}
 use Rattle.pg_rooms.proofs.Serving.{found, on_kept, on_there, texts_laid, texts_serve}
+use Rattle.std.proofs.lemmas.Result.{IfOk-from_err}
 use Rattle.pg_rooms.proofs.kept_laid.Layouts.find_texts.Goals as goal
 
 pub returns-in-Some-clause-laid : goal.returns-in-Some-clause-laid
@@ -39,3 +40,21 @@ returns-clause-kept c = on_kept (AreTexts (doc_of c.args.sources.now)) _ c.keep.
     (ap (λ (it : KeptLaid). it.laid.items) c.in_ok-it.ensures) c.in_ok-laid.ensures.small
     c.in_ok-laid.ensures.laid c.in_ok-laid.ensures.low).1 c.requires.kept.texts
     (λ all. record { texts = all; stays = c.requires.kept.stays }) c.keep.ensures.kept
+
+pub returns-in-Some-clause-kept : goal.returns-in-Some-clause-kept
+returns-in-Some-clause-kept c = c.requires.kept
+
+pub lay_texts-requires-clause-own : goal.lay_texts-requires-clause-own
+lay_texts-requires-clause-own c = c.requires.own
+
+pub returns-in_err-laid-clause-laid : goal.returns-in_err-laid-clause-laid
+returns-in_err-laid-clause-laid c = IfOk-from_err c.from_residual.result _ c.from_residual.ensures.0
+
+pub returns-in_err-laid-clause-kept : goal.returns-in_err-laid-clause-kept
+returns-in_err-laid-clause-kept c = IfOk-from_err c.from_residual.result _ c.from_residual.ensures.0
+
+pub returns-in_err-it-clause-laid : goal.returns-in_err-it-clause-laid
+returns-in_err-it-clause-laid c = IfOk-from_err c.from_residual-in_err-it.result _ c.from_residual-in_err-it.ensures.0
+
+pub returns-in_err-it-clause-kept : goal.returns-in_err-it-clause-kept
+returns-in_err-it-clause-kept c = IfOk-from_err c.from_residual-in_err-it.result _ c.from_residual-in_err-it.ensures.0

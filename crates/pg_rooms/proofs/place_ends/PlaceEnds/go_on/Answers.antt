@@ -1,7 +1,8 @@
-use Rattle.std.proofs.Common.{Bool, subst, sym}
+use Rattle.std.proofs.Common.{Bool, subst, sym, refl}
 use Rattle.pg_sources.specs.Document.{doc_of}
 use Rattle.pg_rooms.specs.PlaceEnds.{AreFirst}
 use Rattle.pg_rooms.proofs.Kept.{on_three, told_first, told_rooms}
+use Rattle.std.proofs.lemmas.Result.{on_ok_weaker}
 use Rattle.pg_rooms.proofs.place_ends.PlaceEnds.go_on.Goals as goal
 
 pub returns-clause-right : goal.returns-clause-right
@@ -19,3 +20,9 @@ returns-clause-right c = on_three c.begin_rooms.result (λ none right calls from
       behind = behind;
       calls = calls called;
     }) c.begin_rooms.ensures.none c.begin_rooms.ensures.right c.begin_rooms.ensures.calls
+
+pub returns-clause-reach : goal.returns-clause-reach
+returns-clause-reach c = on_ok_weaker c.begin_rooms.result (λ h. refl) c.begin_rooms.ensures.calls
+
+pub returns-clause-counts : goal.returns-clause-counts
+returns-clause-counts c = on_ok_weaker c.begin_rooms.result (λ h. refl) c.begin_rooms.ensures.calls
