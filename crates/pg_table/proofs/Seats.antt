@@ -1,8 +1,9 @@
 -- The place of a label's key, found by a hint.
-use Rattle.std.proofs.Common.{◌≡◌, ℕ, ◌<◌, inl, Bool, true, List, length, refl, sym, ◌∙◌, subst, arith, Some}
-use Rattle.std.specs.Prelude.{slice_get}
+use Rattle.std.proofs.Common.{◌≡◌, ℕ, ◌<◌, inl, inr, ◌∷◌, zero, suc, Bool, true, false, List, length, refl, sym, ◌∙◌, subst, arith, Some}
+use Rattle.std.specs.Prelude.{slice_get, ◌==◌}
 use Rattle.std.specs.Cmp.{IsEquivalence}
 use Rattle.std.specs.BinaryHeap.{IsHeap}
+use Rattle.std.specs.List.Sorted.{IsPermutation}
 use Rattle.std.specs.declared.cmp.Reverse.{Reverse}
 use Rattle.std.proofs.lemmas.Option.{slice_get_within, same_Some}
 use Rattle.pg_lemmas.proofs.Lists.{some_at}
@@ -41,6 +42,41 @@ met_seated {S} {M} {K} eq laws sp law es ks bs ts s u own i m = record {
     same = laws.congr (sp.key u) (sp.key m.label.state) key.0
         (law.one_key u m.label.state own held m.no_worse) ∙ (laws.symm (sp.key m.label.state) key.0 ∙
         s.keyed i m.bucket m.label key.0 m.is m.among key.1)
+
+-- a bucket that is empty gets a turn
+pub turn_added : {S M K : Type 0} (sp : Meaning S M K) (u : S) (i : ℕ) (bs : List (Labels S M))
+    (old new : List (Reverse Turn)) (b : Labels S M) (turn : Turn) → slice_get bs i ≡ Some b → length b.items ≡ 0
+    → turn.block ≡ sp.block u → turn.rank ≡ sp.rank u → turn.place ≡ i
+    → IsPermutation (record { 0 = turn } ∷ old) new → HasTurn sp u i bs old new
+turn_added sp u i bs old new b turn at none block rank place sorted = record {
+  either = inr (
+    subst (λ (t : Turn). IsPermutation (record { 0 = t } ∷ old) new) (own turn block rank place) sorted,
+    λ x there. subst (λ z. length z.items ≡ 0) (same_Some b x (sym at ∙ there)) none,
+  );
+}
+  where
+    make : (b r p b' r' p' : ℕ) → b ≡ b' → r ≡ r' → p ≡ p'
+        → ◌≡◌ {A = Turn} (record { block = b; rank = r; place = p }) (record { block = b'; rank = r'; place = p' })
+    make b r p b' r' p' e f g = cc
+
+    own : (t : Turn) → t.block ≡ sp.block u → t.rank ≡ sp.rank u → t.place ≡ i
+        → t ≡ record { block = sp.block u; rank = sp.rank u; place = i }
+    own t p q r = make t.block t.rank t.place (sp.block u) (sp.rank u) i p q r
+
+-- one that is not has one
+pub turn_kept : {S M K : Type 0} (sp : Meaning S M K) (u : S) (i : ℕ) (bs : List (Labels S M))
+    (old : List (Reverse Turn)) (b : Labels S M) → slice_get bs i ≡ Some b → (length b.items == 0) ≡ false
+    → HasTurn sp u i bs old old
+turn_kept sp u i bs old b at some = record {
+  either = inl (
+    refl,
+    λ x there. subst (λ z. 0 < length z.items) (same_Some b x (sym at ∙ there)) (not_zero (length b.items) some),
+  );
+}
+  where
+    not_zero : (n : ℕ) → (n == 0) ≡ false → 0 < n
+    not_zero zero e = absurd cc
+    not_zero (suc n) e = omega arith
 
 -- the key was looked up, and its bucket has a turn
 pub put_seated : {S M K : Type 0} (eq : K → K → Bool) (sp : Meaning S M K) (u : S) (ks ks₁ ks₂ : List K)
