@@ -48,6 +48,12 @@ Gives (Ok x) said = said ≡ Ok x
 Gives (Err (BadText line)) said = said ≡ Err line
 Gives (Err Memory) said = ⊤
 
+-- the lines that were read, unless memory ran out
+abbrev pub Reads : Result (Unit {0}) OutputFault → Result Draft ℕ → Draft → Type 0
+Reads (Ok done) said draft = said ≡ Ok draft
+Reads (Err (BadText line)) said draft = said ≡ Err line
+Reads (Err Memory) said draft = ⊤
+
 -- the lines of what is left; none where nothing is left
 abbrev pub lines_left : Option (List ℕ) → List (List ℕ)
 lines_left None = []

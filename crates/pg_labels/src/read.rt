@@ -1,8 +1,7 @@
 //! Output texts, read line by line.
 ghost use Rattle.std.specs.Prelude.{◌≡◌, ◌<◌, ◌^◌, ◌∷◌, [], IfOk, length};
 ghost use Rattle.pg_scan.specs.Parts.{parts_of};
-ghost use Rattle.pg_labels.specs.Drafts.{started};
-ghost use Rattle.pg_labels.specs.Reading.{Gives, run, shown_of, output_from as output_said, output_of, IsFew};
+ghost use Rattle.pg_labels.specs.Reading.{Gives, Reads, run, shown_of, output_from as output_said, output_of, IsFew};
 
 use crate::draft::Draft;
 use crate::output::{Output, OutputFault, Shown};
@@ -12,22 +11,21 @@ use std::alloc::{AllocError, Global};
 
 // The end of a text, whose last line feed this stands behind, as a line of this number.
 #[tactic(auto, unfolding(crate::specs::Reading::run))]
-fn end_text(draft: Draft, number: u32, last: &[u8]) -> Result<Draft, OutputFault>
-    ensures { Gives result (run draft number (last.now ∷ [])) }
+fn end_text(draft: &Draft, number: u32, last: &[u8]) -> Result<(), OutputFault>
+    ensures { Reads result (run draft.now number (last.now ∷ [])) draft.now }
 {
     if last.is_empty() && draft.is_whole() {
-        Ok(draft)
+        Ok(())
     } else {
         Err(OutputFault::BadText { line: number })
     }
 }
 
-// All lines of a text.
-fn read_lines(alloc: Global, text: &[u8]) -> Result<Draft, OutputFault>
+// All lines of a text, behind what was read so far.
+fn read_lines(alloc: Global, text: &[u8], draft: &mut Draft) -> Result<(), OutputFault>
     requires { length text.now < 2 ^ 31 }
-    ensures { Gives result (run started 1 (parts_of 10 text.now)) }
+    ensures { Reads result (run draft.old 1 (parts_of 10 text.now)) draft.new }
 {
-    let mut draft = Draft::new(alloc);
     let mut rest = Some(text);
     let mut number = 1u32;
     while let Some(left) = rest {
@@ -78,7 +76,8 @@ pub fn read_output(alloc: Global, text: &[u8]) -> Result<Output, OutputFault>
     ensures said { Gives result (output_of text.now) }
     ensures few { IfOk result IsFew }
 {
-    let draft = read_lines(alloc, text)?;
+    let mut draft = Draft::new(alloc);
+    read_lines(alloc, text, &mut draft)?;
     match output_from(draft) {
         Ok(output) => Ok(output),
         Err(_) => Err(OutputFault::Memory),

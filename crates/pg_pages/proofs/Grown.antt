@@ -1,21 +1,8 @@
 -- Texts that grow.
-use Rattle.std.proofs.Common.{◌≡◌, ◌∙◌, sym, ap, ℕ, arith, List, [], ◌++◌, append_assoc, append-nil, length-append, subst}
-use Rattle.std.specs.Prelude.{OnOk, Result, Ok, Err}
-use Rattle.std.proofs.Math.Seq.{take-append_seam}
+use Rattle.std.proofs.Common.{◌≡◌, ◌∙◌, sym, ap, ℕ, List, [], ◌++◌, append_assoc, append-nil}
+use Rattle.std.specs.Prelude.{OnOk, Result}
 use Rattle.pg_scaled.specs.Scaled.{Grows}
-pub use Rattle.pg_words.proofs.Grown.{grows_on}
-
-pub on_ok : {T E : Type 0} (r : Result T E) (P Q : Type 0) → (P → Q) → OnOk r P → OnOk r Q
-on_ok (Ok x) P Q f p = f p
-on_ok (Err e) P Q f p = tt
-
-pub two_parts : (old mid new front end : List ℕ) → mid ≡ old ++ front → new ≡ mid ++ end →
-    new ≡ old ++ (front ++ end)
-two_parts old mid new front end e f = f ∙ ap (λ (text : List ℕ). text ++ end) e ∙ append_assoc old front end
-
-pub grown : (old more new : List ℕ) → new ≡ old ++ more → Grows old new
-grown old more new e = subst (λ (text : List ℕ). Grows old text) (sym e)
-    ((let long = length-append old more in omega (arith, long)), take-append_seam old more)
+pub use Rattle.pg_scaled.proofs.Grown.{grown, grows_on, on_ok, on_same, two_parts}
 
 -- nothing was printed
 pub grows_same : (text : List ℕ) → Grows text text
@@ -27,11 +14,6 @@ grows_three a b c d one two three = grows_on a c d (grows_on a b c one two) thre
 
 pub grows_four : (a b c d e : List ℕ) → Grows a b → Grows b c → Grows c d → Grows d e → Grows a e
 grows_four a b c d e one two three four = grows_on a d e (grows_three a b c d one two three) four
-
-pub on_same : {T E : Type 0} (r : Result T E) (old new text whole : List ℕ) → text ≡ whole →
-    OnOk r (new ≡ old ++ text) → OnOk r (new ≡ old ++ whole)
-on_same (Ok x) old new text whole e p = p ∙ ap (λ (more : List ℕ). old ++ more) e
-on_same (Err x) old new text whole e p = tt
 
 -- two parts one behind the other, where the second may be refused
 pub on_two : {T E : Type 0} (r : Result T E) (old mid new front end : List ℕ) → mid ≡ old ++ front →

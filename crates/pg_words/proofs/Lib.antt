@@ -1,3 +1,2 @@
-pub mod Grown
 mod Sizes
 mod WorkedWords

@@ -1,5 +1,5 @@
 use Rattle.std.proofs.Common.{ap, ◌+◌}
-use Rattle.pg_words.proofs.Grown.{grows_on}
+use Rattle.pg_scaled.proofs.Grown.{grows_on}
 use Rattle.pg_fold.proofs.Printed.{text_more}
 use Rattle.pg_fold.proofs.print.print_all_sheets.Goals as goal
 

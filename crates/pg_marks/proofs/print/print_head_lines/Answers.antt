@@ -1,5 +1,5 @@
 use Rattle.std.proofs.Common.{ap, ◌+◌}
-use Rattle.pg_words.proofs.Grown.{grows_on}
+use Rattle.pg_scaled.proofs.Grown.{grows_on}
 use Rattle.pg_marks.proofs.Printed.{text_more}
 use Rattle.pg_marks.proofs.print.print_head_lines.Goals as goal
 
