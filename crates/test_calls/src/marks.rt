@@ -1,28 +1,46 @@
 //! Heads and references as text: that memory suffices.
 use pg_list::Bytes;
 use pg_marks::{Head, HeadList, Reference, ReferenceList, print_heads};
+use std::alloc::{AllocError, Global};
 use std::test::Fail;
 
-#[test]
-fn heads_and_references(rt: HostRuntime) -> Result<(), Fail> {
-    let alloc = rt.alloc();
+// The heads of one page, without one at its top.
+fn heads(alloc: Global) -> Result<HeadList, AllocError> {
     let mut heads = HeadList::new(alloc);
     heads.push(Head {
         top: Bytes::from_slice(alloc, b"")?,
         first: Bytes::from_slice(alloc, b"A")?,
         bottom: Bytes::from_slice(alloc, b"B")?,
     })?;
+    Ok(heads)
+}
+
+fn reference(
+    alloc: Global,
+    name: &[u8],
+    on: u32,
+    page: Option<u32>,
+) -> Result<Reference, AllocError> {
+    Ok(Reference {
+        name: Bytes::from_slice(alloc, name)?,
+        on,
+        page,
+    })
+}
+
+// A reference to what stands on a page, and one to what stands on none.
+fn references(alloc: Global) -> Result<ReferenceList, AllocError> {
     let mut references = ReferenceList::new(alloc);
-    references.push(Reference {
-        name: Bytes::from_slice(alloc, b"x")?,
-        on: 1,
-        page: Some(2),
-    })?;
-    references.push(Reference {
-        name: Bytes::from_slice(alloc, b"y")?,
-        on: 2,
-        page: None,
-    })?;
+    references.push(reference(alloc, b"x", 1, Some(2))?)?;
+    references.push(reference(alloc, b"y", 2, None)?)?;
+    Ok(references)
+}
+
+#[test]
+fn heads_and_references(rt: HostRuntime) -> Result<(), Fail> {
+    let alloc = rt.alloc();
+    let heads = heads(alloc)?;
+    let references = references(alloc)?;
     let mut text = Vec::new(alloc);
     print_heads(&heads, &references, &mut text)?;
     assert_eq!(rt;

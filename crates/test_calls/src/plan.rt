@@ -50,10 +50,12 @@ fn top_floats_come_first(rt: HostRuntime) -> Result<(), Fail> {
     let alloc = rt.alloc();
     let top = plan(alloc, 0, 1, 0)?;
     let bottom = plan(alloc, 0, 0, 1)?;
-    assert_eq!(rt; compare(&top, &bottom), Ordering::Less);
-    assert_eq!(rt; compare(&bottom, &top), Ordering::Greater);
-    let same = top.copy()?;
-    assert_eq!(rt; compare(&top, &same), Ordering::Equal);
+    let told = (
+        compare(&top, &bottom),
+        compare(&bottom, &top),
+        compare(&top, &top),
+    );
+    assert_eq!(rt; told, (Ordering::Less, Ordering::Greater, Ordering::Equal));
     Ok(())
 }
 
@@ -62,10 +64,10 @@ fn a_second_column_has_no_wide_floats(rt: HostRuntime) -> Result<(), Fail> {
     let alloc = rt.alloc();
     let wide = plan(alloc, 1, 0, 0)?;
     let tall = plan(alloc, 0, 1, 0)?;
-    assert_eq!(rt; compare(&wide, &tall), Ordering::Less);
     let empty = Pagination {
         pages: Pages::new(alloc),
     };
-    assert_eq!(rt; compare(&empty, &wide), Ordering::Less);
+    let told = (compare(&wide, &tall), compare(&empty, &wide));
+    assert_eq!(rt; told, (Ordering::Less, Ordering::Less));
     Ok(())
 }
